@@ -1,0 +1,10 @@
+// Reads a record from standard input and says whether it passes: `passed`, or `refused` with the question's number and place.
+use libc::STDIN_FILENO;
+
+fn main() {
+    // One byte more than the longest record, so that a longer input is refused and not cut.
+    let mut input = [0u8; 19457];
+    let length = io::read_full(STDIN_FILENO, &mut input);
+    let mut work = [0u64; 1024];
+    lines::reading(record::read(&input[..length], &mut work));
+}

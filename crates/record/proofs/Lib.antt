@@ -1,0 +1,23 @@
+-- Laws that functions' proofs, here and in the crates above, cite.
+pub mod LayoutLaws
+pub mod SumLaws
+pub mod SlotLaws
+pub mod Examples
+pub mod StoresLaws
+pub mod NumberBytes
+pub mod SealLaws
+pub mod SoundLayout
+pub mod SlotImage
+pub mod ImageLaws
+pub mod AskLaws
+pub mod PositionLaws
+pub mod SetLaws
+pub mod QuestionLaws
+pub mod EncodedPasses
+pub mod SlotWords
+pub mod WorkLaws
+pub mod WordsLaws
+pub mod QuestionsAnswered
+pub mod WordBytes
+pub mod SlotStored
+pub mod WrittenLaws

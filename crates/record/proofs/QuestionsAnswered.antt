@@ -1,0 +1,317 @@
+-- What each answer to questions 3 to 10 says of a record, and that no other record gets it: the first question that fails, at the lowest place.
+-- A ring that is named is one, and a record that passes has none. Assumes nothing.
+use mathlib.Core.Path.{_≡_, refl, sym, ap, _∙_, subst}
+use mathlib.Core.Bool.{true, false, not}
+use mathlib.Core.List.{List, _++_}
+use Prim.Native.Nat.{ℕ, _+_, _*_, _<_, _≤_}
+use native.Mathlib.Omega.{arith}
+use borrow.Author.Tests.{eq-eqb, ne-eqb, ltb-true}
+use lib.Dec.{ltb, leb}
+use lib.ListN.{length, length-append}
+use Rattle.rows.specs.Octets.{hasByte}
+use Rattle.rows.specs.Row.{rowAt}
+use Rattle.rows.specs.Relation.{Rel, reaches, Steps, Graph, Table}
+use Rattle.rows.proofs.Tests.{tell, never, and-left}
+use Rattle.rows.proofs.RowLaws.{row-of}
+use Rattle.rows.proofs.TableLaws.{row-within}
+use Rattle.rows.proofs.ReachLaws.{reaches-sound, reaches-complete, table-graph}
+use Rattle.record.specs.declared.Reading.{Reading}
+use Rattle.record.specs.declared.Reading.the-variants.{Passed, ShortWork, WrongLength, WrongCheck, WrongHeader, WrongBlocks, WrongSlot, WrongPosition, WrongSet, OnRing}
+use Rattle.record.specs.Layout.{Layout, gcr1, countIn, slotAt, workWords}
+use Rattle.record.specs.Blocks.{blockRight}
+use Rattle.record.specs.History.{History, historyOf, vis}
+use Rattle.record.specs.Slots.{slotRight}
+use Rattle.record.specs.Questions.{numberOf, placeOf, lengthRight, headerRight, blocksRight, slotsIn, wrongPosition, wrongSet, onRing, ask, askEach, andThen, byteQuestions, setQuestions, questions, reading, packed}
+use Rattle.record.specs.Words.{visibleWords}
+use Rattle.record.specs.Encode.{blocksFor}
+use Rattle.record.proofs.StoresLaws.{Bytes}
+use Rattle.record.proofs.WorkLaws.{length-visible}
+use Rattle.record.proofs.WordsLaws.{visible-vis}
+use Rattle.record.proofs.PositionLaws.{position-says, positions-distinct}
+use Rattle.record.proofs.SetLaws.{set-inside}
+use Rattle.record.proofs.AskLaws.{First, ask-yes, ask-no, ask-into, each-yes, each-first, ask-then, each-then}
+use Rattle.record.proofs.QuestionLaws.{blocksIn, length-says, header-says, blocks-say, fromPositions, fromSlots, fromBlocks, fromHeader, fromChecks, fromLength, ChecksRight, SlotsRight, BytesRight, BytesAnswer, bytes-asked, bytes-answered, SetsRight, RingsRight, SetsAnswer, sets-answered}
+
+-- ---- each answer
+
+-- every question's test holds
+pub record Right (L : Layout) (s : List ℕ) : Type 0 where
+  pub length : lengthRight L s ≡ true
+  pub checks : ChecksRight s
+  pub header : headerRight L s ≡ true
+  pub blocks : blocksRight L s ≡ true
+  pub slots : SlotsRight L s
+  pub positions : (e : ℕ) → e < countIn s → wrongPosition (historyOf L s) e ≡ false
+  pub sets : SetsRight L (countIn s) (vis (historyOf L s))
+  pub rings : RingsRight (countIn s) (vis (historyOf L s))
+
+-- what an answer says: those before the first that fails hold, and that one fails, at the lowest place where there are several
+abbrev pub Answer : Layout → List ℕ → Reading → Type 0
+Answer L s Passed = Right L s
+Answer L s ShortWork = ⊥
+Answer L s WrongLength = BytesAnswer L s WrongLength
+Answer L s (WrongCheck k) = BytesAnswer L s (WrongCheck k)
+Answer L s WrongHeader = BytesAnswer L s WrongHeader
+Answer L s WrongBlocks = BytesAnswer L s WrongBlocks
+Answer L s (WrongSlot e) = BytesAnswer L s (WrongSlot e)
+Answer L s (WrongPosition e) = BytesAnswer L s (WrongPosition e)
+Answer L s (WrongSet e) = BytesRight L s × First (countIn s) (wrongSet (L .row) (countIn s) (vis (historyOf L s))) e
+Answer L s (OnRing e) = BytesRight L s × SetsRight L (countIn s) (vis (historyOf L s)) × First (countIn s) (onRing (countIn s) (vis (historyOf L s))) e
+
+module _ (L : Layout) (s : List ℕ) where
+  abbrev sets : Reading
+  sets = setQuestions L (countIn s) (vis (historyOf L s))
+
+  pub answered : Answer L s (questions L s)
+  unfolding questions
+  answered = bytes (byteQuestions L s) (bytes-answered L s)
+    where
+      all : BytesRight L s → (r : Reading) → SetsAnswer L (countIn s) (vis (historyOf L s)) r → Answer L s r
+      all b Passed a = record {
+        length = b .length;
+        checks = b .checks;
+        header = b .header;
+        blocks = b .blocks;
+        slots = b .slots;
+        positions = b .positions;
+        sets = a .0;
+        rings = a .1;
+      }
+      all b ShortWork a = a
+      all b WrongLength a = absurd a
+      all b (WrongCheck k) a = absurd a
+      all b WrongHeader a = absurd a
+      all b WrongBlocks a = absurd a
+      all b (WrongSlot e) a = absurd a
+      all b (WrongPosition e) a = absurd a
+      all b (WrongSet e) a = (b, a)
+      all b (OnRing e) a = (b, a .0, a .1)
+
+      bytes : (r : Reading) → BytesAnswer L s r → Answer L s (andThen r sets)
+      bytes Passed a = all a sets (sets-answered L (countIn s) (vis (historyOf L s)))
+      bytes ShortWork a = a
+      bytes WrongLength a = a
+      bytes (WrongCheck k) a = a
+      bytes WrongHeader a = a
+      bytes WrongBlocks a = a
+      bytes (WrongSlot e) a = a
+      bytes (WrongPosition e) a = a
+      bytes (WrongSet e) a = absurd a
+      bytes (OnRing e) a = absurd a
+
+  -- ---- and no other record gets it: the questions one after the other
+
+  in-order : questions L s ≡ fromLength L s sets
+  unfolding questions
+  in-order =
+      ap (λ (r : Reading). andThen r sets) (bytes-asked L s)
+      ∙ ask-then (lengthRight L s) WrongLength (fromChecks L s Passed) sets refl
+      ∙ ap (ask (lengthRight L s) WrongLength)
+      (each-then (blocksIn s) (λ k. not (blockRight s k)) WrongCheck (fromHeader L s Passed) sets (λ k. refl)
+      ∙ ap (askEach (blocksIn s) (λ k. not (blockRight s k)) WrongCheck)
+      (ask-then (headerRight L s) WrongHeader (fromBlocks L s Passed) sets refl
+      ∙ ap (ask (headerRight L s) WrongHeader)
+      (ask-then (blocksRight L s) WrongBlocks (fromSlots L s Passed) sets refl
+      ∙ ap (ask (blocksRight L s) WrongBlocks)
+      (each-then (slotsIn L s) (λ e. not (slotRight L s e)) WrongSlot (fromPositions L s Passed) sets (λ e. refl)
+      ∙ ap (askEach (slotsIn L s) (λ e. not (slotRight L s e)) WrongSlot)
+      (each-then (countIn s) (wrongPosition (historyOf L s)) WrongPosition Passed sets (λ e. refl))))))
+
+  to-checks : lengthRight L s ≡ true → questions L s ≡ fromChecks L s sets
+  to-checks three = in-order ∙ ask-yes (lengthRight L s) WrongLength (fromChecks L s sets) three
+
+  to-header : lengthRight L s ≡ true → ChecksRight s → questions L s ≡ fromHeader L s sets
+  to-header three four =
+      to-checks three ∙ each-yes (blocksIn s) (λ k. not (blockRight s k)) WrongCheck (fromHeader L s sets) (λ k h. ap not (four k h))
+
+  to-blocks : lengthRight L s ≡ true → ChecksRight s → headerRight L s ≡ true → questions L s ≡ fromBlocks L s sets
+  to-blocks three four five = to-header three four ∙ ask-yes (headerRight L s) WrongHeader (fromBlocks L s sets) five
+
+  to-slots : lengthRight L s ≡ true → ChecksRight s → headerRight L s ≡ true → blocksRight L s ≡ true → questions L s ≡ fromSlots L s sets
+  to-slots three four five six = to-blocks three four five ∙ ask-yes (blocksRight L s) WrongBlocks (fromSlots L s sets) six
+
+  to-positions : lengthRight L s ≡ true → ChecksRight s → headerRight L s ≡ true → blocksRight L s ≡ true → SlotsRight L s → questions L s ≡ fromPositions L s sets
+  to-positions three four five six seven =
+      to-slots three four five six ∙ each-yes (slotsIn L s) (λ e. not (slotRight L s e)) WrongSlot (fromPositions L s sets) (λ e h. ap not (seven e h))
+
+  to-sets : BytesRight L s → questions L s ≡ sets
+  to-sets b =
+      to-positions (b .length) (b .checks) (b .header) (b .blocks) (b .slots)
+      ∙ each-yes (countIn s) (wrongPosition (historyOf L s)) WrongPosition sets (b .positions)
+
+  to-rings : BytesRight L s → SetsRight L (countIn s) (vis (historyOf L s))
+      → questions L s ≡ askEach (countIn s) (onRing (countIn s) (vis (historyOf L s))) OnRing Passed
+  unfolding setQuestions
+  to-rings b nine =
+      let n : ℕ = countIn s in
+      let v : Rel = vis (historyOf L s) in
+      to-sets b ∙ each-yes n (wrongSet (L .row) n v) WrongSet (askEach n (onRing n v) OnRing Passed) nine
+
+  pub answer-only : (r : Reading) → Answer L s r → questions L s ≡ r
+  unfolding setQuestions
+  answer-only Passed a =
+      let b : BytesRight L s = record {
+        length = a .length;
+        checks = a .checks;
+        header = a .header;
+        blocks = a .blocks;
+        slots = a .slots;
+        positions = a .positions;
+      } in
+      to-rings b (a .sets) ∙ each-yes (countIn s) (onRing (countIn s) (vis (historyOf L s))) OnRing Passed (a .rings)
+  answer-only ShortWork a = absurd a
+  answer-only WrongLength a = in-order ∙ ask-no (lengthRight L s) WrongLength (fromChecks L s sets) a
+  answer-only (WrongCheck k) a = to-checks (a .0) ∙ each-first (blocksIn s) (λ b. not (blockRight s b)) WrongCheck (fromHeader L s sets) k (a .1)
+  answer-only WrongHeader a = to-header (a .0) (a .1) ∙ ask-no (headerRight L s) WrongHeader (fromBlocks L s sets) (a .2)
+  answer-only WrongBlocks a = to-blocks (a .0) (a .1) (a .2) ∙ ask-no (blocksRight L s) WrongBlocks (fromSlots L s sets) (a .3)
+  answer-only (WrongSlot e) a =
+      to-slots (a .0) (a .1) (a .2) (a .3) ∙ each-first (slotsIn L s) (λ d. not (slotRight L s d)) WrongSlot (fromPositions L s sets) e (a .4)
+  answer-only (WrongPosition e) a =
+      to-positions (a .0) (a .1) (a .2) (a .3) (a .4) ∙ each-first (countIn s) (wrongPosition (historyOf L s)) WrongPosition sets e (a .5)
+  answer-only (WrongSet e) a =
+      let n : ℕ = countIn s in
+      let v : Rel = vis (historyOf L s) in
+      to-sets (a .0) ∙ each-first n (wrongSet (L .row) n v) WrongSet (askEach n (onRing n v) OnRing Passed) e (a .1)
+  answer-only (OnRing e) a = to-rings (a .0) (a .1) ∙ each-first (countIn s) (onRing (countIn s) (vis (historyOf L s))) OnRing Passed e (a .2)
+
+  -- what is known of a record with a given answer
+  pub answer-of : (r : Reading) → questions L s ≡ r → Answer L s r
+  answer-of r q = subst (Answer L s) q answered
+
+-- ---- rings
+
+-- e is the lowest of n events from which one or more steps of v lead back to the event
+pub record LowestRing (n : ℕ) (v : Rel) (e : ℕ) : Type 0 where
+  pub within : e < n
+  pub ring : Steps n v e e
+  pub lower : (d : ℕ) → d < e → Steps n v d d → ⊥
+
+module _ (n : ℕ) (v : Rel) where
+  no-steps : (d : ℕ) → onRing n v d ≡ false → Steps n v d d → ⊥
+  unfolding onRing
+  no-steps d f c = tell (reaches n v d d) (reaches-complete n v c) f
+
+  first-ring : (e : ℕ) → First n (onRing n v) e → LowestRing n v e
+  unfolding onRing
+  first-ring e f = record { within = f .within; ring = reaches-sound n v e e (f .fails); lower = λ d l. no-steps d (f .lower d l) }
+
+  ring-first : (e : ℕ) → LowestRing n v e → First n (onRing n v) e
+  unfolding onRing
+  ring-first e f = record {
+    within = f .within;
+    fails = reaches-complete n v (f .ring);
+    lower = λ d l. never (reaches n v d d) (λ t. f .lower d l (reaches-sound n v d d t));
+  }
+
+module _ (L : Layout) (s : List ℕ) where
+  -- a ring that is named is one, and the lowest
+  pub named-ring : (e : ℕ) → questions L s ≡ OnRing e → LowestRing (countIn s) (vis (historyOf L s)) e
+  named-ring e q = first-ring (countIn s) (vis (historyOf L s)) e (answer-of L s (OnRing e) q .2)
+
+  -- and one that gets to question 10 is named
+  pub ring-named : (e : ℕ) → BytesRight L s → SetsRight L (countIn s) (vis (historyOf L s)) → LowestRing (countIn s) (vis (historyOf L s)) e → questions L s ≡ OnRing e
+  ring-named e b nine r = answer-only L s (OnRing e) (b, nine, ring-first (countIn s) (vis (historyOf L s)) e r)
+
+  -- ---- a record that passes
+
+  pub passed-right : questions L s ≡ Passed → Right L s
+  passed-right q = answer-of L s Passed q
+
+  pub right-passed : Right L s → questions L s ≡ Passed
+  right-passed a = answer-only L s Passed a
+
+-- a visible set holds no event past its bytes
+vis-within : (L : Layout) (s : List ℕ) (a b : ℕ) → vis (historyOf L s) a b ≡ true → a < 64 * L .row
+unfolding vis historyOf
+vis-within L s a b t = ltb-true a (64 * L .row) (and-left (ltb a (64 * L .row)) (hasByte s (slotAt L b + 32) a) t)
+
+-- what those who read a record of the edition `GCR1` use
+module _ (s : List ℕ) (passed : questions gcr1 s ≡ Passed) where
+  right : Right gcr1 s
+  right = passed-right gcr1 s passed
+
+  abbrev n : ℕ
+  n = countIn s
+
+  abbrev h : History
+  h = historyOf gcr1 s
+
+  pub passed-count : countIn s ≤ 256
+  passed-count = header-says gcr1 s (right .header)
+
+  pub passed-blocks : length s ≡ 512 * blocksFor gcr1 (countIn s)
+  passed-blocks = omega (arith, length-says gcr1 s (right .length), blocks-say gcr1 s (right .blocks))
+
+  -- each event's slot lies in the record
+  pub passed-slot : (e : ℕ) → e < countIn s → slotAt gcr1 e + 64 ≤ length s
+  passed-slot e l = omega (arith, passed-blocks)
+
+  pub passed-position : (e : ℕ) → e < countIn s → historyOf gcr1 s .position e < countIn s
+  unfolding historyOf
+  passed-position e l = position-says h e (right .positions e l) .0
+
+  pub passed-distinct : (d e : ℕ) → d < countIn s → e < countIn s → historyOf gcr1 s .position d ≡ historyOf gcr1 s .position e → d ≡ e
+  unfolding historyOf
+  passed-distinct = positions-distinct h (right .positions)
+
+  -- visible sets have events below n, and not the event itself
+  pub passed-inside : (e b : ℕ) → e < countIn s → vis (historyOf gcr1 s) b e ≡ true → (b < countIn s) × (b ≡ e → ⊥)
+  passed-inside e b l t = set-inside 4 n (vis h) e (right .sets e l) b (vis-within gcr1 s b e t) t
+
+  pub passed-ringless : (e : ℕ) → e < countIn s → Steps (countIn s) (vis (historyOf gcr1 s)) e e → ⊥
+  passed-ringless e l = no-steps n (vis h) e (right .rings e l)
+
+  -- the visible words are vis in rows, whatever follows them
+  module _ (bytes : Bytes s) (rest : List ℕ) where
+    pub passed-table : Table (countIn s) 4 (vis (historyOf gcr1 s)) (visibleWords gcr1 s ++ rest)
+    passed-table b l =
+        let g : List ℕ = visibleWords gcr1 s ++ rest in
+        row-of n (λ a. vis h a b) (rowAt g 4 b)
+        (λ x t.
+        let k : x < 256 = row-within g 4 b x t in
+        let v : vis h x b ≡ true = sym (visible-vis gcr1 s bytes rest x b k l) ∙ t in
+        (passed-inside b x l v .0, v))
+        (λ x k t. visible-vis gcr1 s bytes rest x b (omega (arith, passed-count)) l ∙ t)
+
+    pub passed-graph : Graph (visibleWords gcr1 s ++ rest) (countIn s) 4
+    passed-graph =
+        table-graph n 4 (vis h) (visibleWords gcr1 s ++ rest) passed-table
+        (omega (arith, length-append (visibleWords gcr1 s) rest, length-visible gcr1 s passed-count, passed-count)) passed-count (omega arith)
+
+-- ---- a number and a place that a host's number has room for
+
+pub number-most : (r : Reading) → numberOf r ≤ 10
+number-most Passed = omega arith
+number-most ShortWork = omega arith
+number-most WrongLength = omega arith
+number-most (WrongCheck k) = omega arith
+number-most WrongHeader = omega arith
+number-most WrongBlocks = omega arith
+number-most (WrongSlot e) = omega arith
+number-most (WrongPosition e) = omega arith
+number-most (WrongSet e) = omega arith
+number-most (OnRing e) = omega arith
+
+pub place-small : (w : ℕ) (s : List ℕ) → placeOf (reading gcr1 w s) < 1024
+unfolding reading
+place-small w s = ask-into (λ r. placeOf r < 1024) (leb (workWords gcr1) w) ShortWork (questions gcr1 s) (λ t. omega arith) (λ t. small (questions gcr1 s) (answered gcr1 s))
+  where
+    small : (r : Reading) → Answer gcr1 s r → placeOf r < 1024
+    small Passed a = omega arith
+    small ShortWork a = omega arith
+    small WrongLength a = omega arith
+    small (WrongCheck k) a = omega (arith, a .1 .within, length-says gcr1 s (a .0))
+    small WrongHeader a = omega arith
+    small WrongBlocks a = omega arith
+    small (WrongSlot e) a = omega (arith, a .4 .within, length-says gcr1 s (a .0))
+    small (WrongPosition e) a = omega (arith, a .5 .within, header-says gcr1 s (a .2))
+    small (WrongSet e) a = omega (arith, a .1 .within, header-says gcr1 s (a .0 .header))
+    small (OnRing e) a = omega (arith, a .2 .within, header-says gcr1 s (a .0 .header))
+
+pub packed-passed : (r : Reading) → numberOf r ≡ 0 → packed r ≡ 0
+unfolding packed
+packed-passed r e = rw (eq-eqb (numberOf r) 0 e)
+
+pub packed-refused : (r : Reading) → (numberOf r ≡ 0 → ⊥) → packed r ≡ 2097152 + 1024 * numberOf r + placeOf r
+unfolding packed
+packed-refused r e = rw (ne-eqb (numberOf r) 0 e)

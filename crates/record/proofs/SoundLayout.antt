@@ -1,0 +1,84 @@
+-- What the laws ask of a layout, and where its slots lie: apart from each other, before the checks, inside the record. Assumes nothing.
+use mathlib.Core.Path.{_≡_, refl, sym, ap₂, _∙_}
+use mathlib.Core.List.{[], _∷_}
+use Prim.Native.Nat.{ℕ, suc, _+_, _*_, _-_, _/_, _%_, _^_, _<_, _≤_}
+use native.Mathlib.Nat.{mod-lt, mul-suc, mul-le-mul-left, div-add-mod', lt-div-mul-add, div-lt-iff-lt-mul, le-div-iff-mul-le, div-mul-le-self}
+use native.Mathlib.Omega.{arith}
+use native.Mathlib.Decide.{decLt}
+use lib.ListN.{length}
+use Rattle.record.specs.Layout.{Layout, gcr1, slotAt, tailAt}
+use Rattle.record.specs.Encode.{blocksFor}
+use Rattle.record.proofs.StoresLaws.{Outside, Bytes, bytes-nil, bytes-cons}
+
+pub record Sound (L : Layout) : Type 0 where
+  pub letters : length (L .letters) ≡ 4
+  pub letterBytes : Bytes (L .letters)
+  -- a slot is 32 bytes and a visible set
+  pub slot : L .slot ≡ 32 + 8 * L .row
+  pub some : 0 < L .perBlock
+  -- a block's slots end before its check
+  pub room : L .slot * L .perBlock ≤ 508
+  -- a visible set has room for every event, and two bytes for their count
+  pub wide : L .events ≤ 64 * L .row
+  pub counted : L .events < 256 ^ 2
+  pub longest : 512 * blocksFor L (L .events) ≤ L .longest
+
+pub gcr1-sound : Sound gcr1
+gcr1-sound = record {
+  letters = refl;
+  letterBytes = bytes-cons 71 (67 ∷ 82 ∷ 49 ∷ []) (omega arith)
+      (bytes-cons 67 (82 ∷ 49 ∷ []) (omega arith) (bytes-cons 82 (49 ∷ []) (omega arith) (bytes-cons 49 [] (omega arith) bytes-nil)));
+  slot = refl;
+  some = omega arith;
+  room = omega arith;
+  wide = omega arith;
+  counted = omega arith;
+  longest = omega arith;
+}
+
+module _ (L : Layout) (ok : Sound L) where
+  -- slots of one block, one after the other
+  slot-next : (i j : ℕ) → i < j → L .slot * i + L .slot ≤ L .slot * j
+  slot-next i j h = omega (arith, mul-suc (L .slot) i, mul-le-mul-left {m = suc i} {n = j} (L .slot) h)
+
+  pub slot-end : (e : ℕ) → L .slot * (e % L .perBlock) + L .slot ≤ L .slot * L .perBlock
+  slot-end e = slot-next (e % L .perBlock) (L .perBlock) (mod-lt e (ok .some))
+
+  -- no byte of a slot is a check's
+  pub slot-unchecked : (e off : ℕ) → off < L .slot → (slotAt L e + off) % 512 < 508
+  slot-unchecked e off h = omega (arith, slot-end e, ok .room)
+
+  -- nor another slot's: it would be of the same block, and of the same slot there
+  pub slots-apart : (d e off : ℕ) → off < L .slot → (d ≡ e → ⊥) → Outside (slotAt L d + off) (slotAt L e) (L .slot)
+  slots-apart d e off h ne x y =
+      let p : ℕ = L .perBlock in
+      let block : d / p ≡ e / p = omega (arith, slot-end d, slot-end e, ok .room) in
+      elim (decLt (d % p) (e % p)) [
+        | yes l ↦ omega (arith, slot-next (d % p) (e % p) l)
+        | no g ↦ elim (decLt (e % p) (d % p)) [
+          | yes l ↦ omega (arith, slot-next (e % p) (d % p) l)
+          | no k ↦
+              let place : d % p ≡ e % p = omega arith in
+              ne (sym (div-add-mod' d p) ∙ ap₂ (λ (b r : ℕ). b * p + r) block place ∙ div-add-mod' e p)
+        ]
+      ]
+
+  pub tail-apart : (d e j : ℕ) → j < 508 - L .slot * L .perBlock → Outside (tailAt L e + j) (slotAt L d) (L .slot)
+  tail-apart d e j h x y = omega (arith, slot-end d, ok .room)
+
+  -- an event's block is one of the record's
+  pub slot-inside : (n e : ℕ) → e < n → slotAt L e + L .slot ≤ 512 * blocksFor L n
+  slot-inside n e h =
+      let p : ℕ = L .perBlock in
+      let q : ℕ = (n + (p - 1)) / p in
+      let most : e < q * p = omega (arith, lt-div-mul-add {a = n + (p - 1)} {b = p} (ok .some)) in
+      let block : e / p < q = div-lt-iff-lt-mul {k = p} {x = e} {y = q} (ok .some) .1 most in
+      omega (arith, slot-end e, ok .room)
+
+  pub blocks-most : (n : ℕ) → n ≤ L .events → 512 * blocksFor L n ≤ L .longest
+  blocks-most n h =
+      let p : ℕ = L .perBlock in
+      let q : ℕ = (n + (p - 1)) / p in
+      let more : q ≤ (L .events + (p - 1)) / p =
+      le-div-iff-mul-le {k = p} {x = q} {y = L .events + (p - 1)} (ok .some) .1 (omega (arith, div-mul-le-self (n + (p - 1)) p)) in
+      omega (arith, ok .longest)

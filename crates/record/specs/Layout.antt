@@ -1,0 +1,57 @@
+-- Where things stand in a record ('The record'). An edition is a value of Layout; nothing else holds these numbers.
+use mathlib.Core.Bool.{Bool, true, false, _&&_}
+use mathlib.Core.List.{List, [], _∷_}
+use Prim.Native.Nat.{ℕ, zero, suc, _+_, _*_, _/_, _%_}
+use lib.Dec.{eqb}
+use lib.ListN.{getD}
+use Rattle.rows.specs.Octets.{little}
+
+pub record Layout : Type 0 where
+  -- the four letters that begin block 0
+  pub letters : List ℕ
+  -- bytes of a slot, and slots of a block
+  pub slot : ℕ
+  pub perBlock : ℕ
+  -- 64-bit words of a visible set
+  pub row : ℕ
+  -- the most events, and the longest record in bytes
+  pub events : ℕ
+  pub longest : ℕ
+
+-- the edition `GCR1`
+abbrev pub gcr1 : Layout
+gcr1 = record { letters = 71 ∷ 67 ∷ 82 ∷ 49 ∷ []; slot = 64; perBlock = 7; row = 4; events = 256; longest = 19456 }
+
+abbrev pub byte : List ℕ → ℕ → ℕ
+byte s at = getD s at 0
+
+-- n, the event count, and the sites, as block 0 says
+abbrev pub countIn : List ℕ → ℕ
+countIn s = little 2 s 4
+
+abbrev pub sitesIn : List ℕ → ℕ
+sitesIn s = byte s 6
+
+-- where the slot of event e starts
+abbrev pub slotAt : Layout → ℕ → ℕ
+slotAt L e = 512 * (1 + e / L .perBlock) + L .slot * (e % L .perBlock)
+
+-- where the bytes after the last slot of e's block start
+abbrev pub tailAt : Layout → ℕ → ℕ
+tailAt L e = 512 * (1 + e / L .perBlock) + L .slot * L .perBlock
+
+-- the k bytes from `at` on are zero
+unfoldable pub zeros : ℕ → List ℕ → ℕ → Bool
+zeros zero s at = true
+zeros (suc k) s at = eqb (byte s at) 0 && zeros k s (at + 1)
+
+-- two lists of bytes are the same
+unfoldable pub same : List ℕ → List ℕ → Bool
+same [] [] = true
+same [] (y ∷ m) = false
+same (x ∷ l) [] = false
+same (x ∷ l) (y ∷ m) = eqb x y && same l m
+
+-- words of 64 bits that a reader is lent
+abbrev pub workWords : Layout → ℕ
+workWords L = L .events * L .row

@@ -1,0 +1,9 @@
+-- What the contracts of this crate cite.
+pub mod Layout
+pub mod Blocks
+pub mod History
+pub mod Slots
+pub mod Questions
+pub mod Words
+pub mod Encode
+pub mod WellFormed

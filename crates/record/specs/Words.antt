@@ -1,0 +1,74 @@
+-- A record as 64-bit words: what a reader leaves in the work slice, and the events read from words.
+use mathlib.Core.Bool.{Bool, cond}
+use mathlib.Core.List.{List, [], _++_}
+use Prim.Native.Nat.{ℕ, zero, suc, _+_, _*_, _-_, _/_, _%_}
+use lib.Dec.{eqb, ltb}
+use lib.ListN.{length, getD, drop, replicate}
+use Rattle.rows.specs.Octets.{words}
+use Rattle.rows.specs.Row.{has, rowAt}
+use Rattle.record.specs.Layout.{Layout, slotAt, countIn, workWords}
+use Rattle.record.specs.History.{History}
+
+-- w words from byte `off` of each of the first n slots
+unfoldable pub slotWords : Layout → ℕ → ℕ → List ℕ → ℕ → List ℕ
+slotWords L off w s zero = []
+slotWords L off w s (suc e) = slotWords L off w s e ++ words w s (slotAt L e + off)
+
+-- the visible sets, row .. row words an event, and zero from event n on
+unfoldable pub visibleWords : Layout → List ℕ → List ℕ
+visibleWords L s = slotWords L 32 (L .row) s (countIn s) ++ replicate (L .row * (L .events - countIn s)) 0
+
+-- the work slice after a reading or a judgment: unchanged where a question before 3 refused, zero where one from 3 on did, else the visible sets.
+-- Words past those asked for never change.
+unfoldable pub workAfter : Layout → ℕ → List ℕ → List ℕ → List ℕ
+workAfter L number s work =
+    cond (eqb number 0) (visibleWords L s ++ drop (workWords L) work)
+    (cond (ltb number 3) work (replicate (workWords L) 0 ++ drop (workWords L) work))
+
+-- the other 32 bytes of a slot, as four words an event
+unfoldable pub headWords : Layout → List ℕ → List ℕ
+headWords L s = slotWords L 0 4 s (countIn s)
+
+-- the fields of event e in its four words
+abbrev pub isWriteIn : List ℕ → ℕ → Bool
+isWriteIn l e = eqb (getD l (4 * e) 0 % 256) 1
+
+abbrev pub siteIn : List ℕ → ℕ → ℕ
+siteIn l e = getD l (4 * e) 0 / 256 % 256
+
+abbrev pub objectIn : List ℕ → ℕ → ℕ
+objectIn l e = getD l (4 * e) 0 / 65536 % 256
+
+abbrev pub isPendingIn : List ℕ → ℕ → Bool
+isPendingIn l e = eqb (getD l (4 * e) 0 / 16777216 % 256) 1
+
+abbrev pub valueIn : List ℕ → ℕ → ℕ
+valueIn l e = getD l (4 * e) 0 / 4294967296
+
+abbrev pub isPresentIn : List ℕ → ℕ → Bool
+isPresentIn l e = eqb (getD l (4 * e + 1) 0 % 256) 1
+
+abbrev pub positionIn : List ℕ → ℕ → ℕ
+positionIn l e = getD l (4 * e + 1) 0 / 65536 % 65536
+
+abbrev pub startIn : List ℕ → ℕ → ℕ
+startIn l e = getD l (4 * e + 2) 0
+
+abbrev pub returnIn : List ℕ → ℕ → ℕ
+returnIn l e = getD l (4 * e + 3) 0
+
+-- n events read from words: four words l an event, and w words v of the events visible to it
+unfoldable pub historyFrom : ℕ → ℕ → List ℕ → List ℕ → History
+historyFrom n w l v = record {
+  count = n;
+  isWrite = isWriteIn l;
+  site = siteIn l;
+  object = objectIn l;
+  isPending = isPendingIn l;
+  isPresent = isPresentIn l;
+  value = valueIn l;
+  position = positionIn l;
+  start = startIn l;
+  return = returnIn l;
+  sees = λ e b. has (rowAt v w e) b;
+}

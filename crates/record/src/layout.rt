@@ -1,0 +1,27 @@
+// Where things stand in a record of edition `GCR1`.
+ghost use mathlib.Core.Path.{_≡_};
+ghost use Prim.Native.Nat.{_+_, _≤_, _<_, _^_};
+ghost use lib.ListN.{length};
+ghost use Rattle.record.specs.Layout.{gcr1, slotAt, zeros};
+
+pub const LETTERS: [u8; 4] = *b"GCR1";
+
+pub fn slot_at(e: usize) -> usize
+    requires { ⌜ slotAt gcr1 e < 2 ^ 64 ⌝ }
+    ensures { λ r. ⌜ r ≡ slotAt gcr1 e ⌝ }
+{
+    512 * (1 + e / 7) + 64 * (e % 7)
+}
+
+// Whether the k bytes from `at` on are zero.
+pub fn is_zero(s: &[u8], at: usize, k: usize) -> bool
+    requires { ⌜ at + k ≤ length (now s) ⌝ }
+    ensures { λ r. ⌜ r ≡ zeros k (now (s .entry)) at ⌝ }
+{
+    for i in 0..k {
+        if s[at + i] != 0 {
+            return false;
+        }
+    }
+    true
+}

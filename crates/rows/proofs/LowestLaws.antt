@@ -1,0 +1,187 @@
+-- Laws of the lowest number at which a test holds. Assumes nothing.
+use mathlib.Core.Path.{_≡_, refl, sym, ap, _∙_}
+use mathlib.Core.Bool.{Bool, true, false, cond, not, _&&_, _||_}
+use Prim.Native.Nat.{ℕ, zero, suc, _+_, _-_, _<_, _≤_, min}
+use native.Mathlib.Omega.{arith}
+use native.Mathlib.Nat.{le-refl}
+use lib.Dec.{ltb, leb}
+use borrow.Author.Tests.{ltb-true, ltb-false, lt-ltb, le-ltb, leb-true, leb-false}
+use Rattle.rows.specs.Lowest.{search, lowest, some}
+use Rattle.rows.proofs.Tests.{split, tell, same-test, or-elim, or-left, or-right, and-left, and-right}
+
+-- ---- what is known of the lowest, and that it is the only such number
+
+pub record Low (n : ℕ) (f : ℕ → Bool) (r : ℕ) : Type 0 where
+  pub within : r ≤ n
+  pub below : (k : ℕ) → k < r → f k ≡ false
+  pub at : r < n → f r ≡ true
+
+-- the same of the m numbers from k on
+record Run (f : ℕ → Bool) (k m r : ℕ) : Type 0 where
+  from : k ≤ r
+  within : r ≤ k + m
+  below : (j : ℕ) → k ≤ j → j < r → f j ≡ false
+  at : r < k + m → f r ≡ true
+
+search-run : (f : ℕ → Bool) (m k : ℕ) → Run f k m (search f k m)
+unfolding search
+search-run f zero k = record { from = le-refl k; within = omega arith; below = λ j h l. absurd (omega arith); at = λ l. absurd (omega arith) }
+search-run f (suc m) k = go (search-run f m (suc k)) (f k) refl
+  where
+    go : Run f (suc k) m (search f (suc k) m) → (t : Bool) → f k ≡ t → Run f k (suc m) (cond t k (search f (suc k) m))
+    go r true e = record { from = le-refl k; within = omega arith; below = λ j h l. absurd (omega arith); at = λ l. e }
+    go r false e = record {
+      from = omega (arith, r .from);
+      within = omega (arith, r .within);
+      below = λ j h l. split (ltb k j)
+          (λ t. r .below j (ltb-true k j t) l)
+          (λ t. let q : j ≡ k = omega (arith, ltb-false k j t) in rw q e);
+      at = λ l. r .at (omega arith);
+    }
+
+pub lowest-low : (n : ℕ) (f : ℕ → Bool) → Low n f (lowest n f)
+unfolding lowest
+lowest-low n f =
+    let r = search-run f n 0 in
+    record { within = omega (arith, r .within); below = λ k h. r .below k (omega arith) h; at = λ h. r .at (omega arith) }
+
+pub low-only : (n : ℕ) (f : ℕ → Bool) (r s : ℕ) → Low n f r → Low n f s → r ≡ s
+low-only n f r s p q =
+    split (ltb r s)
+    (λ t. absurd (tell (f r) (p .at (omega (arith, q .within, ltb-true r s t))) (q .below r (ltb-true r s t))))
+    (λ t. split (ltb s r)
+    (λ u. absurd (tell (f s) (q .at (omega (arith, p .within, ltb-true s r u))) (p .below s (ltb-true s r u))))
+    (λ u. omega (arith, ltb-false r s t, ltb-false s r u)))
+
+pub lowest-is : (n : ℕ) (f : ℕ → Bool) (r : ℕ) → Low n f r → lowest n f ≡ r
+lowest-is n f r p = low-only n f (lowest n f) r (lowest-low n f) p
+
+-- where a loop found it, or found none
+pub lowest-hit : (n : ℕ) (f : ℕ → Bool) (r : ℕ) → r < n → ((k : ℕ) → k < r → f k ≡ false) → f r ≡ true → lowest n f ≡ r
+lowest-hit n f r h b e = lowest-is n f r (record { within = omega arith; below = b; at = λ l. e })
+
+pub lowest-none : (n : ℕ) (f : ℕ → Bool) → ((k : ℕ) → k < n → f k ≡ false) → lowest n f ≡ n
+lowest-none n f b = lowest-is n f n (record { within = omega arith; below = b; at = λ l. absurd (omega arith) })
+
+-- tests that agree below n
+pub same-lowest : (n : ℕ) (f g : ℕ → Bool) → ((k : ℕ) → k < n → f k ≡ g k) → lowest n f ≡ lowest n g
+same-lowest n f g e =
+    let l = lowest-low n g in
+    lowest-is n f (lowest n g) (record {
+      within = l .within;
+      below = λ k h. e k (omega (arith, l .within)) ∙ l .below k h;
+      at = λ h. e (lowest n g) h ∙ l .at h;
+    })
+
+-- ---- a loop's turn: i numbers are passed, and n - i are left
+
+pub search-start : (n : ℕ) (f : ℕ → Bool) → lowest n f ≡ search f 0 (n - 0)
+unfolding lowest
+search-start n f = let z : n ≡ n - 0 = omega arith in ap (search f 0) z
+
+search-suc : (f : ℕ → Bool) (i m j n : ℕ) → n ≡ suc m → j ≡ suc i → f i ≡ false → search f i n ≡ search f j m
+unfolding search
+search-suc f i m j n p q e = rw (p, q, e)
+
+search-at : (f : ℕ → Bool) (i m n : ℕ) → n ≡ suc m → f i ≡ true → search f i n ≡ i
+unfolding search
+search-at f i m n p e = rw (p, e)
+
+pub search-more : (n : ℕ) (f : ℕ → Bool) (i : ℕ) → i < n → f i ≡ false → search f i (n - i) ≡ search f (i + 1) (n - (i + 1))
+search-more n f i h e = search-suc f i (n - (i + 1)) (i + 1) (n - i) (omega arith) (omega arith) e
+
+pub search-hit : (n : ℕ) (f : ℕ → Bool) (i : ℕ) → i < n → f i ≡ true → search f i (n - i) ≡ i
+search-hit n f i h e = search-at f i (n - (i + 1)) (n - i) (omega arith) e
+
+pub search-end : (n : ℕ) (f : ℕ → Bool) (i : ℕ) → n ≤ i → search f i (n - i) ≡ i
+unfolding search
+search-end n f i h = let z : n - i ≡ 0 = omega arith in rw z
+
+-- the same as a loop's invariant
+pub record Searched (n : ℕ) (f : ℕ → Bool) (i : ℕ) : Type 0 where
+  pub within : i ≤ n
+  pub left : lowest n f ≡ search f i (n - i)
+
+pub searched-start : (n : ℕ) (f : ℕ → Bool) → Searched n f 0
+searched-start n f = record { within = omega arith; left = search-start n f }
+
+pub searched-more : {n : ℕ} {f : ℕ → Bool} {i : ℕ} → Searched n f i → i < n → f i ≡ false → Searched n f (i + 1)
+searched-more {n} {f} {i} l h e = record { within = omega arith; left = l .left ∙ search-more n f i h e }
+
+pub searched-hit : {n : ℕ} {f : ℕ → Bool} {i : ℕ} → Searched n f i → i < n → f i ≡ true → i ≡ lowest n f
+searched-hit {n} {f} {i} l h e = sym (l .left ∙ search-hit n f i h e)
+
+pub searched-end : {n : ℕ} {f : ℕ → Bool} {i : ℕ} → Searched n f i → n ≤ i → n ≡ lowest n f
+searched-end {n} {f} {i} l h =
+    let all : n ≡ i = omega (arith, l .within) in
+    all ∙ sym (l .left ∙ search-end n f i h)
+
+-- ---- whether there is any
+
+pub some-of : (n : ℕ) (f : ℕ → Bool) (k : ℕ) → k < n → f k ≡ true → some n f ≡ true
+unfolding some
+some-of n f k h e =
+    split (ltb (lowest n f) n) (λ t. t)
+    (λ t. absurd (tell (f k) e (lowest-low n f .below k (omega (arith, ltb-false (lowest n f) n t)))))
+
+pub some-at : (n : ℕ) (f : ℕ → Bool) → some n f ≡ true → (lowest n f < n) × (f (lowest n f) ≡ true)
+unfolding some
+some-at n f e = let h = ltb-true (lowest n f) n e in (h, lowest-low n f .at h)
+
+pub some-none : (n : ℕ) (f : ℕ → Bool) → some n f ≡ false → (k : ℕ) → k < n → f k ≡ false
+unfolding some
+some-none n f e k h = lowest-low n f .below k (omega (arith, ltb-false (lowest n f) n e))
+
+pub none-some : (n : ℕ) (f : ℕ → Bool) → ((k : ℕ) → k < n → f k ≡ false) → some n f ≡ false
+none-some n f h = split (some n f) (λ t. let w = some-at n f t in absurd (tell (f (lowest n f)) (w .1) (h (lowest n f) (w .0)))) (λ t. t)
+
+pub same-some : (n : ℕ) (f g : ℕ → Bool) → ((k : ℕ) → k < n → f k ≡ g k) → some n f ≡ some n g
+unfolding some
+same-some n f g e = ap (λ (r : ℕ). ltb r n) (same-lowest n f g e)
+
+pub some-more : (n : ℕ) (f : ℕ → Bool) → some (suc n) f ≡ some n f || f n
+some-more n f = same-test (some (suc n) f) (some n f || f n) there back
+  where
+    there : some (suc n) f ≡ true → some n f || f n ≡ true
+    there e =
+        let w = some-at (suc n) f e in
+        split (ltb (lowest (suc n) f) n)
+        (λ t. or-left (some n f) (f n) (some-of n f (lowest (suc n) f) (ltb-true (lowest (suc n) f) n t) (w .1)))
+        (λ t. or-right (some n f) (f n) (let q : lowest (suc n) f ≡ n = omega (arith, w .0, ltb-false (lowest (suc n) f) n t) in rw q at (w .1)))
+
+    back : some n f || f n ≡ true → some (suc n) f ≡ true
+    back e = or-elim (some n f) (f n) e
+        (λ t. let w = some-at n f t in some-of (suc n) f (lowest n f) (omega (arith, w .0)) (w .1))
+        (λ t. some-of (suc n) f n (le-refl (suc n)) t)
+
+-- the test that code makes of the lowest: it is past the end
+pub none-test : (n : ℕ) (f : ℕ → Bool) (r : ℕ) → r ≡ lowest n f → leb n r ≡ not (some n f)
+unfolding some
+none-test n f r e = split (leb n r)
+    (λ t. t ∙ sym (ap not (le-ltb (lowest n f) n (omega (arith, leb-true n r t)))))
+    (λ t. t ∙ sym (ap not (lt-ltb (lowest n f) n (omega (arith, leb-false n r t)))))
+
+-- ---- a test f among m numbers that holds only below n, where it is g
+
+module _ (m n : ℕ) (f g : ℕ → Bool) (wide : n ≤ m) (cut : (x : ℕ) → f x ≡ (ltb x n && g x)) where
+  inner : (x : ℕ) → x < n → g x ≡ f x
+  inner x h = sym (cut x ∙ ap (λ (t : Bool). t && g x) (lt-ltb x n h))
+
+  outer : (x : ℕ) → f x ≡ true → (x < n) × (g x ≡ true)
+  outer x e =
+      let t : ltb x n && g x ≡ true = sym (cut x) ∙ e in
+      (ltb-true x n (and-left (ltb x n) (g x) t), and-right (ltb x n) (g x) t)
+
+  pub some-cut : some m f ≡ some n g
+  some-cut = same-test (some m f) (some n g)
+      (λ e. let p = outer (lowest m f) (some-at m f e .1) in some-of n g (lowest m f) (p .0) (p .1))
+      (λ e. let p = some-at n g e in some-of m f (lowest n g) (omega (arith, p .0)) (sym (inner (lowest n g) (p .0)) ∙ p .1))
+
+  pub lowest-cut : lowest n g ≡ min (lowest m f) n
+  lowest-cut =
+      let l = lowest-low m f in
+      lowest-is n g (min (lowest m f) n) (record {
+        within = omega arith;
+        below = λ k h. inner k (omega arith) ∙ l .below k (omega arith);
+        at = λ h. let e : min (lowest m f) n ≡ lowest m f = omega arith in rw e (outer (lowest m f) (l .at (omega arith)) .1);
+      })

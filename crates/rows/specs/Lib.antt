@@ -1,0 +1,5 @@
+-- What the contracts of this crate cite.
+pub mod Lowest
+pub mod Row
+pub mod Octets
+pub mod Relation

@@ -1,0 +1,19 @@
+-- The lowest number at which a test holds.
+use mathlib.Core.Bool.{Bool, cond}
+use Prim.Native.Nat.{ℕ, zero, suc}
+use lib.Dec.{ltb}
+
+-- the lowest of the m numbers from k on at which f holds, or the number after them
+unfoldable pub search : (ℕ → Bool) → ℕ → ℕ → ℕ
+search f k zero = k
+search f k (suc m) = cond (f k) k (search f (suc k) m)
+
+-- the lowest number below n at which f holds, or n
+unfoldable pub lowest : ℕ → (ℕ → Bool) → ℕ
+unfolding search
+lowest n f = search f 0 n
+
+-- f holds somewhere below n
+unfoldable pub some : ℕ → (ℕ → Bool) → Bool
+unfolding lowest
+some n f = ltb (lowest n f) n

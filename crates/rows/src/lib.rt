@@ -1,0 +1,136 @@
+// Bit rows of any width in lent slices: a row of w words is a set of numbers below 64 * w.
+pub mod octets;
+pub mod reach;
+
+ghost use mathlib.Core.Path.{_≡_};
+ghost use mathlib.Core.Bool.{not};
+ghost use mathlib.Core.List.{_++_};
+ghost use Prim.Native.Nat.{_+_, _*_, _/_, _^_, _<_, _≤_};
+ghost use lib.ListN.{length, take, drop, replicate};
+ghost use Rattle.rows.specs.Lowest.{lowest, some};
+ghost use Rattle.rows.specs.Row.{has, insert, erase, orRow, andRow, orPart, countRow, onlyFirst};
+
+pub fn test(row: &[u64], b: usize) -> bool
+    requires { ⌜ b / 64 < length (now row) ⌝ }
+    ensures { λ r. ⌜ r ≡ has (now (row .entry)) b ⌝ }
+{
+    (row[b / 64] >> (b % 64)) & 1 == 1
+}
+
+pub fn set(row: &mut [u64], b: usize)
+    requires { ⌜ b / 64 < length (now row) ⌝ }
+    ensures { λ _. ⌜ now (row .exit) ≡ insert (now (row .entry)) b ⌝ }
+{
+    row[b / 64] |= 1 << (b % 64);
+}
+
+pub fn remove(row: &mut [u64], b: usize)
+    requires { ⌜ b / 64 < length (now row) ⌝ }
+    ensures { λ _. ⌜ now (row .exit) ≡ erase (now (row .entry)) b ⌝ }
+{
+    row[b / 64] &= !(1 << (b % 64));
+}
+
+pub fn clear(row: &mut [u64])
+    ensures { λ _. ⌜ now (row .exit) ≡ replicate (length (now (row .entry))) 0 ⌝ }
+{
+    for i in 0..row.len() {
+        row[i] = 0;
+    }
+}
+
+pub fn copy(dst: &mut [u64], src: &[u64])
+    requires { ⌜ length (now src) ≤ length (now dst) ⌝ }
+    ensures { λ _. ⌜ now (dst .exit) ≡ now (src .entry) ++ drop (length (now (src .entry))) (now (dst .entry)) ⌝ }
+{
+    for i in 0..src.len() {
+        dst[i] = src[i];
+    }
+}
+
+// The members of `src` join those of `dst`.
+pub fn union(dst: &mut [u64], src: &[u64])
+    requires { ⌜ length (now src) ≤ length (now dst) ⌝ }
+    ensures { λ _. ⌜ now (dst .exit) ≡ orRow (now (dst .entry)) (now (src .entry)) ⌝ }
+{
+    for i in 0..src.len() {
+        dst[i] |= src[i];
+    }
+}
+
+// Of `dst` only the members that `src` has too stay.
+pub fn intersect(dst: &mut [u64], src: &[u64])
+    requires { ⌜ length (now src) ≤ length (now dst) ⌝ }
+    ensures { λ _. ⌜ now (dst .exit) ≡ andRow (now (dst .entry)) (now (src .entry)) ⌝ }
+{
+    for i in 0..src.len() {
+        dst[i] &= src[i];
+    }
+}
+
+// The union with the row of `rows` that starts at word `at` and is as wide as `dst`.
+pub fn union_at(dst: &mut [u64], rows: &[u64], at: usize)
+    requires { ⌜ at + length (now dst) ≤ length (now rows) ⌝ }
+    ensures { λ _. ⌜ now (dst .exit) ≡ orRow (now (dst .entry)) (take (length (now (dst .entry))) (drop at (now (rows .entry)))) ⌝ }
+{
+    let end = at + dst.len();
+    union(dst, &rows[at..end]);
+}
+
+// The members of `src` join the row of `rows` that starts at word `at`.
+pub fn union_into(rows: &mut [u64], at: usize, src: &[u64])
+    requires { ⌜ at + length (now src) ≤ length (now rows) ⌝ }
+    ensures { λ _. ⌜ now (rows .exit) ≡ orPart (now (rows .entry)) at (now (src .entry)) ⌝ }
+{
+    let end = at + src.len();
+    union(&mut rows[at..end], src);
+}
+
+// The lowest member, or the first number past the row where there is none.
+pub fn lowest(row: &[u64]) -> usize
+    requires { ⌜ 64 * length (now row) < 2 ^ 64 ⌝ }
+    ensures { λ r. ⌜ r ≡ lowest (64 * length (now (row .entry))) (has (now (row .entry))) ⌝ }
+{
+    for i in 0..row.len() {
+        let x = row[i];
+        if x != 0 {
+            return i * 64 + u64::trailing_zeros(x) as usize;
+        }
+    }
+    row.len() * 64
+}
+
+// The lowest member of `a` that `b` lacks, or the first number past the row.
+pub fn lowest_difference(a: &[u64], b: &[u64]) -> usize
+    requires { ⌜ 64 * length (now a) < 2 ^ 64 ⌝ }
+    requires { ⌜ length (now a) ≤ length (now b) ⌝ }
+    ensures { λ r. ⌜ r ≡ lowest (64 * length (now (a .entry))) (onlyFirst (now (a .entry)) (now (b .entry))) ⌝ }
+{
+    for i in 0..a.len() {
+        let x = a[i] & !b[i];
+        if x != 0 {
+            return i * 64 + u64::trailing_zeros(x) as usize;
+        }
+    }
+    a.len() * 64
+}
+
+// Whether `b` has every member of `a`.
+pub fn is_subset(a: &[u64], b: &[u64]) -> bool
+    requires { ⌜ 64 * length (now a) < 2 ^ 64 ⌝ }
+    requires { ⌜ length (now a) ≤ length (now b) ⌝ }
+    ensures { λ r. ⌜ r ≡ not (some (64 * length (now (a .entry))) (onlyFirst (now (a .entry)) (now (b .entry)))) ⌝ }
+{
+    64 * a.len() <= lowest_difference(a, b)
+}
+
+pub fn count(row: &[u64]) -> usize
+    requires { ⌜ 64 * length (now row) < 2 ^ 64 ⌝ }
+    ensures { λ r. ⌜ r ≡ countRow (now (row .entry)) ⌝ }
+{
+    let mut n: usize = 0;
+    for i in 0..row.len() {
+        n += u64::count_ones(row[i]) as usize;
+    }
+    n
+}

@@ -1,0 +1,38 @@
+//! The baseline behind the three C calls: a static library to try the linked
+//! comparers with while the proved side has not landed.
+
+use second::baseline::{judging, reading, rehearsal};
+use std::slice::{from_raw_parts, from_raw_parts_mut};
+
+/// # Safety
+/// Pointers and lengths as of two slices.
+#[no_mangle]
+pub unsafe extern "C" fn gcr_read(record: *const u8, len: usize, work: *mut u64, words: usize) -> u64 {
+    unsafe { reading::read(from_raw_parts(record, len), from_raw_parts_mut(work, words)) }
+}
+
+/// # Safety
+/// Pointer and length as of a slice.
+#[no_mangle]
+pub unsafe extern "C" fn gcr_judge_model(model: u32, record: *const u8, len: usize) -> u64 {
+    unsafe { judging::judge_model(model, from_raw_parts(record, len)) }
+}
+
+/// # Safety
+/// Pointers and lengths as of three slices.
+#[no_mangle]
+pub unsafe extern "C" fn gcr_rehearse(
+    sites: u32,
+    script: *const u8,
+    script_len: usize,
+    record: *mut u8,
+    record_len: usize,
+    answers: *mut u8,
+    answers_len: usize,
+) -> u64 {
+    unsafe {
+        let script = from_raw_parts(script, script_len);
+        let record = from_raw_parts_mut(record, record_len);
+        rehearsal::rehearse(sites, script, record, from_raw_parts_mut(answers, answers_len))
+    }
+}

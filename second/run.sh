@@ -1,0 +1,77 @@
+#!/bin/sh
+# Runs the comparers against what has landed: run.sh ci|long [COMPARER...]
+# Without names, all whose program or library is there; a named one must be.
+# FROM=K moves the long run to other seeds.
+set -u
+here=$(cd "$(dirname "$0")" && pwd)
+mode=${1:-ci}
+[ $# -gt 0 ] && shift
+root=$here/..
+bin=${SECOND_BIN:-$root/target/bin}
+libraries=${SECOND_STATICLIB:-$root/target/staticlib}
+case $libraries in /*) ;; *) libraries=$here/$libraries ;; esac
+export SECOND_STATICLIB=$libraries
+keep=${SECOND_KEEP:-$root/target/second-failures}
+status=0
+totals=$(mktemp)
+
+case $mode in
+ci) share=1 seconds=60 ;;
+long) share=100 seconds=1800 ;;
+*) echo "run.sh ci|long [COMPARER...]" >&2; exit 2 ;;
+esac
+
+# The file that a comparer needs, and the feature that links it.
+needs() {
+    case $1 in
+    inspect | verdict | rehearse) echo "$bin/$1" ;;
+    reader) echo "$libraries/librecord.a" ;;
+    models) echo "$libraries/libjudge.a" ;;
+    rehearsal) echo "$libraries/librehearsal.a" ;;
+    esac
+}
+
+feature() {
+    case $1 in reader) echo reader ;; models) echo judge ;; rehearsal) echo rehearsal ;; esac
+}
+
+# Seeds of a CI run: a spawned program costs a millisecond, a script more than a record.
+seeds() {
+    case $1 in
+    inspect | verdict | rehearse) echo $((600 * share)) ;;
+    reader | models) echo $((4000 * share)) ;;
+    rehearsal) echo $((2000 * share)) ;;
+    esac
+}
+
+# Each linked build has a target folder of its own, or they would undo each other.
+compare() {
+    linked=$(feature "$1")
+    target=$here/target${linked:+/linked-$linked}
+    cargo build --quiet --release -j1 --manifest-path "$here/Cargo.toml" --bin compare \
+        --target-dir "$target" ${linked:+--features "$linked"} || return 1
+    "$target/release/compare" "$1" --seeds "$(seeds "$1")" --from "${FROM:-0}" \
+        --seconds "$seconds" --bin "$bin" --keep "$keep" >"$totals.one"
+    result=$?
+    cat "$totals.one"
+    if ! tail -n 1 "$totals.one" | grep ' passed, ' >>"$totals"; then
+        echo "$1 did not come to its end; its last seed is in $keep/last-seed.txt"
+        echo "0 passed, 1 failed" >>"$totals"
+    fi
+    return $result
+}
+
+for comparer in ${*:-inspect reader verdict models rehearse rehearsal}; do
+    if [ -e "$(needs "$comparer")" ]; then
+        compare "$comparer" || status=1
+    elif [ $# -gt 0 ]; then
+        echo "$comparer: nothing at $(needs "$comparer")"
+        echo "0 passed, 1 failed" >>"$totals"
+        status=1
+    else
+        echo "$comparer: not landed"
+    fi
+done
+awk '{ p += $1; f += $3 } END { printf "%d passed, %d failed\n", p, f }' "$totals"
+rm -f "$totals" "$totals.one"
+exit $status

@@ -1,0 +1,219 @@
+//! Questions 3 to 10 in one pass a question, visible sets kept as rows.
+
+use super::refused;
+use super::rows::*;
+
+const BLOCK: usize = 512;
+
+/// Where the slot of an event begins.
+#[inline]
+pub fn slot_at(event: usize) -> usize {
+    BLOCK * (1 + event / 7) + 64 * (event % 7)
+}
+
+#[inline]
+pub fn slot(record: &[u8], event: usize) -> &[u8; 64] {
+    record[slot_at(event)..].first_chunk().expect("question 6")
+}
+
+#[inline]
+pub fn word(slot: &[u8; 64], at: usize) -> u64 {
+    u64::from_le_bytes(*slot[at..].first_chunk().expect("within a slot"))
+}
+
+#[inline]
+pub fn position(slot: &[u8; 64]) -> usize {
+    u16::from_le_bytes([slot[10], slot[11]]) as usize
+}
+
+/// The reading call over a lent work slice.
+pub fn read(record: &[u8], work: &mut [u64]) -> u64 {
+    if work.len() < 4 * ROWS {
+        return refused(1, 0);
+    }
+    let rows: &mut [Row] = &mut work.as_chunks_mut().0[..ROWS];
+    match fill(record, rows) {
+        Ok(n) => {
+            rows[n..].fill(EMPTY);
+            0
+        }
+        Err((number, place)) => {
+            rows.fill(EMPTY);
+            refused(number, place)
+        }
+    }
+}
+
+/// Fills the first n rows; what a refusal leaves in them is not settled.
+pub fn fill(record: &[u8], rows: &mut [Row]) -> Result<usize, (u32, usize)> {
+    let length = record.len();
+    if length == 0 || length > 38 * BLOCK || length % BLOCK != 0 {
+        return Err((3, 0));
+    }
+    if let Some(block) = wrong_check(record) {
+        return Err((4, block));
+    }
+    let n = header(record).ok_or((5, 0))?;
+    if length / BLOCK != 1 + n.div_ceil(7) {
+        return Err((6, 0));
+    }
+    wrong_slot(record, n).map_or(Ok(()), |slot| Err((7, slot)))?;
+    wrong_position(record, n).map_or(Ok(()), |event| Err((8, event)))?;
+    wrong_visible(record, n, rows).map_or(Ok(()), |event| Err((9, event)))?;
+    lowest_on_ring(&rows[..n]).map_or(Ok(n), |event| Err((10, event)))
+}
+
+fn wrong_check(record: &[u8]) -> Option<usize> {
+    let (blocks, _) = record.as_chunks::<BLOCK>();
+    blocks.iter().enumerate().position(|(number, block)| {
+        let stored = u32::from_le_bytes([block[508], block[509], block[510], block[511]]);
+        stored != check(number as u32, block)
+    })
+}
+
+/// Eight sums side by side, put together at the end with one remainder each.
+/// Of the first 248 words, word 8r + l weighs 248 - 8r - l in B then; it enters
+/// `later` once for each of the 30 - r rows after its own.
+#[inline]
+pub fn check(number: u32, block: &[u8; BLOCK]) -> u32 {
+    let (words, _) = block[..508].as_chunks::<2>();
+    let (rows, rest) = words.as_chunks::<8>();
+    let (mut sums, mut later) = ([0u32; 8], [0u32; 8]);
+    for row in rows {
+        for lane in 0..8 {
+            later[lane] += sums[lane];
+            sums[lane] += u16::from_le_bytes(row[lane]) as u32;
+        }
+    }
+    let (mut a, mut b) = (number + 1, 248 * (number + 1));
+    for lane in 0..8 {
+        a += sums[lane];
+        b += 8 * later[lane] + (8 - lane as u32) * sums[lane];
+    }
+    for word in rest {
+        a += u16::from_le_bytes(*word) as u32;
+        b += a;
+    }
+    a % 65_521 | (b % 65_521) << 16
+}
+
+#[inline]
+fn all_zero(bytes: &[u8]) -> bool {
+    bytes.iter().fold(0, |all, byte| all | byte) == 0
+}
+
+fn header(record: &[u8]) -> Option<usize> {
+    let n = u16::from_le_bytes([record[4], record[5]]) as usize;
+    let right = record.starts_with(b"GCR1") && n <= 256 && matches!(record[6], 1..=8);
+    (right && all_zero(&record[7..508])).then_some(n)
+}
+
+fn wrong_slot(record: &[u8], n: usize) -> Option<usize> {
+    let sites = record[6];
+    for (k, block) in record[BLOCK..].chunks_exact(BLOCK).enumerate() {
+        let tail = all_zero(&block[448..508]);
+        let (slots, _) = block[..448].as_chunks::<64>();
+        for (within, slot) in slots.iter().enumerate() {
+            let event = 7 * k + within;
+            let right = if event < n { laid_out(slot, sites) } else { all_zero(slot) };
+            if !right || (within == 6 && !tail) {
+                return Some(event);
+            }
+        }
+    }
+    None
+}
+
+#[inline]
+fn laid_out(slot: &[u8; 64], sites: u8) -> bool {
+    let head = word(slot, 0);
+    let (kind, site, state) = (head as u8, (head >> 8) as u8, (head >> 24) as u8);
+    let second = word(slot, 8);
+    let present = second as u8;
+    // Byte 9 and bytes 12 to 15; the position between them is left for later.
+    let zeros = second & 0xffff_ffff_0000_ff00 == 0;
+    let (start, end) = (word(slot, 16), word(slot, 24));
+    let times = if state == 1 { end == 0 } else { end >= start };
+    let value = match present {
+        1 => kind == 1 || state == 0,
+        0 => kind == 0 && head >> 32 == 0,
+        _ => false,
+    };
+    kind <= 1 && site < sites && state <= 1 && zeros && times && value
+}
+
+fn wrong_position(record: &[u8], n: usize) -> Option<usize> {
+    let mut taken = EMPTY;
+    (0..n).find(|&event| {
+        let position = position(slot(record, event));
+        if position >= n || has(&taken, position) {
+            return true;
+        }
+        add(&mut taken, position);
+        false
+    })
+}
+
+fn wrong_visible(record: &[u8], n: usize, rows: &mut [Row]) -> Option<usize> {
+    let events = below(n);
+    (0..n).find(|&event| {
+        let slot = slot(record, event);
+        let row = [word(slot, 32), word(slot, 40), word(slot, 48), word(slot, 56)];
+        rows[event] = row;
+        has(&row, event) || !is_empty(&minus(&row, &events))
+    })
+}
+
+fn lowest_on_ring(rows: &[Row]) -> Option<usize> {
+    if order_of(rows).is_some() {
+        return None;
+    }
+    let mut reach = [EMPTY; ROWS];
+    reach[..rows.len()].copy_from_slice(rows);
+    close(&mut reach[..rows.len()]);
+    (0..rows.len()).find(|&event| has(&reach[event], event))
+}
+
+/// An order in which every event stands after all in its column, or none.
+pub fn order_of(columns: &[Row]) -> Option<([u8; ROWS], usize)> {
+    let n = columns.len();
+    let (mut order, mut done) = ([0; ROWS], 0);
+    let (mut stack, mut depth) = ([0u8; ROWS], 0);
+    let (mut fresh, mut open) = (below(n), EMPTY);
+    while let Some(root) = lowest(&fresh) {
+        let mut next = Some(root);
+        loop {
+            if let Some(event) = next {
+                remove(&mut fresh, event);
+                add(&mut open, event);
+                stack[depth] = event as u8;
+                depth += 1;
+            }
+            let Some(top) = depth.checked_sub(1) else { break };
+            let event = stack[top] as usize;
+            if !is_empty(&both(&columns[event], &open)) {
+                return None;
+            }
+            next = lowest(&both(&columns[event], &fresh));
+            if next.is_none() {
+                remove(&mut open, event);
+                depth = top;
+                order[done] = event as u8;
+                done += 1;
+            }
+        }
+    }
+    Some((order, done))
+}
+
+/// Warshall's closure, a row at a time.
+pub fn close(columns: &mut [Row]) {
+    for middle in 0..columns.len() {
+        let before = columns[middle];
+        for column in columns.iter_mut() {
+            if has(column, middle) {
+                *column = union(column, &before);
+            }
+        }
+    }
+}

@@ -1,0 +1,76 @@
+//! Sets of events as rows of four words.
+
+pub type Row = [u64; 4];
+
+pub const EMPTY: Row = [0; 4];
+pub const ROWS: usize = 256;
+
+#[inline]
+pub fn has(row: &Row, event: usize) -> bool {
+    row[event >> 6] >> (event & 63) & 1 == 1
+}
+
+#[inline]
+pub fn add(row: &mut Row, event: usize) {
+    row[event >> 6] |= 1 << (event & 63);
+}
+
+#[inline]
+pub fn remove(row: &mut Row, event: usize) {
+    row[event >> 6] &= !(1 << (event & 63));
+}
+
+#[inline]
+fn each_word(a: &Row, b: &Row, word: impl Fn(u64, u64) -> u64) -> Row {
+    [word(a[0], b[0]), word(a[1], b[1]), word(a[2], b[2]), word(a[3], b[3])]
+}
+
+#[inline]
+pub fn union(a: &Row, b: &Row) -> Row {
+    each_word(a, b, |a, b| a | b)
+}
+
+#[inline]
+pub fn both(a: &Row, b: &Row) -> Row {
+    each_word(a, b, |a, b| a & b)
+}
+
+#[inline]
+pub fn minus(a: &Row, b: &Row) -> Row {
+    each_word(a, b, |a, b| a & !b)
+}
+
+#[inline]
+pub fn differ(a: &Row, b: &Row) -> Row {
+    each_word(a, b, |a, b| a ^ b)
+}
+
+#[inline]
+pub fn is_empty(row: &Row) -> bool {
+    row[0] | row[1] | row[2] | row[3] == 0
+}
+
+#[inline]
+pub fn lowest(row: &Row) -> Option<usize> {
+    let word = row.iter().position(|&word| word != 0)?;
+    Some(64 * word + row[word].trailing_zeros() as usize)
+}
+
+#[inline]
+pub fn highest(row: &Row) -> Option<usize> {
+    let word = row.iter().rposition(|&word| word != 0)?;
+    Some(64 * word + 63 - row[word].leading_zeros() as usize)
+}
+
+/// The events 0 to n - 1.
+pub fn below(n: usize) -> Row {
+    std::array::from_fn(|word| match n.saturating_sub(64 * word) {
+        0 => 0,
+        in_word if in_word >= 64 => u64::MAX,
+        in_word => (1 << in_word) - 1,
+    })
+}
+
+pub fn count(row: &Row) -> u32 {
+    row.iter().map(|word| word.count_ones()).sum()
+}

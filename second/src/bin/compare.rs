@@ -1,0 +1,125 @@
+//! Runs one comparer over a range of seeds; see README.md.
+
+use second::compare::rehearsal::Outstanding;
+use second::compare::subject::{Baseline, Itself, Judge, Reader, Rehearser};
+use second::compare::tally::Tally;
+use second::compare::{models, programs, reader, rehearsal, Seeds};
+use std::path::{Path, PathBuf};
+use std::process::ExitCode;
+
+const USAGE: &str = "compare WHAT [--seeds N] [--from K] [--seconds T] [--keep FOLDER]
+  programs:  inspect | verdict | rehearse   [--bin FOLDER, by default ../target/bin]
+  libraries: reader | models | rehearsal    [--against linked | baseline | itself]
+             [--exact-outstanding]
+  linked needs a build with --features reader, judge or rehearsal";
+
+struct Options {
+    seeds: Seeds,
+    keep: PathBuf,
+    programs: PathBuf,
+    against: String,
+    outstanding: Outstanding,
+}
+
+fn main() -> ExitCode {
+    let mut arguments = std::env::args().skip(1);
+    let what = arguments.next().unwrap_or_default();
+    let mut tally = None;
+    let outcome = options(arguments).and_then(|options| {
+        println!("{what}: {} seeds from {}", options.seeds.count, options.seeds.from);
+        let tally = tally.insert(Tally::keeping(options.keep.clone()));
+        run(&what, &options, tally)
+    });
+    match (outcome, tally) {
+        (Ok(()), Some(tally)) => {
+            println!("{}", tally.summary());
+            ExitCode::from((tally.failed > 0) as u8)
+        }
+        (Err(message), _) => {
+            eprintln!("{message}\n{USAGE}");
+            ExitCode::from(2)
+        }
+        (Ok(()), None) => unreachable!("a run has a tally"),
+    }
+}
+
+/// The repository's root: the parent of this folder.
+fn root() -> PathBuf {
+    Path::new(env!("CARGO_MANIFEST_DIR")).join("..")
+}
+
+fn options(mut arguments: impl Iterator<Item = String>) -> Result<Options, String> {
+    let mut options = Options {
+        seeds: Seeds { from: 0, count: 1_000, seconds: 90 },
+        keep: root().join("target/second-failures"),
+        programs: root().join("target/bin"),
+        against: "linked".to_string(),
+        outstanding: Outstanding::Bounded,
+    };
+    while let Some(name) = arguments.next() {
+        if name == "--exact-outstanding" {
+            options.outstanding = Outstanding::Exact;
+            continue;
+        }
+        let value = arguments.next().ok_or(format!("{name} needs a value"))?;
+        set(&mut options, &name, value)?;
+    }
+    Ok(options)
+}
+
+fn set(options: &mut Options, name: &str, value: String) -> Result<(), String> {
+    match name {
+        "--seeds" => options.seeds.count = number(&value)?,
+        "--from" => options.seeds.from = number(&value)?,
+        "--seconds" => options.seeds.seconds = number(&value)?,
+        "--keep" => options.keep = value.into(),
+        "--bin" => options.programs = value.into(),
+        "--against" => options.against = value,
+        _ => return Err(format!("unknown option {name}")),
+    }
+    Ok(())
+}
+
+fn number(value: &str) -> Result<u64, String> {
+    value.parse().map_err(|_| format!("{value} is no number"))
+}
+
+fn run(what: &str, options: &Options, tally: &mut Tally) -> Result<(), String> {
+    let (seeds, program) = (&options.seeds, options.programs.join(what));
+    let against = options.against.as_str();
+    match what {
+        "inspect" => programs::inspect(&program, seeds, tally),
+        "verdict" => programs::verdict(&program, seeds, tally),
+        "rehearse" => programs::rehearse(&program, seeds, tally),
+        "reader" => reader::compare(&*reading(against)?, seeds, tally),
+        "models" => models::compare(&*judging(against)?, seeds, tally),
+        "rehearsal" => rehearsal::compare(&*rehearsing(against)?, options.outstanding, seeds, tally),
+        _ => return Err(format!("nothing to compare is called {what:?}")),
+    }
+    Ok(())
+}
+
+/// The subject that `--against` names, as one of the three traits.
+macro_rules! subject {
+    ($against:expr, $feature:literal) => {
+        match $against {
+            "baseline" => Box::new(Baseline),
+            "itself" => Box::new(Itself),
+            #[cfg(feature = $feature)]
+            "linked" => Box::new(second::compare::linked::Linked),
+            other => return Err(format!("no {other:?} here (linked needs --features {})", $feature)),
+        }
+    };
+}
+
+fn reading(against: &str) -> Result<Box<dyn Reader>, String> {
+    Ok(subject!(against, "reader"))
+}
+
+fn judging(against: &str) -> Result<Box<dyn Judge>, String> {
+    Ok(subject!(against, "judge"))
+}
+
+fn rehearsing(against: &str) -> Result<Box<dyn Rehearser>, String> {
+    Ok(subject!(against, "rehearsal"))
+}

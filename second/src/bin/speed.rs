@@ -1,0 +1,74 @@
+//! How long the baseline takes, best of several rounds.
+
+use second::baseline::columns::Columns;
+use second::baseline::{judging, reading, rehearsal};
+use second::generate::scripts;
+use second::record::{Event, Record};
+use second::samples::in_turn;
+use second::store::run_script;
+use std::hint::black_box;
+use std::time::{Duration, Instant};
+
+fn main() {
+    let one_site = in_turn(256).to_bytes();
+    let script = scripts::full_day(1, 8);
+    let rehearsed = run_script(8, &script, &mut vec![0; script.len()]).record().to_bytes();
+    let ring = whole_ring().to_bytes();
+    for (name, record) in [("one site, dense", &one_site), ("rehearsed", &rehearsed), ("ring of 256", &ring)] {
+        report(&format!("read: {name}"), reading(record));
+    }
+    for (name, record) in [("one site, dense", &one_site), ("rehearsed", &rehearsed)] {
+        report(&format!("read and judge all thirteen: {name}"), judging(record));
+        report(&format!("host call, model 4: {name}"), hosting(record));
+    }
+    report("rehearse 4,096 calls, 256 events, 8 sites", rehearsing(&script));
+}
+
+fn report(name: &str, best: Duration) {
+    println!("{:>9.2} us  {name}", best.as_secs_f64() * 1e6);
+}
+
+/// The best round's time for one call; many short rounds, as others may share the machine.
+fn best_of(mut call: impl FnMut()) -> Duration {
+    const CALLS: u32 = 20;
+    let round = |_| {
+        let begun = Instant::now();
+        (0..CALLS).for_each(|_| call());
+        begun.elapsed() / CALLS
+    };
+    (0..400).map(round).min().expect("some rounds")
+}
+
+fn reading(record: &[u8]) -> Duration {
+    let mut work = vec![0; 1_024];
+    best_of(|| {
+        black_box(reading::read(black_box(record), &mut work));
+    })
+}
+
+fn judging(record: &[u8]) -> Duration {
+    let mut columns = Columns::new();
+    best_of(|| {
+        judging::prepare(black_box(record), &mut columns).expect("passes");
+        black_box(columns.all_broken());
+    })
+}
+
+fn hosting(record: &[u8]) -> Duration {
+    best_of(|| {
+        black_box(judging::judge_model(4, black_box(record)));
+    })
+}
+
+fn rehearsing(script: &[u8]) -> Duration {
+    let (mut record, mut answers) = (vec![0; 19_456], vec![0; script.len()]);
+    best_of(|| {
+        black_box(rehearsal::rehearse(8, black_box(script), &mut record, &mut answers));
+    })
+}
+
+/// Every event sees the next, the last the first.
+fn whole_ring() -> Record {
+    let events = (0..256).map(|k| Event::write(0, 0, 1).sees(&[(k + 1) % 256]));
+    Record::in_order(1, events.collect())
+}

@@ -1,0 +1,43 @@
+//! The static libraries of the proved side, called as C would.
+
+#[cfg(any(feature = "reader", feature = "judge", feature = "rehearsal"))]
+use super::subject::*;
+
+/// The library this build was linked with.
+pub struct Linked;
+
+#[cfg(feature = "reader")]
+impl Reader for Linked {
+    fn read(&self, record: &[u8], work: &mut [u64]) -> u64 {
+        extern "C" {
+            fn gcr_read(record: *const u8, len: usize, work: *mut u64, words: usize) -> u64;
+        }
+        // SAFETY: both pointers come from slices of the lengths given.
+        unsafe { gcr_read(record.as_ptr(), record.len(), work.as_mut_ptr(), work.len()) }
+    }
+}
+
+#[cfg(feature = "judge")]
+impl Judge for Linked {
+    fn judge_model(&self, model: u32, record: &[u8]) -> u64 {
+        extern "C" {
+            fn gcr_judge_model(model: u32, record: *const u8, len: usize) -> u64;
+        }
+        // SAFETY: the pointer comes from a slice of the length given.
+        unsafe { gcr_judge_model(model, record.as_ptr(), record.len()) }
+    }
+}
+
+#[cfg(feature = "rehearsal")]
+impl Rehearser for Linked {
+    fn rehearse(&self, sites: u32, script: &[u8], record: &mut [u8], answers: &mut [u8]) -> u64 {
+        extern "C" {
+            // Site count, then script, record and answers, each with its length.
+            fn gcr_rehearse(_: u32, _: *const u8, _: usize, _: *mut u8, _: usize, _: *mut u8, _: usize) -> u64;
+        }
+        let (to, to_len) = (record.as_mut_ptr(), record.len());
+        let (back, back_len) = (answers.as_mut_ptr(), answers.len());
+        // SAFETY: every pointer comes from a slice of the length given.
+        unsafe { gcr_rehearse(sites, script.as_ptr(), script.len(), to, to_len, back, back_len) }
+    }
+}

@@ -1,0 +1,101 @@
+//! The programs: what they write for an input on standard input.
+
+use super::tally::{Case, Tally};
+use super::Seeds;
+use crate::generate::{self, scripts, Sample};
+use crate::{lines, samples};
+use std::io::{self, Read, Write};
+use std::path::Path;
+use std::process::{ChildStdin, ChildStdout, Command, Stdio};
+use std::sync::mpsc::{channel, Receiver};
+use std::thread;
+use std::time::Duration;
+
+/// How long one program may take for one input.
+const PATIENCE: Duration = Duration::from_secs(20);
+
+/// What a program should write for its input.
+type Writes = fn(&[u8]) -> Vec<u8>;
+
+const LENGTHS: [usize; 7] = [0, 1, 511, 512, 19_456, 19_968, 200_000];
+
+pub fn inspect(program: &Path, seeds: &Seeds, tally: &mut Tally) {
+    records(program, |bytes| lines::inspect(bytes).into_bytes(), seeds, tally);
+}
+
+pub fn verdict(program: &Path, seeds: &Seeds, tally: &mut Tally) {
+    records(program, |bytes| lines::verdict(bytes).into_bytes(), seeds, tally);
+}
+
+fn records(program: &Path, writes: Writes, seeds: &Seeds, tally: &mut Tally) {
+    for length in LENGTHS {
+        one(program, writes, format!("length-{length}"), &vec![0; length], tally);
+    }
+    for sample in samples::records() {
+        one(program, writes, sample.name, &sample.bytes, tally);
+    }
+    seeds.each(tally, |seed, tally| {
+        let Sample { family, bytes } = generate::record(seed);
+        one(program, writes, format!("{seed}-{family}"), &bytes, tally);
+    });
+}
+
+pub fn rehearse(program: &Path, seeds: &Seeds, tally: &mut Tally) {
+    one(program, lines::rehearsal, "empty".to_string(), &[], tally);
+    for sites in 0..=10 {
+        one(program, lines::rehearsal, format!("sites-{sites}"), &[sites], tally);
+        let long = vec![sites; 200_001];
+        one(program, lines::rehearsal, format!("long-{sites}"), &long, tally);
+    }
+    seeds.each(tally, |seed, tally| {
+        let input = super::rehearsal::program_input(&scripts::rehearsal(seed));
+        one(program, lines::rehearsal, seed.to_string(), &input, tally);
+    });
+}
+
+fn one(program: &Path, writes: Writes, name: String, input: &[u8], tally: &mut Tally) {
+    let stem = program.file_stem().unwrap_or_default().to_string_lossy();
+    let case = Case { name: format!("{stem}-{name}"), input };
+    let due = writes(input);
+    match run(program, input) {
+        Err(error) => tally.check(&case, false, || format!("did not run to its end: {error}")),
+        Ok(written) => tally
+            .check(&case, written == due, || format!("second checker {:?}, other {:?}", shown(&due), shown(&written))),
+    }
+}
+
+/// Text as it is; of a record only the beginning.
+fn shown(output: &[u8]) -> String {
+    let start = &output[..output.len().min(300)];
+    format!("{} ({} bytes)", String::from_utf8_lossy(start), output.len())
+}
+
+/// The exit status is not compared, but an end by a signal is a failure.
+fn run(program: &Path, input: &[u8]) -> io::Result<Vec<u8>> {
+    let mut child = Command::new(program).stdin(Stdio::piped()).stdout(Stdio::piped()).spawn()?;
+    let streams = (child.stdin.take().expect("piped"), child.stdout.take().expect("piped"));
+    let output = talk(streams, input.to_vec()).recv_timeout(PATIENCE);
+    if output.is_err() {
+        child.kill()?;
+    }
+    match (output, child.wait()?.code()) {
+        (Err(_), _) => Err(io::Error::other("no end in time")),
+        (_, None) => Err(io::Error::other("ended by a signal")),
+        (Ok(output), Some(_)) => output,
+    }
+}
+
+/// Writes and reads beside the waiting thread, as either may block for good.
+fn talk(streams: (ChildStdin, ChildStdout), input: Vec<u8>) -> Receiver<io::Result<Vec<u8>>> {
+    let (sender, receiver) = channel();
+    let (mut stdin, mut stdout) = streams;
+    thread::spawn(move || {
+        // A program may stop reading once its input is too long.
+        let _ = stdin.write_all(&input);
+        drop(stdin);
+        let mut output = Vec::new();
+        let read = stdout.read_to_end(&mut output);
+        let _ = sender.send(read.map(|_| output));
+    });
+    receiver
+}

@@ -1,0 +1,54 @@
+//! The reading call: result, work slice to the last word, record untouched.
+
+use super::subject::Reader;
+use super::tally::{Case, Tally};
+use super::Seeds;
+use crate::generate::random::Random;
+use crate::generate::{self, Sample};
+use crate::record::seal;
+use crate::samples;
+
+const WORK_LENGTHS: [usize; 4] = [1_024, 1_030, 1_023, 0];
+const RECORD_LENGTHS: [usize; 12] = [0, 1, 511, 512, 513, 1_024, 19_455, 19_456, 19_457, 19_968, 20_480, 65_536];
+
+pub fn compare(subject: &dyn Reader, seeds: &Seeds, tally: &mut Tally) {
+    lengths(subject, tally);
+    for sample in samples::records() {
+        let case = Case { name: format!("reader-{}", sample.name), input: &sample.bytes };
+        one_record(subject, 0, &case, tally);
+    }
+    seeds.each(tally, |seed, tally| {
+        let Sample { family, bytes } = generate::record(seed);
+        let case = Case { name: format!("reader-{seed}-{family}"), input: &bytes };
+        one_record(subject, seed, &case, tally);
+    });
+}
+
+/// Zeros and noise of many lengths, sealed or not.
+fn lengths(subject: &dyn Reader, tally: &mut Tally) {
+    let mut random = Random::new(0);
+    for length in RECORD_LENGTHS {
+        for mut bytes in [vec![0; length], random.noise(length)] {
+            let plain = Case { name: format!("reader-length-{length}"), input: &bytes };
+            one_record(subject, length as u64, &plain, tally);
+            seal(&mut bytes);
+            let sealed = Case { name: format!("reader-sealed-{length}"), input: &bytes };
+            one_record(subject, length as u64, &sealed, tally);
+        }
+    }
+}
+
+fn one_record(subject: &dyn Reader, seed: u64, case: &Case, tally: &mut Tally) {
+    let mut random = Random::new(seed);
+    for words in WORK_LENGTHS {
+        let mut expected: Vec<u64> = (0..words).map(|_| random.next()).collect();
+        let mut work = expected.clone();
+        let given = case.input.to_vec();
+        let result = subject.read(&given, &mut work);
+        let due = crate::reader::read(case.input, &mut expected);
+        tally.equal(case, &format!("result with {words} words"), &due, &result);
+        let differs = work.iter().zip(&expected).position(|(got, due)| got != due);
+        tally.equal(case, &format!("first differing word of {words}"), &None, &differs);
+        tally.same_bytes(case, "record afterwards", case.input, &given);
+    }
+}

@@ -1,0 +1,57 @@
+//! What can be compared: each call as one trait, and two stand-ins for it.
+
+use crate::{baseline, models, reader, store};
+
+pub trait Reader {
+    fn read(&self, record: &[u8], work: &mut [u64]) -> u64;
+}
+
+pub trait Judge {
+    fn judge_model(&self, model: u32, record: &[u8]) -> u64;
+}
+
+pub trait Rehearser {
+    fn rehearse(&self, sites: u32, script: &[u8], record: &mut [u8], answers: &mut [u8]) -> u64;
+}
+
+/// The second checker as its own subject, to try the comparers out.
+pub struct Itself;
+
+/// The fast implementation beside it.
+pub struct Baseline;
+
+impl Reader for Itself {
+    fn read(&self, record: &[u8], work: &mut [u64]) -> u64 {
+        reader::read(record, work)
+    }
+}
+
+impl Judge for Itself {
+    fn judge_model(&self, model: u32, record: &[u8]) -> u64 {
+        models::judge_model(model, record)
+    }
+}
+
+impl Rehearser for Itself {
+    fn rehearse(&self, sites: u32, script: &[u8], record: &mut [u8], answers: &mut [u8]) -> u64 {
+        store::rehearse(sites, script, record, answers).packed()
+    }
+}
+
+impl Reader for Baseline {
+    fn read(&self, record: &[u8], work: &mut [u64]) -> u64 {
+        baseline::reading::read(record, work)
+    }
+}
+
+impl Judge for Baseline {
+    fn judge_model(&self, model: u32, record: &[u8]) -> u64 {
+        baseline::judging::judge_model(model, record)
+    }
+}
+
+impl Rehearser for Baseline {
+    fn rehearse(&self, sites: u32, script: &[u8], record: &mut [u8], answers: &mut [u8]) -> u64 {
+        baseline::rehearsal::rehearse(sites, script, record, answers)
+    }
+}

@@ -1,0 +1,101 @@
+//! One change to a record's events, to step over a predicate's edge.
+
+use super::random::Random;
+use super::shapes::make_pending;
+use crate::record::{Event, Kind, Record};
+
+pub fn one_field(random: &mut Random, record: &mut Record) {
+    match random.below(12) {
+        0..=2 => visible_bit(random, record),
+        3..=4 => swap_positions(random, record),
+        5..=6 => read_value(random, record),
+        _ => {
+            let (n, sites) = (record.events.len(), record.sites as u64);
+            let others: Vec<Event> = record.events.clone();
+            let event = &mut record.events[random.index(n)];
+            field(random, event, sites, &others);
+        }
+    }
+}
+
+fn visible_bit(random: &mut Random, record: &mut Record) {
+    let n = record.events.len();
+    let (a, b) = (random.index(n), random.index(n));
+    // Mostly along arbitration: against it there is soon a ring.
+    let along = record.events[a].position < record.events[b].position;
+    let (a, b) = if along || random.chance(15) { (a, b) } else { (b, a) };
+    record.events[b].visible[a] ^= true;
+}
+
+/// RVal stands last in every model, so its edge needs a share of its own.
+fn read_value(random: &mut Random, record: &mut Record) {
+    let held = |event: &&mut Event| event.is_read() && !event.pending;
+    let mut reads: Vec<&mut Event> = record.events.iter_mut().filter(held).collect();
+    if !reads.is_empty() {
+        let at = random.index(reads.len());
+        reads[at].value = value(random, reads[at]);
+    }
+}
+
+fn swap_positions(random: &mut Random, record: &mut Record) {
+    let n = record.events.len();
+    let (a, b) = (random.index(n), random.index(n));
+    let (at_a, at_b) = (record.events[a].position, record.events[b].position);
+    record.events[a].position = at_b;
+    record.events[b].position = at_a;
+}
+
+fn field(random: &mut Random, event: &mut Event, sites: u64, others: &[Event]) {
+    match random.below(8) {
+        0 => event.site = random.below(sites) as u8,
+        1 => event.object = random.below(3) as u8,
+        2 => event.value = value(random, event),
+        3 => turn_kind(event),
+        4 => turn_state(event),
+        5 => event.end = boundary(random, others).max(event.start),
+        6 => event.start = boundary(random, others).min(event.end),
+        _ => nudge(random, event),
+    }
+}
+
+fn value(random: &mut Random, event: &Event) -> Option<u32> {
+    match event.value {
+        Some(0) if event.is_read() => None,
+        None => Some(random.below(2) as u32),
+        Some(value) => Some(value ^ 1 << random.pick(&[0, 1, 31])),
+    }
+}
+
+fn turn_kind(event: &mut Event) {
+    event.kind = match event.kind {
+        Kind::Read => Kind::Write,
+        Kind::Write => Kind::Read,
+    };
+    if event.is_write() && event.value.is_none() {
+        event.value = Some(0);
+    }
+}
+
+fn turn_state(event: &mut Event) {
+    if event.pending {
+        event.pending = false;
+        event.end = event.start;
+    } else {
+        make_pending(event);
+    }
+}
+
+/// A time on, just before or just after some event's start or return.
+fn boundary(random: &mut Random, others: &[Event]) -> u64 {
+    let other = &others[random.index(others.len())];
+    let time = if random.chance(50) { other.start } else { other.end };
+    random.pick(&[time, time.saturating_sub(1), time.saturating_add(1)])
+}
+
+fn nudge(random: &mut Random, event: &mut Event) {
+    if event.pending || random.chance(50) {
+        event.start = event.start.saturating_sub(1);
+    } else {
+        event.end = event.end.saturating_add(1);
+    }
+}

@@ -1,0 +1,223 @@
+//! Damage that reaches each refusal, sealed again where the question lies deeper.
+
+use super::random::Random;
+use crate::record::*;
+
+type Damage = fn(&mut Random, &mut Vec<u8>);
+
+const DAMAGES: [Damage; 14] = [
+    length,
+    block_check,
+    checks_out_of_range,
+    swapped_blocks,
+    header,
+    header_numbers,
+    block_count,
+    slot_field,
+    slot_field,
+    past_the_events,
+    block_tail,
+    position,
+    visible_set,
+    ring,
+];
+
+pub fn once(random: &mut Random, bytes: &mut Vec<u8>) {
+    random.pick(&DAMAGES)(random, bytes);
+}
+
+/// Flips one bit before the checks, and seals.
+pub fn any_bit(random: &mut Random, bytes: &mut [u8]) {
+    let at = random.index(bytes.len() / BLOCK_BYTES) * BLOCK_BYTES + random.index(CHECKED_BYTES);
+    bytes[at] ^= 1 << random.below(8);
+    seal(bytes);
+}
+
+fn length(random: &mut Random, bytes: &mut Vec<u8>) {
+    let lengths = [0, 1, 511, 512, 513, 1_023, 1_024, 19_455, 19_456, 19_457, 19_968, 20_480, 40_000];
+    let by_one = [bytes.len() + 1, bytes.len().saturating_sub(1), bytes.len() + 512];
+    let length = if random.chance(50) { random.pick(&lengths) } else { random.pick(&by_one) };
+    bytes.resize(length, 0);
+    if random.chance(50) {
+        seal(bytes);
+    }
+}
+
+fn any_block(random: &mut Random, bytes: &[u8]) -> Option<usize> {
+    let blocks = bytes.len() / BLOCK_BYTES;
+    (blocks > 0).then(|| random.index(blocks))
+}
+
+fn block_check(random: &mut Random, bytes: &mut Vec<u8>) {
+    if let Some(block) = any_block(random, bytes) {
+        let within = if random.chance(50) { random.index(BLOCK_BYTES) } else { 508 + random.index(4) };
+        bytes[block * BLOCK_BYTES + within] ^= 1 << random.below(8);
+    }
+}
+
+/// A stored check congruent to the right one, or simply too large.
+fn checks_out_of_range(random: &mut Random, bytes: &mut Vec<u8>) {
+    let Some(block) = any_block(random, bytes) else { return };
+    let at = block * BLOCK_BYTES + random.pick(&[508, 510]);
+    let stored = u16_at(bytes, at);
+    let large = stored.checked_add(65_521).unwrap_or(65_521 + stored % 15);
+    bytes[at..at + 2].copy_from_slice(&large.to_le_bytes());
+}
+
+/// Two whole blocks change places, checks and all.
+fn swapped_blocks(random: &mut Random, bytes: &mut Vec<u8>) {
+    let (Some(a), Some(b)) = (any_block(random, bytes), any_block(random, bytes)) else { return };
+    for within in 0..BLOCK_BYTES {
+        bytes.swap(a * BLOCK_BYTES + within, b * BLOCK_BYTES + within);
+    }
+    if random.chance(30) {
+        seal(bytes);
+    }
+}
+
+fn header(random: &mut Random, bytes: &mut Vec<u8>) {
+    if bytes.len() >= BLOCK_BYTES {
+        let any = 7 + random.index(501);
+        let at = random.pick(&[0, 1, 2, 3, 7, 8, 507, any, any]);
+        bytes[at] ^= 1 << random.below(8);
+        seal(bytes);
+    }
+}
+
+fn header_numbers(random: &mut Random, bytes: &mut Vec<u8>) {
+    if bytes.len() < BLOCK_BYTES {
+        return;
+    }
+    if random.chance(50) {
+        bytes[6] = random.pick(&[0, 1, 7, 8, 9, 16, 255]);
+    } else {
+        let n = random.pick(&[0, 1, 255, 256, 257, 257, 257, 258, 512, 0x8000, 0xffff]);
+        set_event_count(bytes, n);
+    }
+    seal(bytes);
+}
+
+fn set_event_count(bytes: &mut [u8], n: u16) {
+    bytes[4..6].copy_from_slice(&n.to_le_bytes());
+}
+
+/// Blocks too many or too few for n, or n moved over a block's edge.
+fn block_count(random: &mut Random, bytes: &mut Vec<u8>) {
+    let whole = bytes.len() / BLOCK_BYTES * BLOCK_BYTES;
+    match random.below(3) {
+        0 => bytes.resize(whole + BLOCK_BYTES, 0),
+        1 => bytes.truncate(whole.saturating_sub(BLOCK_BYTES)),
+        _ if whole == 0 => return,
+        _ => {
+            let moved = random.pick(&[-7, -1, 1, 7]) + event_count(bytes) as i32;
+            set_event_count(bytes, moved.clamp(0, 300) as u16);
+        }
+    }
+    seal(bytes);
+}
+
+fn any_slot(random: &mut Random, bytes: &[u8], below: usize) -> Option<usize> {
+    let slots = BLOCK_SLOTS * (bytes.len() / BLOCK_BYTES).saturating_sub(1);
+    let count = slots.min(below);
+    (count > 0).then(|| random.index(count))
+}
+
+fn any_event(random: &mut Random, bytes: &[u8]) -> Option<usize> {
+    let n = if bytes.len() < BLOCK_BYTES { 0 } else { event_count(bytes) };
+    any_slot(random, bytes, n)
+}
+
+fn slot_field(random: &mut Random, bytes: &mut Vec<u8>) {
+    let Some(event) = any_event(random, bytes) else { return };
+    let sites = bytes[6];
+    let slot = slot_mut(bytes, event);
+    match random.below(9) {
+        0 => slot[0] = random.pick(&[2, 3, 128, 255, 1, 0]),
+        1 => slot[1] = random.pick(&[sites, sites.wrapping_add(1), 8, 255]),
+        2 => slot[3] = random.pick(&[2, 128, 255, 1, 0]),
+        3 => slot[8] = random.pick(&[2, 255, 0, 1]),
+        4 => slot[random.pick(&[9, 12, 13, 14, 15])] = 1 << random.below(8),
+        5 => slot[24..32].copy_from_slice(&random.pick(&[0u64, 1, u64::MAX]).to_le_bytes()),
+        6 => return_before_start(slot),
+        7 => pending_with_value(random, slot),
+        _ => (slot[8], slot[4 + random.index(4)]) = (0, 1 << random.below(8)),
+    }
+    seal(bytes);
+}
+
+/// Just below the start, where the start allows it.
+fn return_before_start(slot: &mut [u8]) {
+    let start = u64_at(slot, 16).max(1);
+    slot[16..24].copy_from_slice(&start.to_le_bytes());
+    slot[24..32].copy_from_slice(&(start - 1).to_le_bytes());
+}
+
+/// Right for a write, wrong for a read.
+fn pending_with_value(random: &mut Random, slot: &mut [u8]) {
+    slot[0] = random.pick(&[0, 0, 1]);
+    (slot[3], slot[8]) = (1, 1);
+    slot[24..32].fill(0);
+}
+
+fn past_the_events(random: &mut Random, bytes: &mut Vec<u8>) {
+    if let Some(slot) = any_slot(random, bytes, usize::MAX) {
+        let n = event_count(bytes);
+        let last = BLOCK_SLOTS * (bytes.len() / BLOCK_BYTES - 1);
+        let slot = if n < last { n + random.index(last - n) } else { slot };
+        slot_mut(bytes, slot)[random.index(SLOT_BYTES)] = 1 << random.below(8);
+        seal(bytes);
+    }
+}
+
+fn block_tail(random: &mut Random, bytes: &mut Vec<u8>) {
+    match any_block(random, bytes) {
+        None | Some(0) => {}
+        Some(block) => {
+            let any = SLOTS_END + random.index(60);
+            let within = random.pick(&[SLOTS_END, CHECKED_BYTES - 1, any]);
+            bytes[block * BLOCK_BYTES + within] ^= 1 << random.below(8);
+            seal(bytes);
+        }
+    }
+}
+
+fn position(random: &mut Random, bytes: &mut Vec<u8>) {
+    let (Some(event), Some(other)) = (any_event(random, bytes), any_event(random, bytes)) else { return };
+    let n = event_count(bytes) as u16;
+    let equal = u16_at(slot(bytes, other), 10);
+    let position = random.pick(&[equal, equal, equal, n, n.wrapping_add(1), 256, u16::MAX]);
+    slot_mut(bytes, event)[10..12].copy_from_slice(&position.to_le_bytes());
+    seal(bytes);
+}
+
+fn set_visible(bytes: &mut [u8], a: usize, b: usize) {
+    slot_mut(bytes, b)[32 + a / 8] |= 1 << (a % 8);
+}
+
+fn visible_set(random: &mut Random, bytes: &mut Vec<u8>) {
+    let Some(event) = any_event(random, bytes) else { return };
+    let n = event_count(bytes).min(MOST_EVENTS);
+    let seen = match random.below(3) {
+        _ if n == MOST_EVENTS => event,
+        0 => event,
+        1 => n,
+        _ => n + random.index(MOST_EVENTS - n),
+    };
+    set_visible(bytes, seen, event);
+    seal(bytes);
+}
+
+/// A ring of two or more events, through what is visible already or not.
+fn ring(random: &mut Random, bytes: &mut Vec<u8>) {
+    let Some(first) = any_event(random, bytes) else { return };
+    let mut from = first;
+    for _ in 0..1 + random.below(4) {
+        let Some(to) = any_event(random, bytes).filter(|&to| to != from) else { break };
+        set_visible(bytes, from, to);
+        from = to;
+    }
+    if from != first {
+        set_visible(bytes, from, first);
+    }
+    seal(bytes);
+}

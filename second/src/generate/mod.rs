@@ -1,0 +1,111 @@
+//! Inputs by seed: the same seed always gives the same input.
+
+pub mod change;
+pub mod damage;
+pub mod meeting;
+pub mod random;
+pub mod scripts;
+pub mod shapes;
+
+use crate::models::MODELS;
+use crate::record::MOST_EVENTS;
+use random::Random;
+
+/// A record's bytes with a name for the family it comes from.
+pub struct Sample {
+    pub family: &'static str,
+    pub bytes: Vec<u8>,
+}
+
+type Family = fn(&mut Random) -> Vec<u8>;
+
+/// Each family with its share of a hundred seeds.
+const FAMILIES: [(u64, &str, Family); 7] = [
+    (30, "small", small),
+    (28, "edge", edge),
+    (24, "damaged", damaged),
+    (6, "bit", one_bit),
+    (4, "large", large),
+    (4, "large-edge", large_edge),
+    (4, "rehearsed", rehearsed),
+];
+
+pub fn record(seed: u64) -> Sample {
+    let mut random = Random::new(seed);
+    let mut draw = random.below(100);
+    for (share, family, make) in FAMILIES {
+        if draw < share {
+            return Sample { family, bytes: make(&mut random) };
+        }
+        draw -= share;
+    }
+    unreachable!("the shares make a hundred")
+}
+
+fn small(random: &mut Random) -> Vec<u8> {
+    let n = random.below(7) as usize;
+    shapes::record(random, n).to_bytes()
+}
+
+fn large(random: &mut Random) -> Vec<u8> {
+    let n = large_count(random);
+    shapes::record(random, n).to_bytes()
+}
+
+/// Whole blocks, one more, one less, and anything between.
+fn large_count(random: &mut Random) -> usize {
+    if random.chance(25) {
+        return MOST_EVENTS - random.below(6) as usize;
+    }
+    7 + random.below(MOST_EVENTS as u64 - 6) as usize
+}
+
+fn edge(random: &mut Random) -> Vec<u8> {
+    let n = 1 + random.below(9) as usize;
+    edge_of(random, n)
+}
+
+fn large_edge(random: &mut Random) -> Vec<u8> {
+    let n = large_count(random);
+    edge_of(random, n)
+}
+
+/// Meets a predicate or a model, but for one changed field or bit.
+fn edge_of(random: &mut Random, n: usize) -> Vec<u8> {
+    let predicates = match random.chance(50) {
+        true => &[1 + random.below(13) as u32],
+        false => random.pick(&MODELS),
+    };
+    let mut record = meeting::record(random, n, predicates);
+    if random.chance(90) {
+        change::one_field(random, &mut record);
+    }
+    record.to_bytes()
+}
+
+fn damaged(random: &mut Random) -> Vec<u8> {
+    let n = if random.chance(80) { random.below(24) as usize } else { large_count(random) };
+    let mut bytes = shapes::record(random, n).to_bytes();
+    for _ in 0..1 + random.below(5) / 3 {
+        damage::once(random, &mut bytes);
+    }
+    bytes
+}
+
+fn one_bit(random: &mut Random) -> Vec<u8> {
+    let n = random.below(10) as usize;
+    let mut bytes = shapes::record(random, n).to_bytes();
+    damage::any_bit(random, &mut bytes);
+    bytes
+}
+
+fn rehearsed(random: &mut Random) -> Vec<u8> {
+    let (sites, script) = scripts::plausible(random);
+    let mut answers = vec![0; script.len()];
+    let store = crate::store::run_script(sites as usize, &script, &mut answers);
+    let mut record = store.record();
+    if random.chance(50) && !record.events.is_empty() {
+        change::one_field(random, &mut record);
+    }
+    record.to_bytes()
+}

@@ -1,0 +1,144 @@
+//! Scripts for the store, with refused calls of every number among them.
+
+use super::random::Random;
+use crate::store::{Call, Store, CALL_BYTES, OBJECTS};
+
+/// How a script is mixed, in shares of a hundred calls.
+struct Mix {
+    calls: usize,
+    sites: usize,
+    objects: usize,
+    puts: u64,
+    deliveries: u64,
+    refused: u64,
+}
+
+/// What a rehearsal is called with.
+pub struct Rehearsal {
+    pub sites: u32,
+    pub script: Vec<u8>,
+    pub record_bytes: usize,
+    pub answer_bytes: usize,
+}
+
+/// A rehearsal that mostly runs; the rest are refused by 20 to 23.
+pub fn rehearsal(seed: u64) -> Rehearsal {
+    let mut random = Random::new(seed);
+    let (sites, script) = plausible(&mut random);
+    let mut rehearsal = Rehearsal {
+        sites,
+        record_bytes: 19_456 + random.pick(&[0, 0, 1, 300]),
+        answer_bytes: script.len() + random.pick(&[0, 0, 1, 7, 8, 64]),
+        script,
+    };
+    for _ in 0..random.pick(&[0, 0, 0, 0, 0, 0, 0, 0, 1, 2]) {
+        spoil(&mut random, &mut rehearsal);
+    }
+    rehearsal
+}
+
+fn spoil(random: &mut Random, rehearsal: &mut Rehearsal) {
+    match random.below(4) {
+        0 => rehearsal.sites = random.pick(&[0, 9, 255, 256, 257, u32::MAX]),
+        1 => {
+            let length = random.pick(&[1, 7, 9, 32_760, 32_767, 32_769, 32_776, 40_000]);
+            rehearsal.script.resize(length, 0);
+            rehearsal.answer_bytes = rehearsal.answer_bytes.max(length);
+        }
+        2 => rehearsal.record_bytes = random.pick(&[0, 512, 19_455]),
+        _ => rehearsal.answer_bytes = rehearsal.script.len().saturating_sub(1 + random.index(16)),
+    }
+}
+
+/// A site count and a script that the rehearsal runs.
+pub fn plausible(random: &mut Random) -> (u32, Vec<u8>) {
+    let calls = match random.below(20) {
+        0 => 4_096,
+        1..=3 => random.index(4_097),
+        4..=8 => random.index(300),
+        _ => random.index(40),
+    };
+    let mix = Mix {
+        calls,
+        sites: 1 + random.index(8),
+        objects: random.pick(&[1, 2, OBJECTS]),
+        puts: random.pick(&[20, 50, 80]),
+        deliveries: random.pick(&[0, 30, 60, 90]),
+        refused: random.pick(&[0, 3, 20, 60]),
+    };
+    (mix.sites as u32, script(random, &mix))
+}
+
+/// Puts and gets in turn over the sites until the store is full, every put
+/// delivered everywhere it may go: the longest plain day.
+pub fn full_day(seed: u64, sites: usize) -> Vec<u8> {
+    let mix = Mix { calls: 4_096, sites, objects: OBJECTS, puts: 60, deliveries: 85, refused: 0 };
+    script(&mut Random::new(seed), &mix)
+}
+
+fn script(random: &mut Random, mix: &Mix) -> Vec<u8> {
+    let mut store = Store::new(mix.sites);
+    let mut script = Vec::with_capacity(mix.calls * CALL_BYTES);
+    for _ in 0..mix.calls {
+        let call = call(random, mix, &store);
+        store.call(&call);
+        script.extend(call);
+    }
+    script
+}
+
+fn call(random: &mut Random, mix: &Mix, store: &Store) -> [u8; CALL_BYTES] {
+    if random.chance(mix.refused) {
+        return spoilt(random, mix, store);
+    }
+    if random.chance(mix.deliveries) && store.events() > 0 {
+        return delivery(random, mix, store).to_bytes();
+    }
+    event(random, mix).to_bytes()
+}
+
+fn event(random: &mut Random, mix: &Mix) -> Call {
+    let (site, object) = (random.index(mix.sites), random.index(mix.objects));
+    if random.chance(mix.puts) {
+        let any = random.next() as u32;
+        let value = random.pick(&[0, 1, 7, u32::MAX, any]);
+        Call::Put { site, object, value }
+    } else {
+        Call::Get { site, object }
+    }
+}
+
+/// Often one that can be done now, else whatever was drawn: late, repeated or
+/// out of turn.
+fn delivery(random: &mut Random, mix: &Mix, store: &Store) -> Call {
+    let site = random.index(mix.sites);
+    let drawn = Call::Deliver { site, event: random.index(store.events()) };
+    if random.chance(40) {
+        return drawn;
+    }
+    let mut in_turn = (0..store.events()).map(|event| Call::Deliver { site, event });
+    in_turn.find(|&call| store.first_no(call).is_none()).unwrap_or(drawn)
+}
+
+/// A call that one of 31 to 36 is likely to refuse.
+fn spoilt(random: &mut Random, mix: &Mix, store: &Store) -> [u8; CALL_BYTES] {
+    let events = store.events();
+    let mut call = match events {
+        0 => event(random, mix),
+        _ if random.chance(40) => delivery(random, mix, store),
+        _ => event(random, mix),
+    }
+    .to_bytes();
+    match random.below(9) {
+        0 => call[0] = random.pick(&[0, 4, 5, 6, 255]),
+        1 => call[3] = 1 << random.below(8),
+        2 => call[4 + random.index(4)] ^= 1 << random.below(8),
+        3 => call[1] = random.pick(&[mix.sites as u8, 8, 255]),
+        4 => call[2] = random.pick(&[31, 32, 33, 255]),
+        5 => call = Call::Deliver { site: random.index(mix.sites), event: events }.to_bytes(),
+        6 => call = Call::Deliver { site: random.index(9), event: random.index(65_536) }.to_bytes(),
+        7 => call.copy_from_slice(&random.noise(CALL_BYTES)),
+        _ => call[0] = 3,
+    }
+    call
+}

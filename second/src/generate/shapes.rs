@@ -1,0 +1,145 @@
+//! Records of every shape that pass the questions, whatever they break.
+
+use super::random::Random;
+use crate::record::{Event, Kind, Record, MOST_EVENTS};
+
+const DENSITIES: [u64; 6] = [0, 8, 30, 60, 92, 100];
+
+pub fn record(random: &mut Random, n: usize) -> Record {
+    let sites = site_count(random);
+    let mut record = Record::in_order(sites, (0..n).map(|_| event(random, sites)).collect());
+    times(random, &mut record);
+    positions(random, &mut record);
+    visibility(random, &mut record);
+    values(random, &mut record);
+    record
+}
+
+pub fn site_count(random: &mut Random) -> u8 {
+    if random.chance(80) {
+        random.pick(&[1, 2, 2, 3])
+    } else {
+        1 + random.below(8) as u8
+    }
+}
+
+fn event(random: &mut Random, sites: u8) -> Event {
+    let site = random.below(sites as u64) as u8;
+    let object = random.pick(&[0, 0, 0, 1, 1, 255]);
+    let value = random.pick(&[0, 1, 2, u32::MAX]);
+    if random.chance(50) {
+        Event::write(site, object, value)
+    } else {
+        Event::read(site, object, random.chance(50).then_some(value))
+    }
+}
+
+/// Start and length of each event; small ranges make ends meet starts.
+fn times(random: &mut Random, record: &mut Record) {
+    let n = record.events.len() as u64;
+    let style = random.below(6);
+    let pending = random.pick(&[0, 0, 15, 50]);
+    for (k, event) in (0u64..).zip(record.events.iter_mut()) {
+        let (start, end) = span(random, style, k, n);
+        (event.start, event.end) = (start, end);
+        if random.chance(pending) {
+            make_pending(event);
+        }
+    }
+}
+
+fn span(random: &mut Random, style: u64, k: u64, n: u64) -> (u64, u64) {
+    let from = |start: u64, length: u64| (start, start.saturating_add(length));
+    match style {
+        0 => from(random.below(6), random.below(4)),
+        1 => from(2 * k, 1),
+        2 => from(3 * k, random.below(9)),
+        3 => from(u64::MAX - random.below(4), random.below(3)),
+        4 => from(random.below(3 * n + 1), random.below(n + 1)),
+        _ => from(2 * (n - k), random.below(3)),
+    }
+}
+
+pub fn make_pending(event: &mut Event) {
+    event.pending = true;
+    event.end = 0;
+    if event.kind == Kind::Read {
+        event.value = None;
+    }
+}
+
+fn positions(random: &mut Random, record: &mut Record) {
+    let n = record.events.len();
+    let mut order = match random.chance(25) {
+        true => random.order(n),
+        false => hidden_order(random, record),
+    };
+    // A nearly sorted arbitration breaks fewer predicates at once.
+    if n > 1 && random.chance(40) {
+        let at = random.index(n - 1);
+        order.swap(at, at + 1);
+    }
+    for (position, &event) in order.iter().enumerate() {
+        record.events[event].position = position as u16;
+    }
+}
+
+/// An order of the events: as numbered, by start, by position or random.
+fn hidden_order(random: &mut Random, record: &Record) -> Vec<usize> {
+    let n = record.events.len();
+    let mut order: Vec<usize> = (0..n).collect();
+    match random.below(4) {
+        0 => {}
+        1 => order.sort_by_key(|&event| record.events[event].start),
+        2 => order.sort_by_key(|&event| record.events[event].position),
+        _ => order = random.order(n),
+    }
+    order
+}
+
+/// Visibility along some order, so that there is no ring.
+fn visibility(random: &mut Random, record: &mut Record) {
+    let order = hidden_order(random, record);
+    if random.chance(20) {
+        return chain(random, record, &order);
+    }
+    let density = random.pick(&DENSITIES);
+    let own_site = random.pick(&DENSITIES).max(density);
+    for (rank, &b) in order.iter().enumerate() {
+        for &a in &order[..rank] {
+            let same = record.events[a].site == record.events[b].site;
+            record.events[b].visible[a] = random.chance(if same { own_site } else { density });
+        }
+    }
+}
+
+/// Each event sees little more than the one before it, so that hb needs many
+/// steps where vis has few.
+fn chain(random: &mut Random, record: &mut Record, order: &[usize]) {
+    for (rank, &b) in order.iter().enumerate() {
+        for &a in order[..rank].iter().rev().take(1 + random.index(2)) {
+            record.events[b].visible[a] = random.chance(90);
+        }
+    }
+}
+
+/// Mostly right values, so that RVal is often met or breaks late.
+fn values(random: &mut Random, record: &mut Record) {
+    let right = random.pick(&[0, 60, 97, 100]);
+    for event in 0..record.events.len() {
+        if random.chance(right) {
+            hold_right_value(record, event);
+        }
+    }
+}
+
+/// Gives a returned read the value of the last visible write of its object.
+pub fn hold_right_value(record: &mut Record, event: usize) {
+    let read = &record.events[event];
+    if read.is_read() && !read.pending {
+        let seen = (0..record.events.len().min(MOST_EVENTS)).filter(|&w| read.visible[w]);
+        let writes = seen.map(|w| &record.events[w]).filter(|w| w.is_write() && w.object == read.object);
+        let value = writes.max_by_key(|write| write.position).and_then(|write| write.value);
+        record.events[event].value = value;
+    }
+}

@@ -1,0 +1,15 @@
+//! The second checker: a literal reading of document 01, generators of
+//! records and scripts, comparers, and a baseline for speed.
+
+pub mod baseline;
+pub mod compare;
+pub mod generate;
+pub mod lines;
+pub mod models;
+pub mod predicates;
+pub mod questions;
+pub mod reader;
+pub mod record;
+pub mod relations;
+pub mod samples;
+pub mod store;

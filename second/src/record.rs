@@ -1,0 +1,213 @@
+//! The record as document 01 lays it out: events, slots, blocks and their checks.
+
+pub const BLOCK_BYTES: usize = 512;
+pub const CHECKED_BYTES: usize = 508;
+pub const SLOT_BYTES: usize = 64;
+pub const BLOCK_SLOTS: usize = 7;
+pub const SLOTS_END: usize = BLOCK_SLOTS * SLOT_BYTES;
+pub const MOST_EVENTS: usize = 256;
+pub const MOST_SITES: usize = 8;
+pub const MOST_BYTES: usize = 19_456;
+pub const LETTERS: &[u8; 4] = b"GCR1";
+
+#[derive(Clone, Copy, Debug, PartialEq, Eq)]
+pub enum Kind {
+    Read,
+    Write,
+}
+
+pub type EventSet = [bool; MOST_EVENTS];
+
+#[derive(Clone, Debug, PartialEq, Eq)]
+pub struct Event {
+    pub kind: Kind,
+    pub site: u8,
+    pub object: u8,
+    pub pending: bool,
+    pub value: Option<u32>,
+    pub position: u16,
+    pub start: u64,
+    pub end: u64,
+    /// The events visible to this one.
+    pub visible: EventSet,
+}
+
+#[derive(Clone, Debug, PartialEq, Eq)]
+pub struct Record {
+    pub sites: u8,
+    pub events: Vec<Event>,
+}
+
+impl Event {
+    fn new(kind: Kind, site: u8, object: u8, value: Option<u32>) -> Event {
+        Event {
+            kind,
+            site,
+            object,
+            pending: false,
+            value,
+            position: 0,
+            start: 0,
+            end: 0,
+            visible: [false; MOST_EVENTS],
+        }
+    }
+
+    pub fn write(site: u8, object: u8, value: u32) -> Event {
+        Event::new(Kind::Write, site, object, Some(value))
+    }
+
+    pub fn read(site: u8, object: u8, value: Option<u32>) -> Event {
+        Event::new(Kind::Read, site, object, value)
+    }
+
+    pub fn at(mut self, start: u64, end: u64) -> Event {
+        self.start = start;
+        self.end = end;
+        self
+    }
+
+    pub fn pending_from(mut self, start: u64) -> Event {
+        self.pending = true;
+        self.at(start, 0)
+    }
+
+    pub fn sees(mut self, events: &[usize]) -> Event {
+        for &event in events {
+            self.visible[event] = true;
+        }
+        self
+    }
+
+    pub fn is_read(&self) -> bool {
+        self.kind == Kind::Read
+    }
+
+    pub fn is_write(&self) -> bool {
+        self.kind == Kind::Write
+    }
+
+    pub fn to_slot(&self) -> [u8; SLOT_BYTES] {
+        let mut slot = [0; SLOT_BYTES];
+        slot[0] = self.is_write() as u8;
+        slot[1] = self.site;
+        slot[2] = self.object;
+        slot[3] = self.pending as u8;
+        slot[4..8].copy_from_slice(&self.value.unwrap_or(0).to_le_bytes());
+        slot[8] = self.value.is_some() as u8;
+        slot[10..12].copy_from_slice(&self.position.to_le_bytes());
+        slot[16..24].copy_from_slice(&self.start.to_le_bytes());
+        slot[24..32].copy_from_slice(&self.end.to_le_bytes());
+        for event in (0..MOST_EVENTS).filter(|&event| self.visible[event]) {
+            slot[32 + event / 8] |= 1 << (event % 8);
+        }
+        slot
+    }
+
+    /// Reads a slot that is as laid out.
+    pub fn from_slot(slot: &[u8]) -> Event {
+        let value = (slot[8] == 1).then(|| u32_at(slot, 4));
+        let kind = if slot[0] == 1 { Kind::Write } else { Kind::Read };
+        let mut event = Event::new(kind, slot[1], slot[2], value).at(u64_at(slot, 16), u64_at(slot, 24));
+        event.pending = slot[3] == 1;
+        event.position = u16_at(slot, 10);
+        event.visible = visible_of(slot);
+        event
+    }
+}
+
+impl Record {
+    /// Events in arbitration order as given.
+    pub fn in_order(sites: u8, events: Vec<Event>) -> Record {
+        let mut record = Record { sites, events };
+        for (position, event) in record.events.iter_mut().enumerate() {
+            event.position = position as u16;
+        }
+        record
+    }
+
+    pub fn with_positions(mut self, positions: &[u16]) -> Record {
+        for (event, &position) in self.events.iter_mut().zip(positions) {
+            event.position = position;
+        }
+        self
+    }
+
+    pub fn to_bytes(&self) -> Vec<u8> {
+        let mut bytes = vec![0; BLOCK_BYTES * blocks_for(self.events.len())];
+        bytes[0..4].copy_from_slice(LETTERS);
+        bytes[4..6].copy_from_slice(&(self.events.len() as u16).to_le_bytes());
+        bytes[6] = self.sites;
+        for (number, event) in self.events.iter().enumerate() {
+            slot_mut(&mut bytes, number).copy_from_slice(&event.to_slot());
+        }
+        seal(&mut bytes);
+        bytes
+    }
+
+    /// Reads a record that passes questions 3 to 7.
+    pub fn from_bytes(bytes: &[u8]) -> Record {
+        let events = (0..event_count(bytes)).map(|number| Event::from_slot(slot(bytes, number)));
+        Record { sites: bytes[6], events: events.collect() }
+    }
+}
+
+pub fn u16_at(bytes: &[u8], at: usize) -> u16 {
+    u16::from_le_bytes([bytes[at], bytes[at + 1]])
+}
+
+pub fn u32_at(bytes: &[u8], at: usize) -> u32 {
+    u32::from_le_bytes(bytes[at..at + 4].try_into().expect("four bytes"))
+}
+
+pub fn u64_at(bytes: &[u8], at: usize) -> u64 {
+    u64::from_le_bytes(bytes[at..at + 8].try_into().expect("eight bytes"))
+}
+
+pub fn event_count(bytes: &[u8]) -> usize {
+    u16_at(bytes, 4) as usize
+}
+
+pub fn blocks_for(events: usize) -> usize {
+    1 + events.div_ceil(BLOCK_SLOTS)
+}
+
+/// The byte at which a slot begins.
+pub fn slot_start(number: usize) -> usize {
+    BLOCK_BYTES * (1 + number / BLOCK_SLOTS) + SLOT_BYTES * (number % BLOCK_SLOTS)
+}
+
+pub fn slot(bytes: &[u8], number: usize) -> &[u8] {
+    &bytes[slot_start(number)..][..SLOT_BYTES]
+}
+
+pub fn slot_mut(bytes: &mut [u8], number: usize) -> &mut [u8] {
+    &mut bytes[slot_start(number)..][..SLOT_BYTES]
+}
+
+pub fn visible_of(slot: &[u8]) -> EventSet {
+    std::array::from_fn(|event| slot[32 + event / 8] >> (event % 8) & 1 == 1)
+}
+
+/// A and B of a block, word by word as the paper tells them.
+pub fn check(number: usize, block: &[u8]) -> (u32, u32) {
+    let (mut a, mut b) = (number as u32 + 1, 0);
+    for word in 0..CHECKED_BYTES / 2 {
+        a = (a + u16_at(block, 2 * word) as u32) % 65_521;
+        b = (b + a) % 65_521;
+    }
+    (a, b)
+}
+
+pub fn stored_check(block: &[u8]) -> (u32, u32) {
+    (u16_at(block, 508) as u32, u16_at(block, 510) as u32)
+}
+
+/// Writes every whole block's check; a part of a block at the end stays.
+pub fn seal(bytes: &mut [u8]) {
+    for (number, block) in bytes.chunks_exact_mut(BLOCK_BYTES).enumerate() {
+        let (a, b) = check(number, block);
+        block[508..510].copy_from_slice(&(a as u16).to_le_bytes());
+        block[510..512].copy_from_slice(&(b as u16).to_le_bytes());
+    }
+}

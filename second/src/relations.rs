@@ -1,0 +1,88 @@
+//! The relations between events, as sets of pairs.
+
+use crate::record::{Event, Record};
+
+#[derive(Clone, Debug, PartialEq, Eq)]
+pub struct Pairs {
+    events: usize,
+    holds: Vec<bool>,
+}
+
+impl Pairs {
+    pub fn such_that(events: usize, holds: impl Fn(usize, usize) -> bool) -> Pairs {
+        let all = (0..events).flat_map(|a| (0..events).map(move |b| (a, b)));
+        Pairs { events, holds: all.map(|(a, b)| holds(a, b)).collect() }
+    }
+
+    pub fn has(&self, a: usize, b: usize) -> bool {
+        self.holds[a * self.events + b]
+    }
+
+    /// All (a, b) with a path of one or more steps from a to b.
+    pub fn one_or_more_steps(&self) -> Pairs {
+        let after = |b| (0..self.events).filter(|&c| self.has(b, c)).collect();
+        let after: Vec<Vec<usize>> = (0..self.events).map(after).collect();
+        let mut reached = Pairs::such_that(self.events, |_, _| false);
+        for a in 0..self.events {
+            reached.walk_from(a, &after);
+        }
+        reached
+    }
+
+    fn walk_from(&mut self, a: usize, after: &[Vec<usize>]) {
+        let mut to_leave = vec![a];
+        while let Some(b) = to_leave.pop() {
+            for &c in &after[b] {
+                let reached = &mut self.holds[a * self.events + c];
+                if !*reached {
+                    *reached = true;
+                    to_leave.push(c);
+                }
+            }
+        }
+    }
+
+    /// The pairs of these that a condition keeps.
+    pub fn cut(&self, keep: impl Fn(usize, usize) -> bool) -> Pairs {
+        Pairs::such_that(self.events, |a, b| self.has(a, b) && keep(a, b))
+    }
+
+    /// Lowest a, and for it the lowest b, here but not in the other set.
+    pub fn first_outside(&self, other: &Pairs) -> Option<(usize, usize)> {
+        let first = (0..self.holds.len()).find(|&at| self.holds[at] && !other.holds[at])?;
+        Some((first / self.events, first % self.events))
+    }
+}
+
+pub struct Relations {
+    pub rb: Pairs,
+    pub ob: Pairs,
+    pub so: Pairs,
+    pub vis: Pairs,
+    pub ar: Pairs,
+    pub hb: Pairs,
+}
+
+/// a returned before b.
+pub fn returned_before(a: &Event, b: &Event) -> bool {
+    !a.pending && a.end < b.start
+}
+
+impl Relations {
+    pub fn of(record: &Record) -> Relations {
+        let events = &record.events;
+        let n = events.len();
+        let rb = Pairs::such_that(n, |a, b| returned_before(&events[a], &events[b]));
+        let so = rb.cut(|a, b| events[a].site == events[b].site);
+        let vis = Pairs::such_that(n, |a, b| events[b].visible[a]);
+        let step = Pairs::such_that(n, |a, b| so.has(a, b) || vis.has(a, b));
+        Relations {
+            ob: Pairs::such_that(n, |a, b| events[a].object == events[b].object),
+            ar: Pairs::such_that(n, |a, b| events[a].position < events[b].position),
+            hb: step.one_or_more_steps(),
+            rb,
+            so,
+            vis,
+        }
+    }
+}

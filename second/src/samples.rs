@@ -1,0 +1,121 @@
+//! Named sample inputs, always the same.
+
+use crate::record::*;
+use crate::store::{run_script, Call};
+
+pub struct Sample {
+    pub name: String,
+    pub bytes: Vec<u8>,
+}
+
+pub fn samples() -> Vec<Sample> {
+    let mut all = vec![Sample::new("empty-one-site", Record { sites: 1, events: vec![] }.to_bytes())];
+    for n in [1, 7, 8, 255, 256] {
+        all.push(Sample::new(&format!("in-turn-{n}"), in_turn(n).to_bytes()));
+    }
+    all.extend(refused());
+    all.push(Sample::new("stale-read", stale_read().to_bytes()));
+    all.push(Sample::new("stale-value", stale_value().to_bytes()));
+    let script = listing_script();
+    all.push(Sample::new("listing", run_script(2, &script, &mut vec![0; script.len()]).record().to_bytes()));
+    all.push(Sample { name: "listing.script".to_string(), bytes: [vec![2], script].concat() });
+    all
+}
+
+/// The samples that are records.
+pub fn records() -> impl Iterator<Item = Sample> {
+    samples().into_iter().filter(|sample| sample.name.ends_with(".gcr"))
+}
+
+impl Sample {
+    fn new(name: &str, bytes: Vec<u8>) -> Sample {
+        Sample { name: format!("{name}.gcr"), bytes }
+    }
+}
+
+/// One site, a write and a read in turn, each event seeing all before it:
+/// every predicate is met.
+pub fn in_turn(n: usize) -> Record {
+    let event = |k: usize| {
+        let start = 2 * k as u64;
+        let event = match k % 2 {
+            0 => Event::write(0, 0, k as u32),
+            _ => Event::read(0, 0, Some(k as u32 - 1)),
+        };
+        event.at(start, start + 1).sees(&(0..k).collect::<Vec<_>>())
+    };
+    Record::in_order(1, (0..n).map(event).collect())
+}
+
+/// The second read of a site has lost sight of the write that its first saw.
+fn stale_read() -> Record {
+    let events = vec![
+        Event::write(0, 0, 7).at(0, 1),
+        Event::read(1, 0, Some(7)).at(2, 3).sees(&[0]),
+        Event::read(1, 0, None).at(4, 5).sees(&[1]),
+    ];
+    Record::in_order(2, events)
+}
+
+/// The read sees both writes and holds the older one's value.
+fn stale_value() -> Record {
+    let events = vec![
+        Event::write(0, 0, 7).at(0, 1),
+        Event::write(0, 0, 8).at(2, 3).sees(&[0]),
+        Event::read(0, 0, Some(7)).at(4, 5).sees(&[0, 1]),
+    ];
+    Record::in_order(1, events)
+}
+
+/// The paper's script of two sites.
+pub fn listing_script() -> Vec<u8> {
+    let calls = [
+        Call::Put { site: 0, object: 5, value: 100 },
+        Call::Put { site: 1, object: 5, value: 200 },
+        Call::Deliver { site: 1, event: 0 },
+        Call::Get { site: 1, object: 5 },
+        Call::Get { site: 0, object: 5 },
+        Call::Deliver { site: 0, event: 1 },
+        Call::Get { site: 0, object: 5 },
+    ];
+    calls.into_iter().flat_map(Call::to_bytes).collect()
+}
+
+/// Each refusal, at a low and a high place where it has more than one.
+fn refused() -> Vec<Sample> {
+    let full = |name, change: fn(&mut Vec<u8>)| changed(name, 256, change);
+    vec![
+        Sample::new("refused-3-short", vec![0; 511]),
+        Sample::new("refused-3-long", vec![0; MOST_BYTES + BLOCK_BYTES]),
+        unsealed("refused-4-low", 0),
+        unsealed("refused-4-high", 37),
+        full("refused-5-n-257", |bytes| bytes[4] = 1),
+        full("refused-5-sites-9", |bytes| bytes[6] = 9),
+        full("refused-5-last-byte", |bytes| bytes[507] = 1),
+        full("refused-6-too-few", |bytes| bytes.truncate(37 * BLOCK_BYTES)),
+        changed("refused-6-too-many", 7, |bytes| bytes.resize(3 * BLOCK_BYTES, 0)),
+        full("refused-7-low", |bytes| slot_mut(bytes, 0)[0] = 2),
+        full("refused-7-high", |bytes| slot_mut(bytes, 255)[15] = 1),
+        full("refused-7-tail", |bytes| bytes[37 * BLOCK_BYTES + 507] = 1),
+        full("refused-8-low", |bytes| slot_mut(bytes, 0)[11] = 1),
+        full("refused-8-high", |bytes| slot_mut(bytes, 255)[10] = 254),
+        full("refused-9-low", |bytes| slot_mut(bytes, 0)[32] = 1),
+        changed("refused-9-high", 255, |bytes| slot_mut(bytes, 254)[63] |= 0x80),
+        full("refused-10-low", |bytes| slot_mut(bytes, 0)[32] = 2),
+        full("refused-10-high", |bytes| slot_mut(bytes, 254)[63] |= 0x80),
+    ]
+}
+
+/// A record of n events with some bytes changed, and sealed again.
+fn changed(name: &str, n: usize, change: impl Fn(&mut Vec<u8>)) -> Sample {
+    let mut bytes = in_turn(n).to_bytes();
+    change(&mut bytes);
+    seal(&mut bytes);
+    Sample::new(name, bytes)
+}
+
+fn unsealed(name: &str, block: usize) -> Sample {
+    let mut bytes = in_turn(256).to_bytes();
+    bytes[block * BLOCK_BYTES + 300] ^= 1;
+    Sample::new(name, bytes)
+}

@@ -1,0 +1,260 @@
+//! The store's rules: sites, calls, answers and the record of a rehearsal.
+
+use crate::record::*;
+
+pub const OBJECTS: usize = 32;
+pub const CALL_BYTES: usize = 8;
+pub const MOST_SCRIPT_BYTES: usize = 32_768;
+
+#[derive(Clone, Copy, Debug, PartialEq, Eq)]
+pub enum Call {
+    Put { site: usize, object: usize, value: u32 },
+    Get { site: usize, object: usize },
+    Deliver { site: usize, event: usize },
+}
+
+#[derive(Clone, Copy)]
+struct Cell {
+    value: u32,
+    stamp: u32,
+    site: usize,
+}
+
+#[derive(Clone)]
+struct Site {
+    clock: u32,
+    held: [usize; MOST_SITES],
+    known: EventSet,
+    cells: [Option<Cell>; OBJECTS],
+}
+
+/// A done put or get.
+struct Done {
+    event: Event,
+    stamp: u32,
+    needs: [usize; MOST_SITES],
+}
+
+pub struct Store {
+    sites: Vec<Site>,
+    done: Vec<Done>,
+}
+
+#[derive(Clone, Copy, Debug, PartialEq, Eq)]
+pub struct Outcome {
+    pub number: u32,
+    pub length: usize,
+    pub outstanding: usize,
+}
+
+impl Outcome {
+    pub fn packed(&self) -> u64 {
+        self.number as u64 + 256 * self.length as u64 + 16_777_216 * self.outstanding as u64
+    }
+}
+
+impl Call {
+    /// Question 31, asked of the eight bytes.
+    pub fn from_bytes(bytes: &[u8]) -> Option<Call> {
+        let (site, object) = (bytes[1] as usize, bytes[2] as usize);
+        let tail = u32_at(bytes, 4);
+        match bytes[0] {
+            _ if bytes[3] != 0 => None,
+            1 => Some(Call::Put { site, object, value: tail }),
+            2 if tail == 0 => Some(Call::Get { site, object }),
+            3 if object == 0 && tail <= 0xffff => Some(Call::Deliver { site, event: tail as usize }),
+            _ => None,
+        }
+    }
+
+    pub fn to_bytes(self) -> [u8; CALL_BYTES] {
+        let (kind, site, object, tail) = match self {
+            Call::Put { site, object, value } => (1, site, object, value),
+            Call::Get { site, object } => (2, site, object, 0),
+            Call::Deliver { site, event } => (3, site, 0, event as u32),
+        };
+        let mut bytes = [kind, site as u8, object as u8, 0, 0, 0, 0, 0];
+        bytes[4..].copy_from_slice(&tail.to_le_bytes());
+        bytes
+    }
+
+    fn site(&self) -> usize {
+        match *self {
+            Call::Put { site, .. } | Call::Get { site, .. } | Call::Deliver { site, .. } => site,
+        }
+    }
+}
+
+impl Store {
+    pub fn new(sites: usize) -> Store {
+        let site = Site { clock: 0, held: [0; MOST_SITES], known: [false; MOST_EVENTS], cells: [None; OBJECTS] };
+        Store { sites: vec![site; sites], done: Vec::new() }
+    }
+
+    /// Runs one call and gives its answer; a refused one changes nothing.
+    pub fn call(&mut self, bytes: &[u8]) -> [u8; 8] {
+        let Some(call) = Call::from_bytes(bytes) else {
+            return refused_answer(31);
+        };
+        match self.first_no(call) {
+            Some(number) => refused_answer(number),
+            None => self.run(call),
+        }
+    }
+
+    /// Questions 32 to 36.
+    pub fn first_no(&self, call: Call) -> Option<u8> {
+        if call.site() >= self.sites.len() {
+            return Some(32);
+        }
+        match call {
+            Call::Put { object, .. } | Call::Get { object, .. } => self.first_no_of_event(object),
+            Call::Deliver { site, event } => self.first_no_of_delivery(&self.sites[site], event),
+        }
+    }
+
+    fn first_no_of_event(&self, object: usize) -> Option<u8> {
+        if object >= OBJECTS {
+            Some(33)
+        } else if self.done.len() >= MOST_EVENTS {
+            Some(34)
+        } else {
+            None
+        }
+    }
+
+    fn first_no_of_delivery(&self, to: &Site, event: usize) -> Option<u8> {
+        if !self.is_put(event) {
+            Some(33)
+        } else if to.known[event] {
+            Some(35)
+        } else if (0..MOST_SITES).any(|j| to.held[j] < self.done[event].needs[j]) {
+            Some(36)
+        } else {
+            None
+        }
+    }
+
+    pub fn is_put(&self, event: usize) -> bool {
+        self.done.get(event).is_some_and(|done| done.event.is_write())
+    }
+
+    fn run(&mut self, call: Call) -> [u8; 8] {
+        match call {
+            Call::Put { site, object, value } => self.put(site, object, value),
+            Call::Get { site, object } => self.get(site, object),
+            Call::Deliver { site, event } => self.deliver(site, event),
+        }
+    }
+
+    fn put(&mut self, site: usize, object: usize, value: u32) -> [u8; 8] {
+        let number = self.add(site, Event::write(site as u8, object as u8, value));
+        let at = &mut self.sites[site];
+        at.cells[object] = Some(Cell { value, stamp: at.clock, site });
+        at.held[site] += 1;
+        done_answer(number, None)
+    }
+
+    fn get(&mut self, site: usize, object: usize) -> [u8; 8] {
+        let value = self.sites[site].cells[object].map(|cell| cell.value);
+        let number = self.add(site, Event::read(site as u8, object as u8, value));
+        done_answer(number, value)
+    }
+
+    /// What put and get share: clock, times, visibility, and becoming known.
+    fn add(&mut self, site: usize, event: Event) -> usize {
+        let number = self.done.len();
+        let at = &mut self.sites[site];
+        at.clock += 1;
+        let mut event = event.at(2 * number as u64, 2 * number as u64 + 1);
+        event.visible = at.known;
+        self.done.push(Done { event, stamp: at.clock, needs: at.held });
+        at.known[number] = true;
+        number
+    }
+
+    fn deliver(&mut self, to: usize, number: usize) -> [u8; 8] {
+        let Done { event, stamp, .. } = &self.done[number];
+        let from = event.site as usize;
+        let at = &mut self.sites[to];
+        at.clock = at.clock.max(*stamp);
+        at.held[from] += 1;
+        for other in 0..MOST_EVENTS {
+            at.known[other] |= other == number || event.visible[other];
+        }
+        let cell = &mut at.cells[event.object as usize];
+        let arrived = Cell { value: event.value.unwrap_or(0), stamp: *stamp, site: from };
+        if cell.is_none_or(|held| (held.stamp, held.site) < (arrived.stamp, arrived.site)) {
+            *cell = Some(arrived);
+        }
+        [0; 8]
+    }
+
+    pub fn record(&self) -> Record {
+        let order = |done: &Done| (done.stamp, done.event.site);
+        let events = self.done.iter().map(|done| {
+            let before = self.done.iter().filter(|other| order(other) < order(done)).count();
+            Event { position: before as u16, ..done.event.clone() }
+        });
+        Record { sites: self.sites.len() as u8, events: events.collect() }
+    }
+
+    pub fn puts(&self) -> usize {
+        self.done.iter().filter(|done| done.event.is_write()).count()
+    }
+
+    pub fn events(&self) -> usize {
+        self.done.len()
+    }
+
+    /// Pairs of a put and a site that lacks it.
+    pub fn outstanding(&self) -> usize {
+        let lacked_by = |site: &Site| (0..MOST_EVENTS).filter(|&e| self.is_put(e) && !site.known[e]).count();
+        self.sites.iter().map(lacked_by).sum()
+    }
+}
+
+fn refused_answer(number: u8) -> [u8; 8] {
+    [number, 0, 0, 0, 0, 0, 0, 0]
+}
+
+fn done_answer(event: usize, found: Option<u32>) -> [u8; 8] {
+    let mut answer = [0; 8];
+    answer[1] = found.is_some() as u8;
+    answer[2..4].copy_from_slice(&(event as u16).to_le_bytes());
+    answer[4..8].copy_from_slice(&found.unwrap_or(0).to_le_bytes());
+    answer
+}
+
+/// Questions 20 to 23.
+fn first_no(sites: u32, script: usize, record: usize, answers: usize) -> Option<u32> {
+    if !(1..=MOST_SITES as u32).contains(&sites) {
+        Some(20)
+    } else if script % CALL_BYTES != 0 || script > MOST_SCRIPT_BYTES {
+        Some(21)
+    } else if record < MOST_BYTES {
+        Some(22)
+    } else if answers < script {
+        Some(23)
+    } else {
+        None
+    }
+}
+
+pub fn rehearse(sites: u32, script: &[u8], record: &mut [u8], answers: &mut [u8]) -> Outcome {
+    if let Some(number) = first_no(sites, script.len(), record.len(), answers.len()) {
+        return Outcome { number, length: 0, outstanding: 0 };
+    }
+    let store = run_script(sites as usize, script, answers);
+    let bytes = store.record().to_bytes();
+    record[..bytes.len()].copy_from_slice(&bytes);
+    Outcome { number: 0, length: bytes.len(), outstanding: store.outstanding() }
+}
+
+pub fn run_script(sites: usize, script: &[u8], answers: &mut [u8]) -> Store {
+    let mut store = Store::new(sites);
+    for (call, answer) in script.chunks_exact(CALL_BYTES).zip(answers.chunks_exact_mut(CALL_BYTES)) {
+        answer.copy_from_slice(&store.call(call));
+    }
+    store
+}

@@ -1,0 +1,217 @@
+//! The comparers find deliberate faults, and none where there is none.
+
+use second::compare::rehearsal::Outstanding;
+use second::compare::subject::{Itself, Judge, Reader, Rehearser};
+use second::compare::tally::Tally;
+use second::compare::{models, programs, reader, rehearsal, Seeds};
+use second::models::packed;
+use second::predicates::{Answer, Judged};
+use second::questions::{ask, Refusal};
+use second::record::Record;
+use second::relations::{Pairs, Relations};
+use std::cell::RefCell;
+use std::path::Path;
+
+/// A wrong subject: the right answer, then something done to it.
+struct Wrong<F>(F);
+
+impl<F: Fn(u64, &[u8], &mut [u64]) -> u64> Reader for Wrong<F> {
+    fn read(&self, record: &[u8], work: &mut [u64]) -> u64 {
+        let right = Itself.read(record, work);
+        self.0(right, record, work)
+    }
+}
+
+/// A fault in how the record's events or their relations are understood.
+type Fault = fn(&mut Record) -> Option<fn(&Record, &mut Relations)>;
+
+/// Keeps the answers of the last record, as many models are asked of each.
+struct WrongJudge {
+    fault: Fault,
+    last: RefCell<(Vec<u8>, Result<Vec<Answer>, Refusal>)>,
+}
+
+impl WrongJudge {
+    fn answers(&self, bytes: &[u8]) -> Result<Vec<Answer>, Refusal> {
+        let mut record = ask(bytes)?;
+        let of_relations = (self.fault)(&mut record);
+        let mut judged = Judged::new(&record);
+        if let Some(fault) = of_relations {
+            fault(&record, &mut judged.relations);
+        }
+        Ok(judged.answers())
+    }
+}
+
+impl Judge for WrongJudge {
+    fn judge_model(&self, model: u32, bytes: &[u8]) -> u64 {
+        let mut last = self.last.borrow_mut();
+        if last.0 != bytes {
+            *last = (bytes.to_vec(), self.answers(bytes));
+        }
+        packed(model, &last.1)
+    }
+}
+
+struct WrongStore(fn(u64, &mut [u8], &mut [u8]) -> u64);
+
+impl Rehearser for WrongStore {
+    fn rehearse(&self, sites: u32, script: &[u8], record: &mut [u8], answers: &mut [u8]) -> u64 {
+        let right = Itself.rehearse(sites, script, record, answers);
+        self.0(right, record, answers)
+    }
+}
+
+fn reader_failures(fault: impl Fn(u64, &[u8], &mut [u64]) -> u64) -> u64 {
+    let mut tally = Tally::counting();
+    reader::compare(&Wrong(fault), &Seeds::first(100), &mut tally);
+    tally.failed
+}
+
+fn judge_failures(fault: Fault) -> u64 {
+    let mut tally = Tally::counting();
+    let last = RefCell::new((vec![], ask(&[]).map(|_| vec![])));
+    models::compare(&WrongJudge { fault, last }, &Seeds::first(200), &mut tally);
+    tally.failed
+}
+
+fn store_failures(fault: fn(u64, &mut [u8], &mut [u8]) -> u64) -> u64 {
+    let mut tally = Tally::counting();
+    rehearsal::compare(&WrongStore(fault), Outstanding::Bounded, &Seeds::first(100), &mut tally);
+    tally.failed
+}
+
+#[test]
+fn faults_of_a_reader() {
+    assert_eq!(reader_failures(|right, _, _| right), 0);
+    let of_question = |result: u64, number: u64| result / 1_024 == 2_048 + number;
+    for number in 1..=10 {
+        if number != 2 {
+            let accepts = reader_failures(|right, _, _| if of_question(right, number) { 0 } else { right });
+            assert!(accepts > 0, "question {number} left out");
+        }
+    }
+    for number in [4, 7, 8, 9, 10] {
+        let next = reader_failures(|right, _, _| right + of_question(right, number) as u64);
+        assert!(next > 0, "place of question {number}");
+    }
+    let later_word = |right, _: &[u8], work: &mut [u64]| {
+        if let Some(word) = work.get_mut(1_029) {
+            *word = 0;
+        }
+        right
+    };
+    assert!(reader_failures(later_word) > 0);
+    let unsettled = |right, _: &[u8], work: &mut [u64]| {
+        if let Some(word) = work.get_mut(1_023) {
+            *word = 3;
+        }
+        right
+    };
+    assert!(reader_failures(unsettled) > 0);
+}
+
+fn not_before(record: &mut Record) {
+    for event in &mut record.events {
+        event.start = event.start.saturating_add(1);
+    }
+}
+
+fn reads_left_out(record: &mut Record) {
+    let reads: Vec<bool> = record.events.iter().map(|event| event.is_read()).collect();
+    for event in &mut record.events {
+        (0..reads.len()).filter(|&seen| reads[seen]).for_each(|seen| event.visible[seen] = false);
+    }
+}
+
+fn none_is_zero(record: &mut Record) {
+    for event in &mut record.events {
+        event.value = event.value.filter(|&value| value != 0);
+    }
+}
+
+fn neighbours_only(record: &Record, relations: &mut Relations) {
+    let n = record.events.len();
+    let step = |a, b| relations.so.has(a, b) || relations.vis.has(a, b);
+    let two = |a, c| (0..n).any(|b| step(a, b) && step(b, c));
+    relations.hb = Pairs::such_that(n, |a, b| step(a, b) || two(a, b));
+}
+
+fn pending_returned_at_zero(record: &Record, relations: &mut Relations) {
+    let events = &record.events;
+    relations.rb = Pairs::such_that(events.len(), |a, b| events[a].end < events[b].start);
+}
+
+#[test]
+fn faults_of_a_judge() {
+    assert_eq!(judge_failures(|_| None), 0);
+    let faults: [(&str, Fault); 5] = [
+        ("return at the start", |record| {
+            not_before(record);
+            None
+        }),
+        ("reads left out of vis", |record| {
+            reads_left_out(record);
+            None
+        }),
+        ("none taken as 0", |record| {
+            none_is_zero(record);
+            None
+        }),
+        ("two steps of hb", |_| Some(neighbours_only)),
+        ("pending as returned", |_| Some(pending_returned_at_zero)),
+    ];
+    for (name, fault) in faults {
+        assert!(judge_failures(fault) > 0, "{name}");
+    }
+}
+
+#[test]
+fn faults_of_a_store() {
+    assert_eq!(store_failures(|right, _, _| right), 0);
+    assert!(store_failures(|right, _, _| right ^ 256) > 0);
+    assert!(store_failures(|right, _, _| right + (1 << 40)) > 0);
+    let beyond = |right, _: &mut [u8], answers: &mut [u8]| {
+        if let Some(last) = answers.last_mut() {
+            *last ^= 1;
+        }
+        right
+    };
+    assert!(store_failures(beyond) > 0);
+    let record = |right, record: &mut [u8], _: &mut [u8]| {
+        if let Some(last) = record.last_mut() {
+            *last ^= 1;
+        }
+        right
+    };
+    assert!(store_failures(record) > 0);
+}
+
+#[test]
+fn programs_are_run() {
+    let seeds = Seeds::first(25);
+    let (inspect, verdict) = (Path::new(env!("CARGO_BIN_EXE_inspect")), Path::new(env!("CARGO_BIN_EXE_verdict")));
+    let mut right = Tally::counting();
+    programs::inspect(inspect, &seeds, &mut right);
+    programs::verdict(verdict, &seeds, &mut right);
+    programs::rehearse(Path::new(env!("CARGO_BIN_EXE_rehearse")), &seeds, &mut right);
+    assert_eq!(right.failed, 0);
+    assert!(right.passed > 80, "{}", right.summary());
+    let mut wrong = Tally::counting();
+    programs::verdict(inspect, &seeds, &mut wrong);
+    programs::inspect(Path::new("no-such-program"), &seeds, &mut wrong);
+    assert!(wrong.failed > 30, "{}", wrong.summary());
+}
+
+#[test]
+fn failing_input_is_kept() {
+    let folder = Path::new(env!("CARGO_TARGET_TMPDIR")).join("kept");
+    let _ = std::fs::remove_dir_all(&folder);
+    let mut tally = Tally::keeping(folder.clone());
+    let fault = |right: u64, _: &[u8], _: &mut [u64]| if right == 0 { 1 } else { right };
+    reader::compare(&Wrong(fault), &Seeds { from: 2, ..Seeds::first(6) }, &mut tally);
+    assert!(tally.failed > 0);
+    let mut files = std::fs::read_dir(&folder).expect("made").map(|entry| entry.expect("read").path());
+    let kept = files.find(|path| path.extension().is_some_and(|end| end == "bin")).expect("one kept");
+    ask(&std::fs::read(kept).expect("readable")).expect("a passing record was answered wrongly");
+}

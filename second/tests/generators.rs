@@ -1,0 +1,100 @@
+//! The generators reach what they are for.
+
+use second::generate::random::Random;
+use second::generate::{meeting, record, scripts};
+use second::models::MODELS;
+use second::predicates::Answer::{Broken, Met};
+use second::predicates::{Judged, PREDICATES};
+use second::questions::ask;
+use second::store::{rehearse, run_script};
+use std::collections::BTreeMap;
+
+#[test]
+fn every_refusal_at_many_places() {
+    let mut places: BTreeMap<u32, Vec<u32>> = BTreeMap::new();
+    for seed in 0..4_000 {
+        if let Err(refusal) = ask(&record(seed).bytes) {
+            places.entry(refusal.number).or_default().push(refusal.place);
+        }
+    }
+    assert_eq!(places.keys().copied().collect::<Vec<_>>(), [3, 4, 5, 6, 7, 8, 9, 10]);
+    for number in [4, 7, 8, 9, 10] {
+        let found = places.get_mut(&number).expect("reached");
+        found.sort();
+        found.dedup();
+        assert!(found.len() >= 12, "question {number} at {found:?}");
+    }
+}
+
+#[test]
+fn every_predicate_met_and_broken() {
+    let mut met = [0; 13];
+    let mut broken = [0; 13];
+    let mut twice = [0; 13];
+    for seed in 0..3_000 {
+        let Ok(record) = ask(&record(seed).bytes) else { continue };
+        if record.events.len() > 24 {
+            continue;
+        }
+        for (at, answer) in Judged::new(&record).answers().into_iter().enumerate() {
+            match answer {
+                Met => met[at] += 1,
+                Broken(a, b) => {
+                    broken[at] += 1;
+                    twice[at] += (a == b) as u32;
+                }
+            }
+        }
+    }
+    assert!(met.iter().chain(&broken).all(|&count| count >= 60), "{met:?} {broken:?}");
+    assert!([1, 5, 8, 10, 11].iter().all(|&number| twice[number - 1] >= 5), "{twice:?}");
+}
+
+#[test]
+fn records_meet_what_they_are_made_for() {
+    let lone = PREDICATES.map(|predicate| vec![predicate]);
+    for predicates in lone.chain(MODELS.map(|list| list.to_vec())) {
+        for seed in 0..60 {
+            let mut random = Random::new(seed);
+            let n = random.index(12);
+            let record = meeting::record(&mut random, n, &predicates);
+            ask(&record.to_bytes()).expect("passes every question");
+            let judged = Judged::new(&record);
+            let met = predicates.iter().all(|&predicate| judged.answer(predicate) == Met);
+            assert!(met, "{predicates:?} by seed {seed}");
+        }
+    }
+}
+
+#[test]
+fn every_answer_of_calls_and_rehearsals() {
+    let mut numbers: BTreeMap<u32, u32> = BTreeMap::new();
+    for seed in 0..400 {
+        let given = scripts::rehearsal(seed);
+        let mut record = vec![0; given.record_bytes];
+        let mut answers = vec![0; given.answer_bytes];
+        let outcome = rehearse(given.sites, &given.script, &mut record, &mut answers);
+        *numbers.entry(outcome.number).or_default() += 1;
+        if outcome.number == 0 {
+            for answer in answers[..given.script.len()].chunks(8) {
+                *numbers.entry(answer[0] as u32).or_default() += 1;
+            }
+        }
+    }
+    let reached: Vec<u32> = numbers.keys().copied().collect();
+    assert_eq!(reached, [0, 20, 21, 22, 23, 31, 32, 33, 34, 35, 36], "{numbers:?}");
+}
+
+#[test]
+fn full_day_fills_the_store() {
+    let script = scripts::full_day(1, 8);
+    let store = run_script(8, &script, &mut vec![0; script.len()]);
+    assert_eq!((script.len(), store.events()), (32_768, 256));
+}
+
+#[test]
+fn same_seed_same_record() {
+    for seed in 0..50 {
+        assert_eq!(record(seed).bytes, record(seed).bytes);
+    }
+}
