@@ -1,0 +1,160 @@
+-- Judgments by their tests, and the host's number of each: a break is at two events, so every part of the number fits. Assumes nothing.
+use mathlib.Core.Path.{_≡_, refl, ap₂}
+use mathlib.Core.Logic.{_≢_}
+use mathlib.Core.Bool.{Bool, true, false}
+use mathlib.Core.List.{List, [], _∷_, _++_}
+use Prim.Native.Nat.{ℕ, zero, suc, _+_, _*_, _^_, _<_, _≤_}
+use native.Mathlib.Omega.{arith}
+use borrow.Author.Tests.{eq-eqb, ne-eqb, eqb-true, le-leb, lt-leb}
+use lib.Dec.{eqb, leb}
+use lib.ListN.{getD, replicate}
+use Rattle.record.specs.Layout.{gcr1, countIn}
+use Rattle.record.specs.History.{History, historyOf, Agree}
+use Rattle.record.specs.Questions.{numberOf, placeOf, questions, reading}
+use Rattle.record.specs.declared.Reading.{Reading}
+use Rattle.record.specs.declared.Reading.the-variants.{Passed, ShortWork}
+use Rattle.record.proofs.QuestionsAnswered.{number-most, place-small, passed-count}
+use Rattle.judge.specs.Predicates.{breaks, rule, numbered, verdict}
+use Rattle.judge.specs.Models.{listOf, orElse, firstBroken}
+use Rattle.judge.specs.Judgments.{isNumber, pick, judgedList, judged, predicateJudgment, modelJudgment, packed, packedVerdict, packedVerdicts, verdictsOf}
+use Rattle.judge.specs.Tables.{upToZero, Numbers}
+use Rattle.judge.specs.declared.Verdict.{Verdict}
+use Rattle.judge.specs.declared.Verdict.the-variants.{Met, Broken}
+use Rattle.judge.specs.declared.Outcome.{Outcome}
+use Rattle.judge.specs.declared.Outcome.the-variants.{AllMet, BrokenAt}
+use Rattle.judge.specs.declared.Judgment.{Judgment}
+use Rattle.judge.specs.declared.Judgment.the-variants.{Judged, NoSuchNumber, Refused}
+use Rattle.judge.proofs.FirstPairLaws.{Says, first-says}
+use Rattle.judge.proofs.SameVerdict.{verdict-same}
+use Rattle.judge.proofs.Packing.{Fitting}
+use Rattle.judge.proofs.RecordLaws.{number-passed}
+
+-- ---- questions 3 to 10, and then a list
+
+module _ (s ps : List ℕ) (r : Reading) (asked : r ≡ questions gcr1 s) where
+  pub list-refused : numberOf r ≢ 0 → Refused r ≡ judgedList gcr1 s ps
+  unfolding judgedList
+  list-refused f = rw (← asked, ne-eqb (numberOf r) 0 f)
+
+  pub list-judged : numberOf r ≡ 0 → (o : Outcome) → o ≡ firstBroken ps (historyOf gcr1 s) → Judged o ≡ judgedList gcr1 s ps
+  unfolding judgedList
+  list-judged z o e = rw (← asked, eq-eqb (numberOf r) 0 z, e)
+
+-- ---- questions 1 and 2 before them
+
+module _ (words number : ℕ) (s ps : List ℕ) where
+  pub judged-short : words < 1024 → Refused ShortWork ≡ judged gcr1 words number s ps
+  unfolding judged
+  judged-short h = rw (lt-leb 1024 words h)
+
+  pub judged-low : 1024 ≤ words → number < 1 → NoSuchNumber ≡ judged gcr1 words number s ps
+  unfolding judged
+  judged-low h k = rw (le-leb 1024 words h, lt-leb 1 number k)
+
+  pub judged-high : 1024 ≤ words → 13 < number → NoSuchNumber ≡ judged gcr1 words number s ps
+  unfolding judged
+  judged-high h k = let l : 1 ≤ number = omega arith in rw (le-leb 1024 words h, le-leb 1 number l, lt-leb number 13 k)
+
+  pub judged-list : 1024 ≤ words → 1 ≤ number → number ≤ 13 → judgedList gcr1 s ps ≡ judged gcr1 words number s ps
+  unfolding judged
+  judged-list h l k = rw (le-leb 1024 words h, le-leb 1 number l, le-leb number 13 k)
+
+-- ---- the list of one predicate
+
+pub one-list : (k : ℕ) → 1 ≤ k → upToZero (k ∷ 0 ∷ 0 ∷ 0 ∷ []) ≡ k ∷ []
+unfolding upToZero
+one-list k h = rw (ne-eqb k 0 (λ e. omega arith))
+
+pub one-number : (k : ℕ) → k ≤ 13 → Numbers (k ∷ 0 ∷ 0 ∷ 0 ∷ [])
+one-number k h = record { four = refl; small = small }
+  where
+    small : (i : ℕ) → getD (k ∷ 0 ∷ 0 ∷ 0 ∷ []) i 0 ≤ 13
+    small zero = h
+    small (suc zero) = omega arith
+    small (suc (suc zero)) = omega arith
+    small (suc (suc (suc zero))) = omega arith
+    small (suc (suc (suc (suc i)))) = omega arith
+
+-- ---- all thirteen
+
+pub packed-same : (h k : History) → Agree h k → (m : ℕ) → packedVerdicts m h ≡ packedVerdicts m k
+unfolding packedVerdicts
+packed-same h k s zero = refl
+packed-same h k s (suc m) =
+    ap₂ (λ (l : List ℕ) (v : Verdict). l ++ (packedVerdict v ∷ [])) (packed-same h k s m) (verdict-same h k s (numbered (m + 1)))
+
+pub verdicts-refused : (r : Reading) (s : List ℕ) → numberOf r ≢ 0 → replicate 13 0 ≡ verdictsOf gcr1 r s
+unfolding verdictsOf
+verdicts-refused r s f = rw (ne-eqb (numberOf r) 0 f)
+
+pub verdicts-judged : (r : Reading) (s l : List ℕ) → numberOf r ≡ 0 → l ≡ packedVerdicts 13 (historyOf gcr1 s) → l ≡ verdictsOf gcr1 r s
+unfolding verdictsOf
+verdicts-judged r s l z e = rw (eq-eqb (numberOf r) 0 z) e
+
+-- ---- the host's number of a judgment that code takes apart
+
+pub packed-broken : (j : Judgment) (o : Outcome) (p a b : ℕ) → j ≡ Judged o → o ≡ BrokenAt p a b → packed j ≡ 1048576 + 1024 * a + b
+packed-broken j o p a b e f = rw (e, f)
+
+pub packed-refused : (j : Judgment) (r : Reading) → j ≡ Refused r → packed j ≡ 2097152 + 1024 * numberOf r + placeOf r
+packed-refused j r e = rw e
+
+-- ---- a break is at two events
+
+abbrev pub PairBelow : ℕ → Outcome → Type 0
+PairBelow n AllMet = Unit
+PairBelow n (BrokenAt p a b) = (a < n) × (b < n)
+
+pub broken-below : (h : History) (ps : List ℕ) → PairBelow (h .count) (firstBroken ps h)
+unfolding firstBroken verdict
+broken-below h [] = tt
+broken-below h (p ∷ ps) = go (broken-below h ps) (verdict (numbered p) h) (first-says (h .count) (breaks h (rule (numbered p) h)))
+  where
+    go : PairBelow (h .count) (firstBroken ps h) → (v : Verdict) → Says (h .count) (breaks h (rule (numbered p) h)) v
+        → PairBelow (h .count) (orElse p v (firstBroken ps h))
+    go rest Met f = rest
+    go rest (Broken a b) f = (f .left, f .right)
+
+-- ---- so the parts of every judgment fit into the host's number
+
+pick-into : (P : Judgment → Type 0) (t : Bool) (a b : Judgment) → (t ≡ true → P a) → (t ≡ false → P b) → P (pick t a b)
+pick-into P true a b f g = f refl
+pick-into P false a b f g = g refl
+
+outcome-fits : (n : ℕ) → n ≤ 256 → (o : Outcome) → PairBelow n o → Fitting (Judged o)
+outcome-fits n h AllMet f = tt
+outcome-fits n h (BrokenAt p a b) f = (omega (arith, f .0), omega (arith, f .1))
+
+module _ (s : List ℕ) where
+  questions-place : placeOf (questions gcr1 s) < 1024
+  unfolding reading
+  questions-place = place-small 1024 s
+
+  passed-fits : (ps : List ℕ) → questions gcr1 s ≡ Passed → Fitting (Judged (firstBroken ps (historyOf gcr1 s)))
+  unfolding historyOf
+  passed-fits ps q = outcome-fits (countIn s) (passed-count s q) (firstBroken ps (historyOf gcr1 s)) (broken-below (historyOf gcr1 s) ps)
+
+  pub judged-fits : (words number : ℕ) (ps : List ℕ) → Fitting (judged gcr1 words number s ps)
+  unfolding judged judgedList
+  judged-fits words number ps =
+      let r : Reading = questions gcr1 s in
+      let o : Outcome = firstBroken ps (historyOf gcr1 s) in
+      let after : Judgment = pick (eqb (numberOf r) 0) (Judged o) (Refused r) in
+      pick-into Fitting (leb 1024 words) (pick (isNumber number) after NoSuchNumber) (Refused ShortWork) (λ t.
+      pick-into Fitting (isNumber number) after NoSuchNumber (λ u.
+      pick-into Fitting (eqb (numberOf r) 0) (Judged o) (Refused r) (λ x. passed-fits ps (number-passed r (eqb-true (numberOf r) 0 x))) (λ x. questions-place))
+      (λ u. tt)) (λ t. omega arith)
+
+  pub predicate-fits : (words p : ℕ) → Fitting (predicateJudgment gcr1 words p s)
+  unfolding predicateJudgment
+  predicate-fits words p = judged-fits words p (p ∷ [])
+
+  pub model-fits : (words m : ℕ) → Fitting (modelJudgment gcr1 words m s)
+  unfolding modelJudgment
+  model-fits words m = judged-fits words m (listOf m)
+
+pub fitting-small : (j : Judgment) → Fitting j → packed j < 2 ^ 32
+fitting-small (Judged AllMet) f = omega arith
+fitting-small (Judged (BrokenAt p a b)) f = omega (arith, f .0, f .1)
+fitting-small NoSuchNumber f = omega arith
+fitting-small (Refused r) f = omega (arith, f, number-most r)

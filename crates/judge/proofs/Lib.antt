@@ -1,0 +1,24 @@
+-- Laws and theorems of the judge. What users should know: MetIffHolds, HappensBefore, ModelMet, SameVerdict, Packing.
+pub mod FirstPairLaws
+pub mod LastWriteLaws
+pub mod MetIffHolds
+pub mod HappensBefore
+pub mod Causal
+pub mod SameVerdict
+pub mod ModelMet
+pub mod Packing
+pub mod EdgeExamples
+pub mod SliceLaws
+pub mod EventLaws
+pub mod ReadLaws
+pub mod OrderLaws
+pub mod BestPair
+pub mod InclusionLaws
+pub mod TableFill
+pub mod KeyLaws
+pub mod MiddleLaws
+pub mod RecordLaws
+pub mod JudgmentLaws
+pub mod ListLaws
+pub mod PreparedLaws
+pub mod ThirteenLaws

@@ -1,0 +1,91 @@
+-- What a judge knows of a record that passed: the words that it reads have the events of the record's bytes. Assumes nothing.
+use mathlib.Core.Path.{_≡_, refl, sym, ap, _∙_}
+use mathlib.Core.Bool.{Bool, true, false}
+use mathlib.Core.List.{List, _++_}
+use Prim.Native.Nat.{ℕ, _+_, _*_, _/_, _≤_}
+use native.Mathlib.Omega.{arith}
+use borrow.Author.Tests.{eq-eqb}
+use lib.Dec.{leb}
+use lib.ListN.{length, take, drop, take-append-drop, length-append}
+use lib.Seq.{take-at}
+use Rattle.record.specs.Layout.{gcr1, countIn, workWords}
+use Rattle.record.specs.History.{historyOf, Agree}
+use Rattle.record.specs.Questions.{numberOf, ask, questions, reading}
+use Rattle.record.specs.Words.{slotWords, headWords, visibleWords, workAfter, historyFrom}
+use Rattle.record.specs.declared.Reading.{Reading}
+use Rattle.record.specs.declared.Reading.the-variants.{Passed, ShortWork, WrongLength, WrongCheck, WrongHeader, WrongBlocks, WrongSlot, WrongPosition, WrongSet, OnRing}
+use Rattle.record.proofs.StoresLaws.{Bytes}
+use Rattle.record.proofs.SlotWords.{length-slot-words}
+use Rattle.record.proofs.WorkLaws.{length-visible}
+use Rattle.record.proofs.WordsLaws.{words-agree}
+use Rattle.record.proofs.QuestionsAnswered.{passed-count, passed-blocks, passed-graph}
+use Rattle.judge.specs.Tables.{Given}
+
+-- the words l and v, four an event each, have the n events of the record s
+pub record Told (s : List ℕ) (n : ℕ) (l v : List ℕ) : Type 0 where
+  pub given : Given n 4 l v
+  pub agree : Agree (historyOf gcr1 s) (historyFrom n 4 l v)
+
+-- ---- a reading with number 0
+
+pub number-passed : (r : Reading) → numberOf r ≡ 0 → r ≡ Passed
+number-passed Passed e = refl
+number-passed ShortWork e = absurd (omega arith)
+number-passed WrongLength e = absurd (omega arith)
+number-passed (WrongCheck k) e = absurd (omega arith)
+number-passed WrongHeader e = absurd (omega arith)
+number-passed WrongBlocks e = absurd (omega arith)
+number-passed (WrongSlot k) e = absurd (omega arith)
+number-passed (WrongPosition k) e = absurd (omega arith)
+number-passed (WrongSet k) e = absurd (omega arith)
+number-passed (OnRing k) e = absurd (omega arith)
+
+-- where the work slice was long enough too
+pub reading-passed : (w : ℕ) (s : List ℕ) → numberOf (reading gcr1 w s) ≡ 0 → questions gcr1 s ≡ Passed
+unfolding reading
+reading-passed w s e = go (leb (workWords gcr1) w) e
+  where
+    go : (t : Bool) → numberOf (ask t ShortWork (questions gcr1 s)) ≡ 0 → questions gcr1 s ≡ Passed
+    go true e = number-passed (questions gcr1 s) e
+    go false e = absurd (omega arith)
+
+module _ (s : List ℕ) (passed : questions gcr1 s ≡ Passed) where
+  -- ---- what the loading of words asks of the record
+
+  pub passed-long : 512 ≤ length s
+  passed-long = omega (arith, passed-blocks s passed)
+
+  module _ (n : ℕ) (counted : n ≡ countIn s) where
+    pub count-small : n ≤ 256
+    count-small = omega (arith, passed-count s passed)
+
+    pub blocks-long : 512 * (1 + (n + 6) / 7) ≤ length s
+    blocks-long = omega (arith, passed-blocks s passed)
+
+  -- ---- the work slice
+
+  pub work-visible : (number : ℕ) (w v : List ℕ) → number ≡ 0 → v ≡ workAfter gcr1 number s w → take 1024 v ≡ visibleWords gcr1 s
+  unfolding workAfter
+  work-visible number w v z e =
+      let left : v ≡ visibleWords gcr1 s ++ drop 1024 w = rw (eq-eqb number 0 z) at e in
+      ap (take 1024) left ∙ take-at (visibleWords gcr1 s) (drop 1024 w) 1024 (length-visible gcr1 s (passed-count s passed))
+
+  -- ---- the words: four an event loaded over d, and a slice that begins with the visible sets
+
+  module _ (bytes : Bytes s) (n : ℕ) (counted : n ≡ countIn s) (d l v : List ℕ)
+      (loaded : l ≡ slotWords gcr1 0 4 s n ++ drop (n * 4) d) (begins : take 1024 v ≡ visibleWords gcr1 s) where
+    heads : l ≡ headWords gcr1 s ++ drop (n * 4) d
+    unfolding headWords
+    heads = loaded ∙ ap (λ (k : ℕ). slotWords gcr1 0 4 s k ++ drop (n * 4) d) counted
+
+    sets : v ≡ visibleWords gcr1 s ++ drop 1024 v
+    sets = sym (take-append-drop 1024 v) ∙ ap (λ (t : List ℕ). t ++ drop 1024 v) begins
+
+    pub words-told : Told s n l v
+    words-told = record {
+      given = record {
+        heads = omega (arith, ap length loaded, length-append (slotWords gcr1 0 4 s n) (drop (n * 4) d), length-slot-words gcr1 0 4 s n);
+        rows = rw (counted, sets) (passed-graph s passed bytes (drop 1024 v));
+      };
+      agree = rw (counted, heads, sets) (words-agree s bytes (passed-count s passed) (drop (n * 4) d) (drop 1024 v));
+    }

@@ -1,0 +1,130 @@
+-- `judge_all` meets its contract: the reader's answer, and verdicts of words that have the events of the record's bytes. Assumes nothing.
+use mathlib.Core.Path.{_≡_, sym, ap, _∙_}
+use mathlib.Core.List.{List}
+use Prim.Native.Nat.{ℕ}
+use native.Mathlib.Omega.{arith}
+use borrow.Author.Needs.{needs}
+use lib.ListN.{length, take, replicate}
+use Rattle.record.specs.Layout.{gcr1}
+use Rattle.record.specs.History.{historyOf}
+use Rattle.record.specs.Questions.{numberOf, questions}
+use Rattle.record.specs.Words.{visibleWords, historyFrom}
+use Rattle.record.specs.declared.Reading.the-variants.{Passed}
+use Rattle.record.proofs.StoresLaws.{Bytes}
+use Rattle.judge.proofs.RecordLaws.{Told, reading-passed, passed-long, count-small, blocks-long, work-visible, words-told}
+use Rattle.judge.proofs.JudgmentLaws.{packed-same, verdicts-refused, verdicts-judged}
+use Rattle.judge.proofs.judge_all.Statement.{statement}
+use Rattle.judge.proofs.judge_all.Tie as tie
+
+-- the places on the way, by name
+abbrev reader : tie.After-number → tie.After-read
+reader c = c .before .before .before
+
+abbrev start : tie.After-number → tie.Start
+start c = reader c .before .before .before .before
+
+abbrev bytes : tie.After-number → List ℕ
+bytes c = start c .args .s .now
+
+range : (c : tie.After-number) → Bytes (bytes c)
+range c i = reader c .before .before .before .shared-slice-known .given i .fits
+
+-- no question got a no
+none : (c : tie.Else1) → numberOf (reader (c .before) .read .result) ≡ 0
+none c = sym (c .before .number .ensures) ∙ c .if1 .left
+
+passed : (c : tie.Else1) → questions gcr1 (bytes (c .before)) ≡ Passed
+passed c =
+    let n = c .before in
+    reading-passed (length (start n .args .work .now)) (bytes n) (ap numberOf (sym (reader n .read .ensures .0)) ∙ none c)
+
+-- the work slice that the reader left
+abbrev sets : tie.After-number → List ℕ
+sets c = reader c .read .last .1 .0
+
+visible : (c : tie.Else1) → take 1024 (sets (c .before)) ≡ visibleWords gcr1 (bytes (c .before))
+visible c =
+    let n = c .before in
+    work-visible (bytes n) (passed c) (numberOf (reader n .read .result)) (start n .args .work .now) (sets n) (none c) (reader n .read .ensures .1)
+
+abbrev counted : tie.After-load → tie.After-count
+counted c = c .before .before
+
+-- the words that were loaded, beside them
+abbrev words : tie.After-load → List ℕ
+words c = c .load .last .1 .1 .1 .1 .0
+
+told : (c : tie.After-load) → Told (bytes (counted c .before .before)) (counted c .count .result) (words c) (sets (counted c .before .before))
+told c =
+    let k = counted c in
+    let e = k .before in
+    let n = e .before in
+    words-told (bytes n) (passed e) (range n) (k .count .result) (k .count .ensures) (replicate 1024 0) (words c) (sets n) (c .load .ensures) (visible e)
+
+read-requires : tie.Need-read-requires
+read-requires c κs = search needs
+
+number-requires : tie.Need-number-requires
+number-requires c κs = search needs
+
+same-length : tie.Need-same-length
+same-length c = search needs
+
+returns : tie.Need-returns
+returns c =
+    let n = c .before in
+    let a = reader n .read in
+    (a .ensures .0, (verdicts-refused (a .result) (bytes n) (λ z. c .if1 .taken (n .number .ensures ∙ z)), a .ensures .1))
+
+count-requires : tie.Need-count-requires
+count-requires c κs = passed-long (bytes (c .before)) (passed c)
+
+slice-aggregate-load : tie.Need-slice-aggregate-load
+slice-aggregate-load c = search needs
+
+load-requires : tie.Need-load-requires
+load-requires c κs =
+    let k = c .before in
+    let e = k .before in
+    let n = e .before in
+    (blocks-long (bytes n) (passed e) (k .count .result) (k .count .ensures), (omega arith, omega (arith, count-small (bytes n) (passed e) (k .count .result) (k .count .ensures))))
+
+slice-aggregate-verdicts : tie.Need-slice-aggregate-verdicts
+slice-aggregate-verdicts c = search needs
+
+verdicts-requires : tie.Need-verdicts-requires
+verdicts-requires c κs = told (c .before .before .before) .given
+
+same-length-2 : tie.Need-same-length-2
+same-length-2 c = search needs
+
+returns-2 : tie.Need-returns-2
+returns-2 c =
+    let l = c .before .before .before .before in
+    let k = counted l in
+    let e = k .before in
+    let n = e .before in
+    let a = reader n .read in (
+      a .ensures .0,
+      (
+        verdicts-judged (a .result) (bytes n) (c .verdicts .result) (none e)
+            (c .verdicts .ensures ∙ sym (packed-same (historyOf gcr1 (bytes n)) (historyFrom (k .count .result) 4 (words l) (sets n)) (told l .agree) 13)),
+        a .ensures .1,
+      ),
+    )
+
+pub judge-all-spec : {M : Type 1} → statement M
+judge-all-spec =
+    tie.close
+    (tie.spec
+    read-requires
+    number-requires
+    same-length
+    returns
+    count-requires
+    slice-aggregate-load
+    load-requires
+    slice-aggregate-verdicts
+    verdicts-requires
+    same-length-2
+    returns-2)

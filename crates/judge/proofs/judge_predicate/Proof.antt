@@ -1,0 +1,65 @@
+-- `judge_predicate` meets its contract, one question after the other; the list is the predicate alone. Assumes nothing.
+use mathlib.Core.Path.{refl, ap, _∙_}
+use mathlib.Core.List.{List, [], _∷_}
+use Prim.Native.Nat.{ℕ}
+use borrow.Author.Needs.{needs}
+use lib.ListN.{length}
+use Rattle.record.specs.Layout.{gcr1}
+use Rattle.record.specs.Words.{workAfter}
+use Rattle.judge.specs.Judgments.{judgedList, predicateJudgment}
+use Rattle.judge.proofs.JudgmentLaws.{judged-short, judged-low, judged-high, judged-list, one-list, one-number}
+use Rattle.judge.proofs.judge_predicate.Statement.{statement}
+use Rattle.judge.proofs.judge_predicate.Tie as tie
+
+-- the length of the work slice, and the record
+abbrev words : tie.Start → ℕ
+words c = length (c .args .work .now)
+
+abbrev bytes : tie.Start → List ℕ
+bytes c = c .args .s .now
+
+returns : tie.Need-returns
+unfolding predicateJudgment workAfter
+returns c =
+    let a = c .before .before .before in
+    (judged-short (words a) (a .args .number) (bytes a) (a .args .number ∷ []) (c .if1 .taken), refl)
+
+returns-2 : tie.Need-returns-2
+unfolding predicateJudgment workAfter
+returns-2 c =
+    let a = c .before .before .before .before in
+    (judged-low (words a) (a .args .number) (bytes a) (a .args .number ∷ []) (c .before .if1 .left) (c .if2 .taken), refl)
+
+returns-3 : tie.Need-returns-3
+unfolding predicateJudgment workAfter
+returns-3 c =
+    let a = c .before .before .before .before .before in
+    (judged-high (words a) (a .args .number) (bytes a) (a .args .number ∷ []) (c .before .before .if1 .left) (c .if3 .taken), refl)
+
+cast-t8 : tie.Need-cast-t8
+cast-t8 c = search needs
+
+judge-list-requires : tie.Need-judge-list-requires
+judge-list-requires c κs =
+    let e = c .before in
+    let a = e .before .before .before .before .before in
+    (e .before .before .if1 .left, one-number (a .args .number) (e .if3 .left))
+
+same-length : tie.Need-same-length
+same-length c = search needs
+
+returns-4 : tie.Need-returns-4
+unfolding predicateJudgment
+returns-4 c =
+    let l = c .before .before in
+    let e = l .before .before in
+    let a = e .before .before .before .before .before in (
+      l .judge-list .ensures .0 ∙ ap (judgedList gcr1 (bytes a)) (one-list (a .args .number) (e .before .if2 .left))
+          ∙ judged-list (words a) (a .args .number) (bytes a) (a .args .number ∷ []) (e .before .before .if1 .left) (e .before .if2 .left) (e .if3 .left),
+      l .judge-list .ensures .1,
+    )
+
+pub judge-predicate-spec : {M : Type 1} → statement M
+judge-predicate-spec =
+    tie.close
+    (tie.spec returns returns-2 returns-3 cast-t8 judge-list-requires same-length returns-4)

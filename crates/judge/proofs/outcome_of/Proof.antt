@@ -1,0 +1,78 @@
+-- `outcome_of` meets its contract: the list is judged on words that have the events of the record's bytes. Assumes nothing.
+use mathlib.Core.Path.{sym, _∙_}
+use mathlib.Core.List.{List}
+use Prim.Native.Nat.{ℕ}
+use native.Mathlib.Omega.{arith}
+use borrow.Author.Needs.{needs}
+use lib.ListN.{replicate}
+use Rattle.record.specs.Layout.{gcr1}
+use Rattle.record.specs.History.{historyOf}
+use Rattle.record.specs.Words.{historyFrom}
+use Rattle.record.proofs.StoresLaws.{Bytes}
+use Rattle.judge.specs.Tables.{upToZero}
+use Rattle.judge.proofs.SameVerdict.{firstBroken-same}
+use Rattle.judge.proofs.RecordLaws.{Told, passed-long, count-small, blocks-long, words-told}
+use Rattle.judge.proofs.outcome_of.Statement.{statement}
+use Rattle.judge.proofs.outcome_of.Tie as tie
+
+-- the places on the way, by name
+abbrev loaded : tie.After-l3 → tie.After-load
+loaded c = c .before .before
+
+abbrev counted : tie.After-l3 → tie.After-count
+counted c = loaded c .before .before
+
+abbrev start : tie.After-count → tie.Start
+start c = c .before .before .before
+
+abbrev bytes : tie.Start → List ℕ
+bytes c = c .args .s .now
+
+range : (c : tie.After-count) → Bytes (bytes (start c))
+range c i = c .before .before .shared-slice-known .given i .fits
+
+-- the words that were loaded, beside the visible sets
+abbrev words : tie.After-l3 → List ℕ
+words c = loaded c .load .last .1 .1 .1 .1 .0
+
+told : (c : tie.After-l3) → Told (bytes (start (counted c))) (counted c .count .result) (words c) (start (counted c) .args .v .now)
+told c =
+    let n = counted c in
+    let a = start n in
+    words-told (bytes a) (a .pre .0) (range n) (n .count .result) (n .count .ensures) (replicate 1024 0) (words c) (a .args .v .now) (loaded c .load .ensures) (a .pre .1 .0)
+
+count-requires : tie.Need-count-requires
+count-requires c κs = let a = c .before .before in passed-long (bytes a) (a .pre .0)
+
+slice-aggregate-load : tie.Need-slice-aggregate-load
+slice-aggregate-load c = search needs
+
+load-requires : tie.Need-load-requires
+load-requires c κs =
+    let n = c .before in
+    let a = start n in
+    (blocks-long (bytes a) (a .pre .0) (n .count .result) (n .count .ensures), (omega arith, omega (arith, count-small (bytes a) (a .pre .0) (n .count .result) (n .count .ensures))))
+
+slice-aggregate-first-broken : tie.Need-slice-aggregate-first-broken
+slice-aggregate-first-broken c = search needs
+
+first-broken-requires : tie.Need-first-broken-requires
+first-broken-requires c κs = (told c .given, start (counted c) .pre .1 .1)
+
+returns : tie.Need-returns
+returns c =
+    let n = counted (c .before) in
+    let a = start n in
+    c .first-broken .ensures
+    ∙ sym (firstBroken-same (historyOf gcr1 (bytes a)) (historyFrom (n .count .result) 4 (words (c .before)) (a .args .v .now)) (told (c .before) .agree) (upToZero (a .args .list)))
+
+pub outcome-of-spec : {M : Type 1} → statement M
+outcome-of-spec =
+    tie.close
+    (tie.spec
+    count-requires
+    slice-aggregate-load
+    load-requires
+    slice-aggregate-first-broken
+    first-broken-requires
+    returns)

@@ -1,0 +1,79 @@
+-- The judging calls: questions 1 and 2, then the record's, then the verdict; and the host's number for an answer.
+use mathlib.Core.Bool.{Bool, true, false, cond, _&&_}
+use mathlib.Core.List.{List, [], _∷_, _++_}
+use Prim.Native.Nat.{ℕ, zero, suc, _+_, _*_}
+use lib.Dec.{eqb, leb}
+use lib.ListN.{replicate}
+use Rattle.record.specs.Layout.{Layout, workWords}
+use Rattle.record.specs.History.{History, historyOf}
+use Rattle.record.specs.Questions.{numberOf, placeOf, questions}
+use Rattle.record.specs.declared.Reading.{Reading}
+use Rattle.record.specs.declared.Reading.the-variants.{ShortWork}
+use Rattle.judge.specs.Predicates.{numbered, verdict}
+use Rattle.judge.specs.Models.{listOf, firstBroken}
+use Rattle.judge.specs.declared.Verdict.{Verdict}
+use Rattle.judge.specs.declared.Verdict.the-variants.{Met, Broken}
+use Rattle.judge.specs.declared.Outcome.{Outcome}
+use Rattle.judge.specs.declared.Outcome.the-variants.{AllMet, BrokenAt}
+use Rattle.judge.specs.declared.Judgment.{Judgment}
+use Rattle.judge.specs.declared.Judgment.the-variants.{Judged, NoSuchNumber, Refused}
+
+-- 2: the predicate or model number is 1–13
+abbrev pub isNumber : ℕ → Bool
+isNumber k = leb 1 k && leb k 13
+
+abbrev pub pick : Bool → Judgment → Judgment → Judgment
+pick true a b = a
+pick false a b = b
+
+-- questions 3 to 10, and then the outcome of a list of predicates
+unfoldable pub judgedList : Layout → List ℕ → List ℕ → Judgment
+judgedList L s ps = pick (eqb (numberOf (questions L s)) 0) (Judged (firstBroken ps (historyOf L s))) (Refused (questions L s))
+
+-- questions 1 and 2 before them
+unfoldable pub judged : Layout → ℕ → ℕ → List ℕ → List ℕ → Judgment
+judged L words number s ps = pick (leb (workWords L) words) (pick (isNumber number) (judgedList L s ps) NoSuchNumber) (Refused ShortWork)
+
+-- a predicate's judgment, and a model's
+unfoldable pub predicateJudgment : Layout → ℕ → ℕ → List ℕ → Judgment
+predicateJudgment L words p s = judged L words p s (p ∷ [])
+
+unfoldable pub modelJudgment : Layout → ℕ → ℕ → List ℕ → Judgment
+modelJudgment L words m s = judged L words m s (listOf m)
+
+-- the number of the question that refused, 0 where none did, and its place
+abbrev pub refusal : Judgment → ℕ
+refusal (Judged o) = 0
+refusal NoSuchNumber = 2
+refusal (Refused r) = numberOf r
+
+abbrev pub refusalPlace : Judgment → ℕ
+refusalPlace (Judged o) = 0
+refusalPlace NoSuchNumber = 0
+refusalPlace (Refused r) = placeOf r
+
+-- the host's number: 0 met; 1,048,576 + 1,024 × a + b broken; 2,097,152 + 1,024 × number + place refused
+abbrev pub packedOutcome : Outcome → ℕ
+packedOutcome AllMet = 0
+packedOutcome (BrokenAt p a b) = 1048576 + 1024 * a + b
+
+abbrev pub packedRefusal : ℕ → ℕ → ℕ
+packedRefusal number place = 2097152 + 1024 * number + place
+
+abbrev pub packed : Judgment → ℕ
+packed (Judged o) = packedOutcome o
+packed NoSuchNumber = packedRefusal 2 0
+packed (Refused r) = packedRefusal (numberOf r) (placeOf r)
+
+-- a verdict's number, and those of the first k predicates
+abbrev pub packedVerdict : Verdict → ℕ
+packedVerdict Met = 0
+packedVerdict (Broken a b) = 1048576 + 1024 * a + b
+
+unfoldable pub packedVerdicts : ℕ → History → List ℕ
+packedVerdicts zero h = []
+packedVerdicts (suc k) h = packedVerdicts k h ++ (packedVerdict (verdict (numbered (k + 1)) h) ∷ [])
+
+-- the thirteen of a record that passes, else zeros
+unfoldable pub verdictsOf : Layout → Reading → List ℕ → List ℕ
+verdictsOf L r s = cond (eqb (numberOf r) 0) (packedVerdicts 13 (historyOf L s)) (replicate 13 0)

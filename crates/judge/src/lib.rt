@@ -1,0 +1,165 @@
+// The judge of thirteen predicates and thirteen models.
+pub mod host;
+pub mod inclusion;
+pub mod keys;
+pub mod lists;
+pub mod order;
+pub mod prepared;
+pub mod reads;
+pub mod tables;
+pub mod thirteen;
+
+use record::Reading;
+ghost use mathlib.Core.Path.{_≡_};
+ghost use Prim.Native.Nat.{_≤_};
+ghost use lib.ListN.{length, take};
+ghost use Rattle.record.specs.Layout.{gcr1};
+ghost use Rattle.record.specs.History.{historyOf};
+ghost use Rattle.record.specs.Questions.{numberOf, reading, questions};
+ghost use Rattle.record.specs.Words.{visibleWords, workAfter};
+ghost use Rattle.judge.specs.Models.{firstBroken};
+ghost use Rattle.judge.specs.Judgments.{refusal, predicateJudgment, modelJudgment, verdictsOf, judgedList};
+ghost use Rattle.judge.specs.Tables.{upToZero, Numbers};
+
+// A predicate, in the paper's order.
+pub enum Predicate {
+    RVal,
+    SingleOrder,
+    RealTime,
+    RealTimeWrites,
+    MonotonicReads,
+    ReadYourWrites,
+    MonotonicWrites,
+    WritesFollowReads,
+    Pram,
+    CausalVisibility,
+    CausalArbitration,
+    PerObjectPram,
+    PerObjectSingleOrder,
+}
+
+// Whether a predicate is met, or the first pair that breaks it.
+pub enum Verdict {
+    Met,
+    Broken(usize, usize),
+}
+
+// The last write that a read sees.
+pub enum Last {
+    Nothing,
+    At(usize),
+}
+
+// Whether all predicates of a list are met, or the first that is broken, by its number, and its pair.
+pub enum Outcome {
+    AllMet,
+    BrokenAt(usize, usize, usize),
+}
+
+// The answer of a judging call.
+pub enum Judgment {
+    Judged(Outcome),
+    NoSuchNumber,
+    Refused(Reading),
+}
+
+// Every event, the writes, or the reads.
+pub enum Kind {
+    Every,
+    Writes,
+    Reads,
+}
+
+// Which tables are wanted: rb, so, ar and so on one object; the pairs with a read between them; hb.
+pub struct Needs {
+    pub basic: bool,
+    pub middle: bool,
+    pub hb: bool,
+}
+
+// A record's reading, and the numbers of its thirteen verdicts, zeros where it was refused.
+pub struct AllVerdicts {
+    pub reading: Reading,
+    pub verdicts: [u64; 13],
+}
+
+// The outcome of a list of predicates, of a record that passed; v begins with its visible sets.
+fn outcome_of(list: [u8; 4], s: &[u8], v: &[u64]) -> Outcome
+    requires { ⌜ questions gcr1 (now s) ≡ Reading.Passed ⌝ }
+    requires { ⌜ take 1024 (now v) ≡ visibleWords gcr1 (now s) ⌝ }
+    requires { ⌜ Numbers list ⌝ }
+    ensures { λ r. ⌜ r ≡ firstBroken (upToZero list) (historyOf gcr1 (now (s .entry))) ⌝ }
+{
+    let n = record::header::count(s);
+    let mut l = [0u64; 1024];
+    record::words::load(s, n, 0, 4, &mut l);
+    lists::first_broken(list, &l, v, n)
+}
+
+// Questions 3 to 10, then a list of predicates.
+fn judge_list(list: [u8; 4], s: &[u8], work: &mut [u64]) -> Judgment
+    requires { ⌜ (1024 ≤ length (now work)) × Numbers list ⌝ }
+    ensures { λ r. ⌜ r ≡ judgedList gcr1 (now (s .entry)) (upToZero list) ⌝ }
+    ensures { λ r. ⌜ now (work .exit) ≡ workAfter gcr1 (refusal r) (now (s .entry)) (now (work .entry)) ⌝ }
+{
+    let reading = record::ask(s, work);
+    if record::number(reading) != 0 {
+        return Judgment::Refused(reading);
+    }
+    Judgment::Judged(outcome_of(list, s, work))
+}
+
+// Judges a predicate by its number.
+pub fn judge_predicate(number: usize, s: &[u8], work: &mut [u64]) -> Judgment
+    ensures { λ r. ⌜ r ≡ predicateJudgment gcr1 (length (now (work .entry))) number (now (s .entry)) ⌝ }
+    ensures { λ r. ⌜ now (work .exit) ≡ workAfter gcr1 (refusal r) (now (s .entry)) (now (work .entry)) ⌝ }
+{
+    if work.len() < 1024 {
+        return Judgment::Refused(Reading::ShortWork);
+    }
+    if number < 1 {
+        return Judgment::NoSuchNumber;
+    }
+    if 13 < number {
+        return Judgment::NoSuchNumber;
+    }
+    let list = [number as u8, 0, 0, 0];
+    judge_list(list, s, work)
+}
+
+// Judges a model by its number.
+pub fn judge_model(number: usize, s: &[u8], work: &mut [u64]) -> Judgment
+    ensures { λ r. ⌜ r ≡ modelJudgment gcr1 (length (now (work .entry))) number (now (s .entry)) ⌝ }
+    ensures { λ r. ⌜ now (work .exit) ≡ workAfter gcr1 (refusal r) (now (s .entry)) (now (work .entry)) ⌝ }
+{
+    if work.len() < 1024 {
+        return Judgment::Refused(Reading::ShortWork);
+    }
+    if number < 1 {
+        return Judgment::NoSuchNumber;
+    }
+    if 13 < number {
+        return Judgment::NoSuchNumber;
+    }
+    judge_list(lists::of_model(number), s, work)
+}
+
+// Reads a record once and judges all thirteen predicates.
+pub fn judge_all(s: &[u8], work: &mut [u64]) -> AllVerdicts
+    ensures { λ r. ⌜ r .reading ≡ reading gcr1 (length (now (work .entry))) (now (s .entry)) ⌝ }
+    ensures { λ r. ⌜ r .verdicts ≡ verdictsOf gcr1 (r .reading) (now (s .entry)) ⌝ }
+    ensures { λ r. ⌜ now (work .exit) ≡ workAfter gcr1 (numberOf (r .reading)) (now (s .entry)) (now (work .entry)) ⌝ }
+{
+    let reading = record::read(s, work);
+    if record::number(reading) != 0 {
+        return AllVerdicts {
+            reading,
+            verdicts: [0u64; 13],
+        };
+    }
+    let n = record::header::count(s);
+    let mut l = [0u64; 1024];
+    record::words::load(s, n, 0, 4, &mut l);
+    let verdicts = thirteen::verdicts(&l, work, n);
+    AllVerdicts { reading, verdicts }
+}

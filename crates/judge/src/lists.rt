@@ -1,0 +1,163 @@
+// Lists of predicates, by number: the table of models, and the first broken predicate of a list.
+use super::Needs;
+use super::Outcome;
+use super::Predicate;
+use super::Verdict;
+use super::prepared;
+ghost use mathlib.Core.Path.{_≡_};
+ghost use Prim.Native.Nat.{_*_, _≤_, _<_};
+ghost use lib.ListN.{length};
+ghost use Rattle.record.specs.Words.{historyFrom};
+ghost use Rattle.judge.specs.Predicates.{numbered};
+ghost use Rattle.judge.specs.Models.{listOf, firstBroken};
+ghost use Rattle.judge.specs.Tables.{Given, needsOf, upToZero, Numbers, Covers, Closed, Serves};
+
+// The predicates of each model in the order in which they are asked, 0 past a list's end.
+const MODELS: [[u8; 4]; 13] = [
+    [2, 3, 1, 0],
+    [2, 4, 1, 0],
+    [2, 9, 1, 0],
+    [10, 11, 1, 0],
+    [10, 11, 3, 1],
+    [13, 9, 1, 0],
+    [13, 12, 1, 0],
+    [9, 0, 0, 0],
+    [5, 0, 0, 0],
+    [6, 0, 0, 0],
+    [7, 0, 0, 0],
+    [8, 0, 0, 0],
+    [12, 0, 0, 0],
+];
+
+// A model's list.
+pub fn of_model(m: usize) -> [u8; 4]
+    requires { ⌜ (1 ≤ m) × (m ≤ 13) ⌝ }
+    ensures { λ r. ⌜ (upToZero r ≡ listOf m) × Numbers r ⌝ }
+{
+    MODELS[m - 1]
+}
+
+// The predicate of a number.
+pub fn by_number(k: u8) -> Predicate
+    requires { ⌜ (1 ≤ k) × (k ≤ 13) ⌝ }
+    ensures { λ r. ⌜ r ≡ numbered k ⌝ }
+{
+    match k {
+        1 => Predicate::RVal,
+        2 => Predicate::SingleOrder,
+        3 => Predicate::RealTime,
+        4 => Predicate::RealTimeWrites,
+        5 => Predicate::MonotonicReads,
+        6 => Predicate::ReadYourWrites,
+        7 => Predicate::MonotonicWrites,
+        8 => Predicate::WritesFollowReads,
+        9 => Predicate::Pram,
+        10 => Predicate::CausalVisibility,
+        11 => Predicate::CausalArbitration,
+        12 => Predicate::PerObjectPram,
+        _ => Predicate::PerObjectSingleOrder,
+    }
+}
+
+// The tables that a predicate is judged from.
+pub fn needs_of(p: Predicate) -> Needs
+    ensures { λ r. ⌜ r ≡ needsOf p ⌝ }
+{
+    let none = Needs {
+        basic: false,
+        middle: false,
+        hb: false,
+    };
+    let basic = Needs {
+        basic: true,
+        middle: false,
+        hb: false,
+    };
+    let middle = Needs {
+        basic: true,
+        middle: true,
+        hb: false,
+    };
+    let hb = Needs {
+        basic: true,
+        middle: false,
+        hb: true,
+    };
+    match p {
+        Predicate::RVal => none,
+        Predicate::SingleOrder => none,
+        Predicate::RealTime => basic,
+        Predicate::RealTimeWrites => basic,
+        Predicate::MonotonicReads => middle,
+        Predicate::ReadYourWrites => basic,
+        Predicate::MonotonicWrites => basic,
+        Predicate::WritesFollowReads => middle,
+        Predicate::Pram => basic,
+        Predicate::CausalVisibility => hb,
+        Predicate::CausalArbitration => hb,
+        Predicate::PerObjectPram => basic,
+        Predicate::PerObjectSingleOrder => none,
+    }
+}
+
+// The tables that the predicates of a list are judged from.
+pub fn needs_of_list(list: [u8; 4]) -> Needs
+    requires { ⌜ Numbers list ⌝ }
+    ensures { λ r. ⌜ Closed r × Serves r list ⌝ }
+{
+    let mut all = Needs {
+        basic: false,
+        middle: false,
+        hb: false,
+    };
+    for k in 0..4 {
+        let number = list[k];
+        if number != 0 {
+            let one = needs_of(by_number(number));
+            all = Needs {
+                basic: all.basic || one.basic,
+                middle: all.middle || one.middle,
+                hb: all.hb || one.hb,
+            };
+        }
+    }
+    all
+}
+
+// The first broken predicate of a list, with its pair.
+pub fn first_broken(list: [u8; 4], l: &[u64], v: &[u64], n: usize) -> Outcome
+    requires { ⌜ Given n 4 (now l) (now v) × Numbers list ⌝ }
+    ensures { λ r. ⌜ r ≡ firstBroken (upToZero list) (historyFrom n 4 (now (l .entry)) (now (v .entry))) ⌝ }
+{
+    let mut rbs = [0u64; 1024];
+    let mut sos = [0u64; 1024];
+    let mut ars = [0u64; 1024];
+    let mut objects = [0u64; 1024];
+    let mut middles = [0u64; 1024];
+    let mut hbs = [0u64; 1024];
+    let m = needs_of_list(list);
+    prepared::prepare(
+        m,
+        l,
+        v,
+        n,
+        &mut rbs,
+        &mut sos,
+        &mut ars,
+        &mut objects,
+        &mut middles,
+        &mut hbs,
+    );
+    for k in 0..4 {
+        let number = list[k];
+        if number == 0 {
+            return Outcome::AllMet;
+        }
+        let p = by_number(number);
+        let found = prepared::judge(p, m, l, v, n, &rbs, &sos, &ars, &objects, &middles, &hbs);
+        if let Verdict::Broken(a, b) = found {
+            return Outcome::BrokenAt(number as usize, a, b);
+        }
+    }
+    Outcome::AllMet
+}
