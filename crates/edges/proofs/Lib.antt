@@ -1,0 +1,2 @@
+-- The table of edges holds.
+pub mod EdgesHold

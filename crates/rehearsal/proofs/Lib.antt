@@ -1,0 +1,21 @@
+-- What is proved of the store's rules.
+pub mod UpdateLaws
+pub mod Invariant
+pub mod DeliverKeeps
+pub mod PutGetKeeps
+pub mod RunKeeps
+pub mod RankLaws
+pub mod Sizes
+pub mod StoreIsCausal
+pub mod WholeList
+pub mod StoreExamples
+pub mod ThirdDemand
+pub mod KeptLaws
+pub mod ServeLaws
+pub mod MirrorLaws
+pub mod RunLaws
+pub mod EventLaws
+pub mod ImageLaws
+pub mod RehearsalLaws
+pub mod ResultSizes
+pub mod PackedLaws

@@ -1,0 +1,120 @@
+-- A rehearsal, refused or accepted, meets the third demand. Assumes nothing.
+use mathlib.Core.Path.{_≡_, refl, sym, ap, _∙_}
+use mathlib.Core.Bool.{Bool, true, false, _&&_}
+use mathlib.Core.List.{List, _++_}
+use Prim.Native.Nat.{ℕ, _*_, _-_, _%_, _≤_, _<_}
+use native.Mathlib.Omega.{arith}
+use lib.Dec.{eqb, leb}
+use lib.ListN.{length, drop}
+use borrow.Author.Tests.{eq-eqb, ne-eqb, eqb-true, leb-true}
+use Rattle.rows.proofs.Tests.{and-left, and-right}
+use Rattle.record.specs.Layout.{gcr1}
+use Rattle.record.specs.Encode.{blocksFor}
+use Rattle.record.proofs.StoresLaws.{Bytes}
+use Rattle.record.proofs.SoundLayout.{gcr1-sound}
+use Rattle.record.proofs.ImageLaws.{length-record}
+use Rattle.rehearsal.specs.Store.{Event, fresh}
+use Rattle.rehearsal.specs.Calls.{callsOf}
+use Rattle.rehearsal.specs.Rules.{ask, answers}
+use Rattle.rehearsal.specs.Recorded.{recorded, storeRecord}
+use Rattle.rehearsal.specs.Rehearsal.{rehearsalRefusal, storeAfter, recordOf, recordAfter, answersAfter, lengthAfter, puts, mostCopies}
+use Rattle.rehearsal.specs.Mirror.{Stands, Bounded}
+use Rattle.rehearsal.specs.Demand.{Rehearses}
+use Rattle.rehearsal.specs.declared.KeptEvent.{KeptEvent}
+use Rattle.rehearsal.proofs.RunKeeps.{every-run}
+use Rattle.rehearsal.proofs.Sizes.{every-limits, every-sizes}
+use Rattle.rehearsal.proofs.ThirdDemand.{third-demand}
+
+-- ---- what a run leaves is small
+
+pub store-few : (n : ℕ) (script : List ℕ) → storeAfter n script .count ≤ 256
+unfolding storeAfter
+store-few n script = every-limits n (callsOf script) .count
+
+module _ (n : ℕ) (n≤8 : n ≤ 8) (script : List ℕ) where
+  store-site : (e : ℕ) → e < storeAfter n script .count → storeAfter n script .event e .site < 8
+  unfolding storeAfter
+  store-site e l = omega (arith, every-run n n≤8 (callsOf script) .events e l .site)
+
+  store-stamp : (e : ℕ) → e < storeAfter n script .count → storeAfter n script .event e .stamp ≤ 256
+  unfolding storeAfter
+  store-stamp e l = omega (arith, every-sizes n n≤8 (callsOf script) .stamp e l, every-limits n (callsOf script) .count)
+
+  pub run-bounded : (count : ℕ) (events : List KeptEvent) → Stands count events (storeAfter n script) → Bounded count events
+  run-bounded count events h = record {
+    count = omega (arith, h .count, store-few n script);
+    site = λ e l. omega (arith, ap (λ (x : Event). x .site) (h .event e l), store-site e (omega (arith, h .count)));
+    stamp = λ e l. omega (arith, ap (λ (x : Event). x .stamp) (h .event e l), store-stamp e (omega (arith, h .count)));
+  }
+
+-- ---- questions 20 to 23
+
+ask-passed : (t : Bool) (number next : ℕ) → 0 < number → ask t number next ≡ 0 → (t ≡ true) × (next ≡ 0)
+ask-passed true number next h e = (refl, e)
+ask-passed false number next h e = absurd (omega arith)
+
+pub record Accepted (n : ℕ) (script rec ans : List ℕ) : Type 0 where
+  pub least : 1 ≤ n
+  pub most : n ≤ 8
+  pub whole : length script % 8 ≡ 0
+  pub short : length script ≤ 32768
+  pub room : 19456 ≤ length rec
+  pub answered : length script ≤ length ans
+
+pub accepted : (n : ℕ) (script rec ans : List ℕ) → rehearsalRefusal n script rec ans ≡ 0 → Accepted n script rec ans
+unfolding rehearsalRefusal
+accepted n script rec ans e =
+    let q20 = ask-passed (leb 1 n && leb n 8) 20 _ (omega arith) e in
+    let q21 = ask-passed (eqb (length script % 8) 0 && leb (length script) 32768) 21 _ (omega arith) (q20 .1) in
+    let q22 = ask-passed (leb 19456 (length rec)) 22 _ (omega arith) (q21 .1) in
+    let q23 = ask-passed (leb (length script) (length ans)) 23 0 (omega arith) (q22 .1) in
+    record {
+      least = leb-true 1 n (and-left (leb 1 n) (leb n 8) (q20 .0));
+      most = leb-true n 8 (and-right (leb 1 n) (leb n 8) (q20 .0));
+      whole = eqb-true (length script % 8) 0 (and-left (eqb (length script % 8) 0) (leb (length script) 32768) (q21 .0));
+      short = leb-true (length script) 32768 (and-right (eqb (length script % 8) 0) (leb (length script) 32768) (q21 .0));
+      room = leb-true 19456 (length rec) (q22 .0);
+      answered = leb-true (length script) (length ans) (q23 .0);
+    }
+
+-- ---- the demand
+
+module _ (n : ℕ) (script rec ans : List ℕ) where
+  pub refused-rehearses : (number : ℕ) → number ≡ rehearsalRefusal n script rec ans → (number ≡ 0 → ⊥)
+      → Rehearses n script rec ans rec ans (record { number = number; length = 0; outstanding = 0 })
+  unfolding recordAfter answersAfter lengthAfter mostCopies
+  refused-rehearses number e some =
+      let refused : eqb (rehearsalRefusal n script rec ans) 0 ≡ false = ne-eqb (rehearsalRefusal n script rec ans) 0 (λ z. some (e ∙ z)) in
+      record {
+        number = e;
+        length = rw refused;
+        recorded = rw refused;
+        answered = rw refused;
+        copies = omega arith;
+        causal = λ z. absurd (some z);
+      }
+
+  module _ (ok : rehearsalRefusal n script rec ans ≡ 0) (bytes : Bytes script) (count : ℕ) (events : List KeptEvent)
+      (stands : Stands count events (storeAfter n script)) where
+    record-long : length (recordOf n script) ≡ 512 * blocksFor gcr1 count
+    unfolding recordOf storeRecord recorded
+    record-long = length-record gcr1 gcr1-sound (recorded (storeAfter n script)) n ∙ ap (λ (k : ℕ). 512 * blocksFor gcr1 k) (sym (stands .count))
+
+    pub accepted-rehearses : (rec′ ans′ : List ℕ) (long copies : ℕ)
+        → ans′ ≡ answers n fresh (callsOf script) ++ drop (length script) ans
+        → rec′ ≡ storeRecord gcr1 n (storeAfter n script) ++ drop (512 * blocksFor gcr1 count) rec
+        → long ≡ 512 * blocksFor gcr1 count
+        → copies ≤ puts (storeAfter n script .event) (storeAfter n script .count) * (n - 1)
+        → Rehearses n script rec ans rec′ ans′ (record { number = 0; length = long; outstanding = copies })
+    unfolding recordAfter answersAfter lengthAfter mostCopies recordOf
+    accepted-rehearses rec′ ans′ long copies answered recorded lasts few =
+        let yes : eqb (rehearsalRefusal n script rec ans) 0 ≡ true = eq-eqb (rehearsalRefusal n script rec ans) 0 ok in
+        let right = accepted n script rec ans ok in
+        record {
+          number = sym ok;
+          length = rw yes (lasts ∙ sym record-long);
+          recorded = rw (yes, record-long) recorded;
+          answered = rw yes answered;
+          copies = rw yes few;
+          causal = λ z. third-demand n (right .least) (right .most) script bytes;
+        }

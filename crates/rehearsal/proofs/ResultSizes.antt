@@ -1,0 +1,87 @@
+-- How large a rehearsal's result is: its parts fit a host's number, and the record is in its buffer. Assumes nothing.
+use mathlib.Core.Path.{_≡_, refl, ap}
+use mathlib.Core.Bool.{Bool, true, false, cond, _&&_}
+use mathlib.Core.List.{List, _++_}
+use Prim.Native.Nat.{ℕ, _*_, _-_, _%_, _≤_}
+use native.Mathlib.Nat.{mul-le-mul}
+use native.Mathlib.Omega.{arith}
+use lib.Dec.{eqb, leb}
+use lib.ListN.{length, drop, length-append}
+use borrow.Author.Tests.{eqb-true}
+use Rattle.record.specs.Layout.{gcr1}
+use Rattle.record.proofs.SoundLayout.{gcr1-sound}
+use Rattle.record.proofs.ImageLaws.{length-record}
+use Rattle.rehearsal.specs.Store.{Store}
+use Rattle.rehearsal.specs.Rules.{ask}
+use Rattle.rehearsal.specs.Recorded.{recorded, storeRecord}
+use Rattle.rehearsal.specs.Rehearsal.{rehearsalRefusal, storeAfter, recordOf, recordAfter, lengthAfter, puts, mostCopies}
+use Rattle.rehearsal.specs.Demand.{Rehearses}
+use Rattle.rehearsal.specs.declared.Rehearsed.{Rehearsed}
+use Rattle.rehearsal.proofs.EventLaws.{puts-most}
+use Rattle.rehearsal.proofs.RehearsalLaws.{store-few, accepted}
+
+ask-most : (t : Bool) (number next m : ℕ) → number ≤ m → next ≤ m → ask t number next ≤ m
+ask-most true number next m h k = k
+ask-most false number next m h k = h
+
+cond-most : (t : Bool) (x m : ℕ) → (t ≡ true → x ≤ m) → cond t x 0 ≤ m
+cond-most true x m h = h refl
+cond-most false x m h = omega arith
+
+pub record SmallResult (r : Rehearsed) : Type 0 where
+  pub number : r .number ≤ 23
+  pub length : r .length ≤ 19456
+  pub outstanding : r .outstanding ≤ 1792
+
+module _ (n : ℕ) (script rec ans : List ℕ) where
+  abbrev passed : Bool
+  passed = eqb (rehearsalRefusal n script rec ans) 0
+
+  refusal-most : rehearsalRefusal n script rec ans ≤ 23
+  unfolding rehearsalRefusal
+  refusal-most =
+      ask-most (leb 1 n && leb n 8) 20 _ 23 (omega arith)
+      (ask-most (eqb (length script % 8) 0 && leb (length script) 32768) 21 _ 23 (omega arith)
+      (ask-most (leb 19456 (length rec)) 22 _ 23 (omega arith) (ask-most (leb (length script) (length ans)) 23 0 23 (omega arith) (omega arith))))
+
+  record-most : length (recordOf n script) ≤ 19456
+  unfolding recordOf storeRecord recorded
+  record-most = omega (arith, length-record gcr1 gcr1-sound (recorded (storeAfter n script)) n, store-few n script)
+
+  length-most : lengthAfter n script rec ans ≤ 19456
+  unfolding lengthAfter
+  length-most = cond-most passed (length (recordOf n script)) 19456 (λ t. record-most)
+
+  copies-most : mostCopies n script rec ans ≤ 1792
+  unfolding mostCopies
+  copies-most =
+      let st : Store = storeAfter n script in
+      let k : ℕ = puts (st .event) (st .count) in
+      let few : k ≤ 256 = omega (arith, puts-most (st .event) (st .count), store-few n script) in
+      cond-most passed (k * (n - 1)) 1792
+      (λ t.
+      let sites : n - 1 ≤ 7 = omega (arith, accepted n script rec ans (eqb-true (rehearsalRefusal n script rec ans) 0 t) .most) in
+      mul-le-mul few sites)
+
+  -- a record is in front of the buffer that it is in
+  within : lengthAfter n script rec ans ≤ length (recordAfter n script rec ans)
+  unfolding lengthAfter recordAfter
+  within = go passed
+    where
+      s : List ℕ
+      s = recordOf n script
+
+      go : (t : Bool) → cond t (length s) 0 ≤ length (cond t (s ++ drop (length s) rec) rec)
+      go true = omega (arith, length-append s (drop (length s) rec))
+      go false = omega arith
+
+  module _ (rec′ ans′ : List ℕ) (r : Rehearsed) (h : Rehearses n script rec ans rec′ ans′ r) where
+    pub result-small : SmallResult r
+    result-small = record {
+      number = omega (arith, h .number, refusal-most);
+      length = omega (arith, h .length, length-most);
+      outstanding = omega (arith, h .copies, copies-most);
+    }
+
+    pub record-inside : r .length ≤ length rec′
+    record-inside = omega (arith, h .length, ap length (h .recorded), within)

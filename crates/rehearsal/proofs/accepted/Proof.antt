@@ -1,0 +1,69 @@
+-- `rehearsal::accepted` meets its contract: the answers of the run, and the record of the store that the run stands for. Assumes nothing.
+use native.Mathlib.Omega.{arith}
+use borrow.Author.Needs.{needs}
+use Rattle.rehearsal.specs.Mirror.{Bounded}
+use Rattle.rehearsal.specs.Rehearsal.{storeAfter}
+use Rattle.rehearsal.proofs.RehearsalLaws.{Accepted, accepted, run-bounded, accepted-rehearses}
+use Rattle.rehearsal.proofs.accepted.Statement.{statement}
+use Rattle.rehearsal.proofs.accepted.Tie as tie
+
+-- questions 20 to 23 got a yes
+right : (c : tie.Start) → let g = c .args in Accepted (g .sites) (g .script .now) (g .rec .now) (g .answers .now)
+right c = let g = c .args in accepted (g .sites) (g .script .now) (g .rec .now) (g .answers .now) (c .pre)
+
+abbrev entry : tie.After-run → tie.Start
+entry c = c .before .before .before .before .before
+
+small : (c : tie.After-run) → Bounded (c .run .result .count) (c .run .result .events)
+small c =
+    let g = entry c .args in
+    run-bounded (g .sites) (right (entry c) .most) (g .script .now) (c .run .result .count) (c .run .result .events) (c .run .ensures .1)
+
+run-requires : tie.Need-run-requires
+run-requires c κs =
+    let a = right (c .before .before .before .before) in
+    (a .most, (a .whole, (a .short, a .answered)))
+
+cast-write : tie.Need-cast-write
+cast-write c = omega (arith, right (entry (c .before .before)) .most)
+
+write-requires : tie.Need-write-requires
+write-requires c κs =
+    let run = c .before .before .before in
+    (small run, right (entry run) .room)
+
+outstanding-requires : tie.Need-outstanding-requires
+outstanding-requires c κs =
+    let run = c .before .before .before .before .before .before in
+    let a = right (entry run) in
+    (a .least, (a .most, small run .count))
+
+same-length : tie.Need-same-length
+same-length c = search needs
+
+same-length-2 : tie.Need-same-length-2
+same-length-2 c = search needs
+
+returns : tie.Need-returns
+returns c =
+    let write = c .before .before .before in
+    let run = write .before .before .before .before in
+    let g = entry run .args in
+    let r = run .run .result in
+    let stands = run .run .ensures .1 in
+    let st = storeAfter (g .sites) (g .script .now) in
+    accepted-rehearses (g .sites) (g .script .now) (g .rec .now) (g .answers .now) (entry run .pre)
+    (λ i. run .before .before .before .before .shared-slice-known .given i .fits) (r .count) (r .events) stands _ _ _ _
+    (run .run .ensures .0) (write .write .ensures .1 st stands) (write .write .ensures .0) (c .outstanding .ensures st stands)
+
+pub accepted-spec : {M : Type 1} → statement M
+accepted-spec =
+    tie.close
+    (tie.spec
+    run-requires
+    cast-write
+    write-requires
+    outstanding-requires
+    same-length
+    same-length-2
+    returns)

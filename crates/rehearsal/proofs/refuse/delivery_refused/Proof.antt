@@ -1,0 +1,58 @@
+-- `rehearsal::refuse::delivery_refused` meets its contract: each return is the first question that got a no. Assumes nothing.
+use borrow.Author.Needs.{needs}
+use borrow.Author.Tests.{lt-ltb, le-ltb, not-true, not-false}
+use Rattle.rehearsal.proofs.refuse.delivery_refused.Statement.{statement}
+use Rattle.rehearsal.proofs.refuse.delivery_refused.Tie as tie
+
+cast-w : tie.Need-cast-w
+cast-w c = search needs
+
+cast-if1 : tie.Need-cast-if1
+cast-if1 c = search needs
+
+returns : tie.Need-returns
+returns c = rw (le-ltb _ _ (c .if1 .taken))
+
+returns-2 : tie.Need-returns-2
+returns-2 c = rw (lt-ltb _ _ (c .before .if1 .left), le-ltb _ _ (c .if2 .taken))
+
+returns-3 : tie.Need-returns-3
+returns-3 c =
+    let g = c .before .before .before .before .before .before .args in
+    rw (lt-ltb _ _ (c .before .before .before .if1 .left), lt-ltb _ _ (c .before .before .if2 .left), not-true (g .e .put) (c .if3 .taken))
+
+knows-requires : tie.Need-knows-requires
+knows-requires c κs = search needs
+
+returns-4 : tie.Need-returns-4
+returns-4 c =
+    let g = c .before .before .before .before .before .before .before .before .before .args in
+    rw (lt-ltb _ _ (c .before .before .before .before .before .before .if1 .left), lt-ltb _ _ (c .before .before .before .before .before .if2 .left), not-false (g .e .put) (c .before .before .before .if3 .left), ← (c .before .knows .ensures), c .if4 .taken)
+
+reaches-requires : tie.Need-reaches-requires
+reaches-requires c κs = search needs
+
+returns-5 : tie.Need-returns-5
+returns-5 c =
+    let g = c .before .before .before .before .before .before .before .before .before .before .before .before .before .args in
+    rw (lt-ltb _ _ (c .before .before .before .before .before .before .before .before .before .before .if1 .left), lt-ltb _ _ (c .before .before .before .before .before .before .before .before .before .if2 .left), not-false (g .e .put) (c .before .before .before .before .before .before .before .if3 .left), ← (c .before .before .before .before .before .knows .ensures), c .before .before .before .before .if4 .left, ← (c .before .reaches .ensures), c .if5 .taken)
+
+returns-6 : tie.Need-returns-6
+returns-6 c =
+    let g = c .before .before .before .before .before .before .before .before .before .before .before .before .before .args in
+    rw (lt-ltb _ _ (c .before .before .before .before .before .before .before .before .before .before .if1 .left), lt-ltb _ _ (c .before .before .before .before .before .before .before .before .before .if2 .left), not-false (g .e .put) (c .before .before .before .before .before .before .before .if3 .left), ← (c .before .before .before .before .before .knows .ensures), c .before .before .before .before .if4 .left, ← (c .before .reaches .ensures), c .if5 .left)
+
+pub delivery-refused-spec : {M : Type 1} → statement M
+delivery-refused-spec =
+    tie.close
+    (tie.spec
+    cast-w
+    cast-if1
+    returns
+    returns-2
+    returns-3
+    knows-requires
+    returns-4
+    reaches-requires
+    returns-5
+    returns-6)

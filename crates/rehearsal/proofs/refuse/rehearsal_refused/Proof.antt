@@ -1,0 +1,79 @@
+-- `rehearsal::refuse::rehearsal_refused` meets its contract: each return is the first question that got a no. Assumes nothing.
+use borrow.Author.Tests.{le-leb, lt-leb, eq-eqb, ne-eqb}
+use Rattle.rehearsal.specs.Rehearsal.{rehearsalRefusal}
+use Rattle.rehearsal.proofs.refuse.rehearsal_refused.Statement.{statement}
+use Rattle.rehearsal.proofs.refuse.rehearsal_refused.Tie as tie
+
+returns : tie.Need-returns
+unfolding rehearsalRefusal
+returns c = λ s t u e f g. rw (lt-leb _ _ (c .if1 .taken))
+
+returns-2 : tie.Need-returns-2
+unfolding rehearsalRefusal
+returns-2 c = λ s t u e f g. rw (le-leb _ _ (c .before .if1 .left), lt-leb _ _ (c .if2 .taken))
+
+returns-3 : tie.Need-returns-3
+unfolding rehearsalRefusal
+returns-3 c = λ s t u e f g. rw (le-leb _ _ (c .before .before .if1 .left), le-leb _ _ (c .before .if2 .left), e, ne-eqb _ _ (c .if3 .taken))
+
+returns-4 : tie.Need-returns-4
+unfolding rehearsalRefusal
+returns-4 c =
+    let sites = c .before .before in
+    λ s t u e f g. rw (le-leb _ _ (sites .before .if1 .left), le-leb _ _ (sites .if2 .left), e, eq-eqb _ _ (c .before .if3 .left), lt-leb _ _ (c .if4 .taken))
+
+returns-5 : tie.Need-returns-5
+unfolding rehearsalRefusal
+returns-5 c =
+    let script = c .before in
+    let sites = script .before .before in
+    λ s t u e f g.
+    rw (
+      le-leb _ _ (sites .before .if1 .left),
+      le-leb _ _ (sites .if2 .left),
+      e,
+      eq-eqb _ _ (script .before .if3 .left),
+      le-leb _ _ (script .if4 .left),
+      f,
+      lt-leb _ _ (c .if5 .taken),
+    )
+
+returns-6 : tie.Need-returns-6
+unfolding rehearsalRefusal
+returns-6 c =
+    let script = c .before .before in
+    let sites = script .before .before in
+    λ s t u e f g.
+    rw (
+      le-leb _ _ (sites .before .if1 .left),
+      le-leb _ _ (sites .if2 .left),
+      e,
+      eq-eqb _ _ (script .before .if3 .left),
+      le-leb _ _ (script .if4 .left),
+      f,
+      le-leb _ _ (c .before .if5 .left),
+      g,
+      lt-leb _ _ (c .if6 .taken),
+    )
+
+returns-7 : tie.Need-returns-7
+unfolding rehearsalRefusal
+returns-7 c =
+    let script = c .before .before in
+    let sites = script .before .before in
+    λ s t u e f g.
+    rw (
+      le-leb _ _ (sites .before .if1 .left),
+      le-leb _ _ (sites .if2 .left),
+      e,
+      eq-eqb _ _ (script .before .if3 .left),
+      le-leb _ _ (script .if4 .left),
+      f,
+      le-leb _ _ (c .before .if5 .left),
+      g,
+      le-leb _ _ (c .if6 .left),
+    )
+
+pub rehearsal-refused-spec : {M : Type 1} → statement M
+rehearsal-refused-spec =
+    tie.close (tie.spec returns returns-2 returns-3 returns-4 returns-5 returns-6 returns-7)

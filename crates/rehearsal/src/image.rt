@@ -1,0 +1,47 @@
+// The record of a run, written in place.
+use super::Ran;
+use super::ranks;
+use super::slots;
+use record::write;
+ghost use mathlib.Core.Path.{_≡_};
+ghost use mathlib.Core.List.{_++_};
+ghost use Prim.Native.Nat.{_*_, _≤_};
+ghost use lib.ListN.{length, drop};
+ghost use Rattle.record.specs.Layout.{gcr1};
+ghost use Rattle.record.specs.Encode.{blocksFor, withSlots};
+ghost use Rattle.rehearsal.specs.Store.{Store};
+ghost use Rattle.rehearsal.specs.Recorded.{recorded, storeRecord};
+ghost use Rattle.rehearsal.specs.Mirror.{Stands, Bounded};
+
+// The slot of each event.
+fn put_slots(ran: Ran, rec: &mut [u8])
+    requires { ⌜ Bounded (ran .count) (ran .events) ⌝ }
+    requires { ⌜ 512 * blocksFor gcr1 (ran .count) ≤ length (now rec) ⌝ }
+    ensures { λ _. ⌜ ((st : Store) → Stands (ran .count) (ran .events) st → now (rec .exit) ≡ withSlots gcr1 (recorded st) (ran .count) (now (rec .entry))) ⌝ }
+{
+    let keys = ranks::keys(ran);
+    let events = ran.events;
+    let count = ran.count;
+    for k in 0..count {
+        let e = events[k];
+        let position = ranks::rank(&keys, count, k);
+        let x = slots::slot(k, e, position as u16);
+        write::put_slot(rec, k, x);
+    }
+}
+
+// The whole record, of n sites; the rest of the buffer stays. The result is the record's length.
+pub fn write(n: u8, ran: Ran, rec: &mut [u8]) -> usize
+    requires { ⌜ Bounded (ran .count) (ran .events) ⌝ }
+    requires { ⌜ 19456 ≤ length (now rec) ⌝ }
+    ensures { λ r. ⌜ r ≡ 512 * blocksFor gcr1 (ran .count) ⌝ }
+    ensures { λ _. ⌜ ((st : Store) → Stands (ran .count) (ran .events) st → now (rec .exit) ≡ storeRecord gcr1 n st ++ drop (512 * blocksFor gcr1 (ran .count)) (now (rec .entry))) ⌝ }
+{
+    let count = ran.count;
+    let blocks = 1 + (count + 6) / 7;
+    write::clear(rec, 512 * blocks);
+    write::header(rec, count, n);
+    put_slots(ran, rec);
+    write::seal(rec, blocks);
+    512 * blocks
+}

@@ -1,0 +1,101 @@
+// What refuses a rehearsal, and what refuses a call: questions 20 to 23 and 31 to 36, in that order.
+use super::Asked;
+use super::Kept;
+use super::KeptEvent;
+use super::sites;
+ghost use mathlib.Core.Path.{_≡_};
+ghost use mathlib.Core.Bool.{not, _&&_};
+ghost use mathlib.Core.List.{List};
+ghost use Prim.Native.Nat.{ℕ, _≤_};
+ghost use lib.Dec.{leb, ltb};
+ghost use lib.ListN.{length, getD};
+ghost use Rattle.rows.specs.Row.{has};
+ghost use Rattle.rehearsal.specs.Rules.{ask, reached, refusal};
+ghost use Rattle.rehearsal.specs.Rehearsal.{rehearsalRefusal};
+ghost use Rattle.rehearsal.specs.Mirror.{callOf, partOf};
+
+// Of a rehearsal at n sites, by the lengths of the script and of both buffers. 0 where it is not refused.
+pub fn rehearsal_refused(n: usize, script: usize, rec: usize, answers: usize) -> usize
+    ensures { λ r. ⌜ ((s t u : List ℕ) → length s ≡ script → length t ≡ rec → length u ≡ answers → r ≡ rehearsalRefusal n s t u) ⌝ }
+{
+    if n < 1 {
+        return 20;
+    }
+    if 8 < n {
+        return 20;
+    }
+    if script % 8 != 0 {
+        return 21;
+    }
+    if 32768 < script {
+        return 21;
+    }
+    if rec < 19456 {
+        return 22;
+    }
+    if answers < script {
+        return 23;
+    }
+    0
+}
+
+// Of a put or a get.
+pub fn event_refused(n: usize, count: usize, c: Asked) -> u8
+    ensures { λ r. ⌜ r ≡ ask (ltb (c .site) n) 32 (ask (leb (c .object) 31) 33 (ask (ltb count 256) 34 0)) ⌝ }
+{
+    if n <= c.site as usize {
+        return 32;
+    }
+    if 31 < c.object {
+        return 33;
+    }
+    if 256 <= count {
+        return 34;
+    }
+    0
+}
+
+// Of a delivery of e to site a.
+pub fn delivery_refused(n: usize, count: usize, c: Asked, a: Kept, e: KeptEvent) -> u8
+    requires { ⌜ count ≤ 256 ⌝ }
+    ensures { λ r. ⌜ r ≡ ask (ltb (c .site) n) 32 (ask (ltb (c .event) count && e .put) 33 (ask (not (has (a .known) (c .event))) 35 (ask (reached 8 (λ i. getD (e .needs) i 0) (λ i. getD (a .counts) i 0)) 36 0))) ⌝ }
+{
+    let w = c.event as usize;
+    if n <= c.site as usize {
+        return 32;
+    }
+    if count <= w {
+        return 33;
+    }
+    if !e.put {
+        return 33;
+    }
+    let known = a.known;
+    if sites::knows(known, w) {
+        return 35;
+    }
+    let counts = a.counts;
+    let needs = e.needs;
+    if sites::reaches(counts, needs) {
+        return 0;
+    }
+    36
+}
+
+// 0, or the number that refuses a call.
+pub fn refused(n: usize, count: usize, c: Asked, a: Kept, e: KeptEvent) -> u8
+    requires { ⌜ count ≤ 256 ⌝ }
+    ensures { λ r. ⌜ r ≡ refusal n (partOf count a e) (callOf c) ⌝ }
+{
+    let kind = c.kind;
+    if kind == 1 {
+        return event_refused(n, count, c);
+    }
+    if kind == 2 {
+        return event_refused(n, count, c);
+    }
+    if kind == 3 {
+        return delivery_refused(n, count, c, a, e);
+    }
+    31
+}

@@ -1,0 +1,38 @@
+// Rehearses a script: standard input has one byte, the sites, and then the script. Writes the record, or `refused` with the question's number.
+use libc::STDIN_FILENO;
+use libc::STDOUT_FILENO;
+
+fn refused(number: usize) {
+    io::write_all(STDOUT_FILENO, b"refused ");
+    lines::number(number);
+    io::write_all(STDOUT_FILENO, b"\n");
+}
+
+// The record's bytes are written as they are, with nothing after them.
+fn rehearse(sites: usize, script: &[u8], rec: &mut [u8], answers: &mut [u8]) {
+    let r = rehearsal::rehearse(sites, script, rec, answers);
+    if r.number != 0 {
+        refused(r.number);
+        return;
+    }
+    let length = r.length;
+    io::write_all(STDOUT_FILENO, &rec[..length]);
+}
+
+// An empty input has 0 sites and an empty script.
+fn answer(input: &[u8], rec: &mut [u8], answers: &mut [u8]) {
+    if input.len() == 0 {
+        rehearse(0, input, rec, answers);
+        return;
+    }
+    rehearse(input[0] as usize, &input[1..], rec, answers);
+}
+
+fn main() {
+    // One byte more than the sites and the longest script, so that a longer input is refused and not cut.
+    let mut input = [0u8; 32770];
+    let length = io::read_full(STDIN_FILENO, &mut input);
+    let mut rec = [0u8; 19456];
+    let mut answers = [0u8; 32768];
+    answer(&input[..length], &mut rec, &mut answers);
+}
