@@ -3,11 +3,9 @@ pub mod FirstPairLaws
 pub mod LastWriteLaws
 pub mod MetIffHolds
 pub mod HappensBefore
-pub mod Causal
 pub mod SameVerdict
 pub mod ModelMet
 pub mod Packing
-pub mod EdgeExamples
 pub mod SliceLaws
 pub mod EventLaws
 pub mod ReadLaws
@@ -22,3 +20,5 @@ pub mod JudgmentLaws
 pub mod ListLaws
 pub mod PreparedLaws
 pub mod ThirteenLaws
+pub mod OrderOfTime
+pub mod SweepLaws

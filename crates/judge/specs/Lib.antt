@@ -7,3 +7,4 @@ pub mod Holds
 pub mod Models
 pub mod Judgments
 pub mod Tables
+pub mod Sweep

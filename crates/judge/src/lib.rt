@@ -6,6 +6,7 @@ pub mod lists;
 pub mod order;
 pub mod prepared;
 pub mod reads;
+pub mod sweep;
 pub mod tables;
 pub mod thirteen;
 

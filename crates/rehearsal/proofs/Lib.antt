@@ -8,7 +8,6 @@ pub mod RankLaws
 pub mod Sizes
 pub mod StoreIsCausal
 pub mod WholeList
-pub mod StoreExamples
 pub mod ThirdDemand
 pub mod KeptLaws
 pub mod ServeLaws

@@ -9,11 +9,11 @@ use borrow.Author.Tests.{ltb-true, ltb-false}
 use lib.Dec.{ltb}
 use lib.ListN.{length}
 use Rattle.rows.specs.Row.{has, orPart, rowAt}
-use Rattle.rows.specs.Relation.{Rel, via, reaches, Steps, one, more, related, Table}
+use Rattle.rows.specs.Relation.{Rel, via, reaches, related, Table}
 use Rattle.rows.proofs.Tests.{split}
-use Rattle.rows.proofs.RowLaws.{has-or, row-of, row-in}
+use Rattle.rows.proofs.RowLaws.{has-or}
 use Rattle.rows.proofs.TableLaws.{length-row, length-or-part, row-or-same, row-or-other}
-use Rattle.rows.proofs.ReachLaws.{reaches-sound, table-reaches}
+use Rattle.rows.proofs.ReachLaws.{table-closed}
 
 -- ---- one round: a row that has k takes in m, the row of k
 
@@ -77,17 +77,4 @@ module _ (n w : ℕ) (g₀ : List ℕ) (k : ℕ) (g : List ℕ) (i : Rounds n w 
   -- at the end the table holds the closure of whatever relation it held
   pub rounds-all : k ≡ n → (r : Rel) → Table n w r g₀ → Table n w (reaches n r) g
   unfolding reaches
-  rounds-all e r t b h = row-of n (λ a. reaches n r a b) (rowAt g w b)
-      (λ x m. let c : reaches n (related g₀ w) x b ≡ true = sym (all x) ∙ m in let l = start (reaches-sound n (related g₀ w) x b c) h in (l, sym (same x l) ∙ c))
-      (λ x l m. all x ∙ same x l ∙ m)
-    where
-      all : (x : ℕ) → has (rowAt g w b) x ≡ reaches n (related g₀ w) x b
-      all x = i b x h ∙ ap (λ (j : ℕ). via (related g₀ w) j x b) e
-
-      same : (x : ℕ) → x < n → reaches n (related g₀ w) x b ≡ reaches n r x b
-      same x l = table-reaches n w r g₀ t x b l h
-
-      -- only an event below n has a step to one
-      start : {a c : ℕ} → Steps n (related g₀ w) a c → c < n → a < n
-      start (one {a} {b = c} s) l = row-in n (λ x. r x c) (rowAt g₀ w c) (t c l) a s .0
-      start (more {a} {b = c} s l d) m = row-in n (λ x. r x c) (rowAt g₀ w c) (t c l) a s .0
+  rounds-all e r t = table-closed n w r g₀ t g (λ b x h. i b x h ∙ ap (λ (j : ℕ). via (related g₀ w) j x b) e)

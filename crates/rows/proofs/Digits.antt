@@ -2,14 +2,14 @@
 use mathlib.Core.Path.{_≡_, refl, sym, ap, ap₂, _∙_}
 use mathlib.Core.Logic.{_⊎_, inl, inr, ⊎-elim}
 use mathlib.Core.Bool.{Bool, true, false, not, _&&_, _||_}
-use Prim.Native.Nat.{ℕ, zero, suc, _+_, _-_, _*_, _/_, _%_, _^_, _<_, min, max}
+use Prim.Native.Nat.{ℕ, zero, suc, _+_, _-_, _*_, _/_, _%_, _^_, _≤_, _<_, min, max}
 use native.Mathlib.Nat.{mod-lt, div-one, div-div-eq-div-mul, pow-succ', not-suc-le-zero, le-of-suc-le-suc, suc-ne-zero, zero-lt-suc, one-mul, mod-eq-of-lt}
 use native.Mathlib.Omega.{arith}
 use borrow.Author.Tests.{eq-eqb, eqb-true, eqb-false, ne-eqb}
 use lib.Dec.{eqb}
 use lib.Bits.{bitAnd, bitOr, and-step, or-step, and-mask, block-half, block-odd, or-zero-r}
-use lib.Pow.{pow-pos, pow-lt, shr-shr, high}
-use lib.Count.{trailingZeros, under, ones, ones-step}
+use lib.Pow.{pow-pos, pow-lt, pow-mono, shr-shr, high}
+use lib.Count.{leadingZeros, leading-top, trailingZeros, under, ones, ones-step}
 use Rattle.rows.specs.Row.{digit, bitOf}
 use Rattle.rows.proofs.Tests.{split}
 
@@ -159,6 +159,33 @@ trailing-lt (suc k) n l h =
     (λ e. omega (arith, trailing-even k n e, trailing-lt k (n / 2) (half-below k n l) (λ z. h (omega arith))))
     (λ e. omega (arith, trailing-odd k n e))
     (binary n)
+
+-- ---- the highest set digit
+
+-- no digit is set past a number's length
+pub digit-past : (j a : ℕ) → a < 2 ^ j → digit a j ≡ 0
+digit-past zero a h = digit-zero a ∙ omega arith
+digit-past (suc j) a h = digit-suc a j ∙ digit-past j (a / 2) (half-below j a h)
+
+digit-top : (j a : ℕ) → 2 ^ j ≤ a → a < 2 ^ suc j → digit a j ≡ 1
+digit-top zero a l h = digit-zero a ∙ omega arith
+digit-top (suc j) a l h = digit-suc a j ∙ digit-top j (a / 2) (omega (arith, pow-succ' 2 j)) (half-below (suc j) a h)
+
+-- it is below the leading zeros, and none is set above it
+pub leading-lt : (k a : ℕ) → a < 2 ^ k → (a ≡ 0 → ⊥) → leadingZeros k a < k
+leading-lt k a h ne = omega (arith, leading-top k a (omega arith) h .1)
+
+pub leading-at : (k a : ℕ) → a < 2 ^ k → (a ≡ 0 → ⊥) → digit a (k - 1 - leadingZeros k a) ≡ 1
+leading-at k a h ne =
+    let t = leading-top k a (omega arith) h in
+    let place : k - 1 - leadingZeros k a ≡ t .0 = omega (arith, t .1) in
+    ap (digit a) place ∙ digit-top (t .0) a (t .2) (t .3)
+
+pub leading-above : (k a i : ℕ) → a < 2 ^ k → (a ≡ 0 → ⊥) → k - 1 - leadingZeros k a < i → digit a i ≡ 0
+leading-above k a i h ne l =
+    let t = leading-top k a (omega arith) h in
+    let past : suc (t .0) ≤ i = omega (arith, t .1) in
+    digit-past i a (omega (arith, t .3, pow-mono past))
 
 -- one more digit is counted
 pub ones-or-pow : (k x : ℕ) → digit x k ≡ 0 → ones (bitOr x (2 ^ k)) ≡ suc (ones x)

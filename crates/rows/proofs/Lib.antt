@@ -10,3 +10,5 @@ pub mod ReachLaws
 pub mod ClosureLaws
 pub mod ClosingLaws
 pub mod SettledLaws
+pub mod GatherLaws
+pub mod ClosedLaws

@@ -1,4 +1,4 @@
--- Laws of the lowest number at which a test holds. Assumes nothing.
+-- Laws of the lowest and the highest number at which a test holds. Assumes nothing.
 use mathlib.Core.Path.{_≡_, refl, sym, ap, _∙_}
 use mathlib.Core.Bool.{Bool, true, false, cond, not, _&&_, _||_}
 use Prim.Native.Nat.{ℕ, zero, suc, _+_, _-_, _<_, _≤_, min}
@@ -6,7 +6,7 @@ use native.Mathlib.Omega.{arith}
 use native.Mathlib.Nat.{le-refl}
 use lib.Dec.{ltb, leb}
 use borrow.Author.Tests.{ltb-true, ltb-false, lt-ltb, le-ltb, leb-true, leb-false}
-use Rattle.rows.specs.Lowest.{search, lowest, some}
+use Rattle.rows.specs.Lowest.{search, lowest, some, searchDown, highest}
 use Rattle.rows.proofs.Tests.{split, tell, same-test, or-elim, or-left, or-right, and-left, and-right}
 
 -- ---- what is known of the lowest, and that it is the only such number
@@ -185,3 +185,58 @@ module _ (m n : ℕ) (f g : ℕ → Bool) (wide : n ≤ m) (cut : (x : ℕ) → 
         below = λ k h. inner k (omega arith) ∙ l .below k (omega arith);
         at = λ h. let e : min (lowest m f) n ≡ lowest m f = omega arith in rw e (outer (lowest m f) (l .at (omega arith)) .1);
       })
+
+-- ---- the highest
+
+-- what is known of the highest of the numbers below k
+record Down (f : ℕ → Bool) (n k r : ℕ) : Type 0 where
+  at : r < n → f r ≡ true
+  above : (j : ℕ) → r < j → j < k → f j ≡ false
+  none : n ≤ r → (j : ℕ) → j < k → f j ≡ false
+
+search-down : (f : ℕ → Bool) (n k : ℕ) → k ≤ n → Down f n k (searchDown f n k)
+unfolding searchDown
+search-down f n zero h = record { at = λ l. absurd (omega arith); above = λ j p q. absurd (omega arith); none = λ p j q. absurd (omega arith) }
+search-down f n (suc k) h = go (search-down f n k (omega arith)) (f k) refl
+  where
+    go : Down f n k (searchDown f n k) → (t : Bool) → f k ≡ t → Down f n (suc k) (cond t k (searchDown f n k))
+    go r true e = record { at = λ l. e; above = λ j p q. absurd (omega arith); none = λ p j q. absurd (omega arith) }
+    go r false e = record { at = r .at; above = λ j p. below j (r .above j p); none = λ p j. below j (r .none p j) }
+      where
+        below : (j : ℕ) → (j < k → f j ≡ false) → j < suc k → f j ≡ false
+        below j g q = split (ltb j k) (λ t. g (ltb-true j k t)) (λ t. let i : j ≡ k = omega (arith, ltb-false j k t) in rw i e)
+
+module _ (n : ℕ) (f : ℕ → Bool) (r : ℕ) (is : r ≡ highest n f) where
+  down : Down f n n r
+  unfolding highest
+  down = rw is (search-down f n n (le-refl n))
+
+  pub highest-at : r < n → f r ≡ true
+  highest-at = down .at
+
+  pub highest-above : (j : ℕ) → r < j → j < n → f j ≡ false
+  highest-above = down .above
+
+  pub highest-past : n ≤ r → (j : ℕ) → j < n → f j ≡ false
+  highest-past = down .none
+
+-- where a loop found it, or found none
+down-hit : (f : ℕ → Bool) (n k r : ℕ) → r < k → f r ≡ true → ((j : ℕ) → r < j → j < k → f j ≡ false) → searchDown f n k ≡ r
+unfolding searchDown
+down-hit f n zero r h e a = absurd (omega arith)
+down-hit f n (suc k) r h e a = split (ltb r k)
+    (λ t. let l : r < k = ltb-true r k t in rw (a k l (le-refl (suc k))) (down-hit f n k r l e (λ j p q. a j p (omega arith))))
+    (λ t. let q : r ≡ k = omega (arith, ltb-false r k t) in let s : f k ≡ true = rw q at e in rw s (sym q))
+
+pub highest-hit : (n : ℕ) (f : ℕ → Bool) (r : ℕ) → r < n → f r ≡ true → ((j : ℕ) → r < j → j < n → f j ≡ false) → highest n f ≡ r
+unfolding highest
+highest-hit n f r h e a = down-hit f n n r h e a
+
+down-none : (f : ℕ → Bool) (n k : ℕ) → ((j : ℕ) → j < k → f j ≡ false) → searchDown f n k ≡ n
+unfolding searchDown
+down-none f n zero a = refl
+down-none f n (suc k) a = rw (a k (le-refl (suc k))) (down-none f n k (λ j p. a j (omega arith)))
+
+pub highest-none : (n : ℕ) (f : ℕ → Bool) → ((j : ℕ) → j < n → f j ≡ false) → highest n f ≡ n
+unfolding highest
+highest-none n f a = down-none f n n a

@@ -9,10 +9,10 @@ use borrow.Author.Tests.{ltb-true, ltb-false}
 use lib.ListN.{length}
 use Rattle.rows.specs.Lowest.{lowest, some}
 use Rattle.rows.specs.Row.{rowAt, Row}
-use Rattle.rows.specs.Relation.{Rel, via, reaches, Steps, one, more, related, Table, Graph}
+use Rattle.rows.specs.Relation.{Rel, via, reaches, Steps, one, more, related, Table, Graph, Room, Between}
 use Rattle.rows.proofs.Tests.{split, same-test, never, or-elim, or-left, or-right, and-both, and-left, and-right}
 use Rattle.rows.proofs.LowestLaws.{some-of, some-at, same-some, same-lowest}
-use Rattle.rows.proofs.RowLaws.{row-has, row-in, row-same}
+use Rattle.rows.proofs.RowLaws.{row-of, row-has, row-in, row-same}
 use Rattle.rows.proofs.TableLaws.{row-room}
 
 -- ---- chains of steps
@@ -151,11 +151,32 @@ reaches-same n r q f a b h k = same-test (reaches n r a b) (reaches n q a b)
     (reaches-more n r q (λ x y p q e. sym (f x y p q) ∙ e) a b h k)
     (reaches-more n q r (λ x y p q e. f x y p q ∙ e) a b h k)
 
+-- a relation between r and one or more steps of it reaches what r does
+pub between-reaches : {n : ℕ} {r q : Rel} → Between n r q → (a b : ℕ) → b < n → reaches n q a b ≡ reaches n r a b
+between-reaches {n} {r} {q} i a b h = same-test (reaches n q a b) (reaches n r a b)
+    (λ e. back (reaches-sound n q a b e) h)
+    (λ e. reaches-complete n q (there (reaches-sound n r a b e) h))
+  where
+    back : {a b : ℕ} → Steps n q a b → b < n → reaches n r a b ≡ true
+    back (one {a} {b} s) h = i .sound a b h s
+    back (more {a} {b} {c} s l e) h = reaches-join n r a b c l (i .sound a b l s) (back e h)
+
+    there : {a b : ℕ} → Steps n r a b → b < n → Steps n q a b
+    there (one {a} {b} s) h = one (i .kept a b h s)
+    there (more {a} {b} {c} s l e) h = more (i .kept a b l s) l (there e h)
+
 -- ---- relations held in tables
 
 -- row b of a graph lies within its table
 pub graph-room : {g : List ℕ} {n w : ℕ} (b : ℕ) → Graph g n w → b < n → b * w + w ≤ length g
 graph-room {g} {n} {w} b h k = row-room n w b (length g) k (h .size)
+
+-- the same of a table of which only the size is known, and so of every table of that length
+pub room-row : {g : List ℕ} {n w : ℕ} (b : ℕ) → Room g n w → b < n → b * w + w ≤ length g
+room-row {g} {n} {w} b h k = row-room n w b (length g) k (h .size)
+
+pub room-kept : {g : List ℕ} (h : List ℕ) {n w : ℕ} → Room g n w → length h ≡ length g → Room h n w
+room-kept h m e = record { size = omega (arith, m .size); wide = m .wide; fits = m .fits }
 
 module _ (n w : ℕ) (r : Rel) (g : List ℕ) (t : Table n w r g) where
   pub table-related : (a b : ℕ) → a < n → b < n → related g w a b ≡ r a b
@@ -173,3 +194,27 @@ module _ (n w : ℕ) (r : Rel) (g : List ℕ) (t : Table n w r g) where
 
   pub table-ring : lowest n (λ a. reaches n (related g w) a a) ≡ lowest n (λ a. reaches n r a a)
   table-ring = same-lowest n (λ a. reaches n (related g w) a a) (λ a. reaches n r a a) (λ a h. table-reaches a a h h)
+
+  -- only an event below n has a step to one
+  pub table-start : {a c : ℕ} → Steps n (related g w) a c → c < n → a < n
+  table-start (one {a} {b = c} s) l = row-in n (λ x. r x c) (rowAt g w c) (t c l) a s .0
+  table-start (more {a} {b = c} s l d) m = row-in n (λ x. r x c) (rowAt g w c) (t c l) a s .0
+
+  -- a table whose rows have what reaches their events in g holds the closure
+  pub table-closed : (h : List ℕ) → ((b x : ℕ) → b < n → related h w x b ≡ reaches n (related g w) x b) → Table n w (reaches n r) h
+  table-closed h all b l = row-of n (λ a. reaches n r a b) (rowAt h w b)
+      (λ x m.
+      let c : reaches n (related g w) x b ≡ true = sym (all b x l) ∙ m in
+      let k = table-start (reaches-sound n (related g w) x b c) l in
+      (k, sym (table-reaches x b k l) ∙ c))
+      (λ x k m. all b x l ∙ table-reaches x b k l ∙ m)
+
+  -- and so does the closure of a table between g and that
+  pub table-between : (m h : List ℕ) → Between n (related g w) (related m w) → ((q : Rel) → Table n w q m → Table n w (reaches n q) h) → Table n w (reaches n r) h
+  table-between m h i closure b l =
+      row-same n (λ a. reaches n (related m w) a b) (rowAt h w b) (closure (related m w) held b l) (λ a. reaches n r a b) (λ a k. between-reaches i a b l ∙ table-reaches a b k l)
+    where
+      held : Table n w (related m w) m
+      held b l = row-of n (λ a. related m w a b) (rowAt m w b)
+          (λ a e. (table-start (reaches-sound n (related g w) a b (i .sound a b l e)) l, e))
+          (λ a k e. e)

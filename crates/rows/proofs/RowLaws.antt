@@ -1,7 +1,7 @@
 -- Laws of rows, at any width. Assumes nothing.
 use mathlib.Core.Path.{_≡_, refl, sym, ap, ap₂, _∙_}
 use mathlib.Core.Logic.{_≢_}
-use mathlib.Core.Bool.{Bool, true, false, not, _&&_, _||_, or-comm, and-comm, and-false, and-or-distrib-left}
+use mathlib.Core.Bool.{Bool, true, false, not, _&&_, _||_, or-comm, and-comm, and-true, and-false, and-or-distrib-left}
 use mathlib.Core.List.{List, [], _∷_}
 use Prim.Native.Nat.{ℕ, zero, suc, _+_, _-_, _*_, _/_, _%_, _^_, _≤_, _<_, min}
 use native.Mathlib.Nat.{not-suc-le-zero, le-of-suc-le-suc}
@@ -11,15 +11,15 @@ use native.Mathlib.Decide.{ℕ-discrete, decLt}
 use borrow.Author.Tests.{eq-eqb, ne-eqb, eqb-true, ltb-true, ltb-false, lt-ltb, not-true, not-false}
 use lib.Dec.{eqb, ltb}
 use lib.Bits.{bitAnd, bitOr, or-zero-r, and-zero-l, and-le-l}
-use lib.Count.{trailingZeros, trailing-le, ones, ones-le}
+use lib.Count.{leadingZeros, trailingZeros, trailing-le, ones, ones-le}
 use lib.ListN.{length, getD, set, take, replicate, length-set, List·getD-eq-default}
 use lib.Pow.{pow-lt}
 use lib.Seq.{getD-set-same, getD-set-other, take-all}
-use Rattle.rows.specs.Lowest.{lowest, some}
-use Rattle.rows.specs.Row.{bitOf, has, insert, erase, orRow, andRow, countRow, onlyFirst, Row}
+use Rattle.rows.specs.Lowest.{lowest, highest, some}
+use Rattle.rows.specs.Row.{bitOf, has, insert, erase, orRow, andRow, minusRow, countRow, onlyFirst, Row}
 use Rattle.rows.proofs.Tests.{split, tell, same-test, never, or-elim, or-left, or-right, and-both, and-left, and-right, not-of}
-use Rattle.rows.proofs.LowestLaws.{lowest-hit, lowest-low, some-none, none-some, some-cut, lowest-cut}
-use Rattle.rows.proofs.Digits.{bit-or, bit-and, bit-minus, bit-pow, bit-none, bit-one, none-bit, bit-of-zero, trailing-below, trailing-at, trailing-lt, ones-or-pow}
+use Rattle.rows.proofs.LowestLaws.{lowest-hit, lowest-low, some-none, none-some, some-cut, lowest-cut, highest-hit}
+use Rattle.rows.proofs.Digits.{bit-or, bit-and, bit-minus, bit-pow, bit-none, bit-one, none-bit, bit-of-zero, trailing-below, trailing-at, trailing-lt, leading-lt, leading-at, leading-above, ones-or-pow}
 
 -- ---- one bit of a list of numbers, after a store: bit m of the number at j
 
@@ -61,6 +61,9 @@ pub has-insert : (l : List ℕ) (b c : ℕ) → b / 64 < length l → has (inser
 unfolding has insert
 has-insert l b c h =
     bit-put l (b / 64) (b % 64) (c / 64) (c % 64) h ∙ ap (λ (t : Bool). t || bitOf (getD l (c / 64) 0) (c % 64)) (word-and-bit b c)
+
+pub insert-elim : {C : Type 0} (l : List ℕ) (b c : ℕ) → b / 64 < length l → has (insert l b) c ≡ true → (b ≡ c → C) → (has l c ≡ true → C) → C
+insert-elim l b c h e f g = or-elim (eqb b c) (has l c) (sym (has-insert l b c h) ∙ e) (λ t. f (eqb-true b c t)) g
 
 pub has-erase : (l : List ℕ) (b c : ℕ) → b / 64 < length l → has (erase l b) c ≡ not (eqb b c) && has l c
 unfolding has erase
@@ -107,6 +110,10 @@ abbrev pub merge : (ℕ → ℕ → ℕ) → List ℕ → List ℕ → List ℕ
 merge f [] m = []
 merge f (x ∷ l) [] = x ∷ l
 merge f (x ∷ l) (y ∷ m) = f x y ∷ merge f l m
+
+-- `x & !y`
+abbrev pub andNot : ℕ → ℕ → ℕ
+andNot x y = bitAnd x ((2 ^ 64 - 1) - y)
 
 pub or-merge : (l m : List ℕ) → orRow l m ≡ merge bitOr l m
 or-merge [] m = refl
@@ -155,11 +162,19 @@ module _ (f : ℕ → ℕ → ℕ) where
   pub merge-all : (l m : List ℕ) {d : List ℕ} (i : ℕ) → d ≡ merge f l (take i m) → length m ≤ i → d ≡ merge f l m
   merge-all l m i e h = e ∙ ap (merge f l) (take-all i m h)
 
+pub minus-merge : (l m : List ℕ) → minusRow l m ≡ merge andNot l m
+minus-merge [] m = refl
+minus-merge (x ∷ l) [] = refl
+minus-merge (x ∷ l) (y ∷ m) = ap (λ (r : List ℕ). andNot x y ∷ r) (minus-merge l m)
+
 pub length-or : (l m : List ℕ) → length (orRow l m) ≡ length l
 length-or l m = ap length (or-merge l m) ∙ length-merge bitOr l m
 
 pub length-and : (l m : List ℕ) → length (andRow l m) ≡ length l
 length-and l m = ap length (and-merge l m) ∙ length-merge bitAnd l m
+
+pub length-minus : (l m : List ℕ) → length (minusRow l m) ≡ length l
+length-minus l m = ap length (minus-merge l m) ∙ length-merge andNot l m
 
 pub getD-or : (l m : List ℕ) (i : ℕ) → length m ≤ length l → getD (orRow l m) i 0 ≡ bitOr (getD l i 0) (getD m i 0)
 getD-or l m i h = ap (λ (r : List ℕ). getD r i 0) (or-merge l m) ∙ elim (decLt i (length m)) [
@@ -192,6 +207,18 @@ has-and l m b h = split (ltb b (64 * length m)) (λ t. has-and-within l m b (ltb
     past t =
         let far : 64 * length m ≤ b = ltb-false b (64 * length m) t in
         has-past (andRow l m) b (omega (arith, length-and l m)) ∙ sym (and-false (has l b)) ∙ ap (λ (s : Bool). has l b && s) (sym (has-past m b far))
+
+pub has-minus : (l m : List ℕ) (b : ℕ) → ((i : ℕ) → getD m i 0 < 2 ^ 64) → has (minusRow l m) b ≡ onlyFirst l m b
+unfolding has
+has-minus l m b words = ap (λ (r : List ℕ). bitOf (getD r (b / 64) 0) (b % 64)) (minus-merge l m) ∙ elim (decLt (b / 64) (length m)) [
+  | yes k ↦ elim (decLt (b / 64) (length l)) [
+    | yes h ↦ ap (λ (x : ℕ). bitOf x (b % 64)) (getD-merge andNot l m (b / 64) h k)
+        ∙ bit-minus 64 (getD l (b / 64) 0) (getD m (b / 64) 0) (b % 64) (omega arith) (words (b / 64))
+    | no n ↦ has-past (merge andNot l m) b (omega (arith, length-merge andNot l m)) ∙ ap (λ (t : Bool). t && not (has m b)) (sym (has-past l b (omega arith)))
+  ]
+  | no n ↦ ap (λ (x : ℕ). bitOf x (b % 64)) (getD-merge-past andNot l m (b / 64) (omega arith))
+      ∙ sym (and-true (has l b)) ∙ ap (λ (t : Bool). has l b && not t) (sym (has-past m b (omega arith)))
+]
 
 -- ---- the count of members
 
@@ -247,9 +274,34 @@ module _ (f : ℕ → Bool) (i x : ℕ) (same : (k : ℕ) → k < 64 → f (i * 
 pub lowest-bit : {x : ℕ} → x ≢ 0 → trailingZeros 64 x ≤ 64
 lowest-bit {x} ne = trailing-le 64 x
 
+-- ---- the highest number at which f holds, by a loop over words from the last: x is f's word i, and f holds nowhere past it
+
+module _ (f : ℕ → Bool) (i x : ℕ) (same : (k : ℕ) → k < 64 → f (i * 64 + k) ≡ bitOf x k) (none : (b : ℕ) → (i + 1) * 64 ≤ b → f b ≡ false) where
+  bits-above : (t : ℕ) → ((k : ℕ) → t ≤ k → k < 64 → bitOf x k ≡ false) → (b : ℕ) → i * 64 + t ≤ b → f b ≡ false
+  bits-above t z b h = split (ltb b ((i + 1) * 64)) (λ l. here (ltb-true b ((i + 1) * 64) l)) (λ l. none b (ltb-false b ((i + 1) * 64) l))
+    where
+      here : b < (i + 1) * 64 → f b ≡ false
+      here l =
+          let place : b ≡ i * 64 + (b - i * 64) = omega arith in
+          ap f place ∙ same (b - i * 64) (omega arith) ∙ z (b - i * 64) (omega arith) (omega arith)
+
+  pub word-none-down : x ≡ 0 → (b : ℕ) → i * 64 ≤ b → f b ≡ false
+  word-none-down e b h = bits-above 0 (λ k l q. ap (λ (y : ℕ). bitOf y k) e ∙ bit-of-zero k) b (omega arith)
+
+  pub word-found-down : (n : ℕ) → i < n → x < 2 ^ 64 → x ≢ 0 → i * 64 + (63 - leadingZeros 64 x) ≡ highest (64 * n) f
+  word-found-down n l h ne =
+      let t : leadingZeros 64 x < 64 = leading-lt 64 x h ne in
+      sym (highest-hit (64 * n) f (i * 64 + (63 - leadingZeros 64 x)) (omega arith)
+      (same (63 - leadingZeros 64 x) (omega arith) ∙ bit-one x (63 - leadingZeros 64 x) (leading-at 64 x h ne))
+      (λ j p q. bits-above (suc (63 - leadingZeros 64 x)) (λ k u v. bit-none x k (leading-above 64 x k h ne (omega arith))) j (omega arith)))
+
+-- where a word is not zero, its highest bit is one of 64 (the word is taken from the test)
+pub highest-bit : {x : ℕ} → x < 2 ^ 64 → x ≢ 0 → leadingZeros 64 x < 64
+highest-bit {x} h ne = leading-lt 64 x h ne
+
 -- the words that hold what l has and m lacks
 abbrev pub lacking : List ℕ → List ℕ → ℕ → ℕ
-lacking l m i = bitAnd (getD l i 0) ((2 ^ 64 - 1) - getD m i 0)
+lacking l m i = andNot (getD l i 0) (getD m i 0)
 
 pub lacking-lt : (l m : List ℕ) (i : ℕ) → getD l i 0 < 2 ^ 64 → lacking l m i < 2 ^ 64
 lacking-lt l m i h = omega (arith, and-le-l (getD l i 0) ((2 ^ 64 - 1) - getD m i 0))

@@ -4,13 +4,13 @@ use mathlib.Core.Bool.{true, false}
 use mathlib.Core.List.{List}
 use Prim.Native.Nat.{ℕ, _+_, _/_, _<_}
 use native.Mathlib.Omega.{arith}
-use borrow.Author.Tests.{eqb-true, eq-eqb, ltb-true, ltb-false}
+use borrow.Author.Tests.{eq-eqb, ltb-true, ltb-false}
 use lib.Dec.{eqb, ltb}
 use lib.ListN.{length, replicate}
 use Rattle.rows.specs.Row.{has, insert, rowAt}
 use Rattle.rows.specs.Relation.{reaches, related, Settled}
-use Rattle.rows.proofs.Tests.{split, tell, never, or-elim, or-left, or-right}
-use Rattle.rows.proofs.RowLaws.{has-insert, has-cleared, length-insert}
+use Rattle.rows.proofs.Tests.{split, tell, never, or-left, or-right}
+use Rattle.rows.proofs.RowLaws.{has-insert, insert-elim, has-cleared, length-insert}
 use Rattle.rows.proofs.ReachLaws.{steps-back, reaches-sound}
 
 pub settled-none : (g : List ℕ) (n w : ℕ) → Settled g n (replicate w 0)
@@ -31,17 +31,14 @@ module _ {g : List ℕ} {n : ℕ} {l : List ℕ} (s : Settled g n l) (b : ℕ) (
 
   pub settled-more : {m : List ℕ} → m ≡ insert l b → b < n → b / 64 < length l → Settled g n m
   settled-more p h k = rw p (record {
-    below = λ c e. by-member c e (λ q. subst (λ (y : ℕ). y < n) q h) (s .below c);
+    below = λ c e. insert-elim l b c k e (λ q. subst (λ (y : ℕ). y < n) q h) (s .below c);
     closed = λ c x e t.
         let t' : has (rowAt g (length l) c) x ≡ true = rw length-insert at t in
         has-insert l b x k ∙ or-right (eqb b x) (has l x)
-        (by-member c e (λ q. inside x (subst (λ (y : ℕ). has (rowAt g (length l) y) x ≡ true) (sym q) t')) (λ q. s .closed c x q t'));
+        (insert-elim l b c k e (λ q. inside x (subst (λ (y : ℕ). has (rowAt g (length l) y) x ≡ true) (sym q) t')) (λ q. s .closed c x q t'));
     ringless = λ c e. rw length-insert
-        (by-member c e (λ q. subst (λ (y : ℕ). reaches n (related g (length l)) y y ≡ false) q settled-ringless) (s .ringless c));
+        (insert-elim l b c k e (λ q. subst (λ (y : ℕ). reaches n (related g (length l)) y y ≡ false) q settled-ringless) (s .ringless c));
   })
-    where
-      by-member : {C : Type 0} (c : ℕ) → has (insert l b) c ≡ true → (b ≡ c → C) → (has l c ≡ true → C) → C
-      by-member c e f f' = or-elim (eqb b c) (has l c) (sym (has-insert l b c k) ∙ e) (λ t. f (eqb-true b c t)) f'
 
 -- a loop over the events that puts each in
 pub all-more : (l : List ℕ) {m : List ℕ} (b : ℕ) → m ≡ insert l b → b / 64 < length l → ((x : ℕ) → x < b → has l x ≡ true) → (x : ℕ) → x < b + 1 → has m x ≡ true

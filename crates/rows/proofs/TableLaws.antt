@@ -10,7 +10,7 @@ use native.Mathlib.Decide.{ℕ-discrete, decLt}
 use borrow.Author.Tests.{eq-eqb, ne-eqb}
 use lib.Dec.{eqb}
 use lib.Bits.{bitOr}
-use lib.ListN.{length, getD, set, take, drop, replicate, length-take, length-drop, length-append, List·getD-append}
+use lib.ListN.{length, getD, set, take, drop, replicate, length-take, length-drop, length-append, List·getD-append, List·getD-eq-default}
 use lib.Seq.{length-take-le, getD-take, getD-drop, getD-set-other, getD-append-add, take-set-lt, drop-set-add, take-at, drop-at, ext-getD}
 use Rattle.rows.specs.Row.{bitOf, has, insert, orRow, orPart, rowAt}
 use Rattle.rows.proofs.Tests.{tell, never}
@@ -39,6 +39,13 @@ module _ (g : List ℕ) (w b : ℕ) where
 
   pub getD-row : (i : ℕ) → i < w → getD (rowAt g w b) i 0 ≡ getD g (b * w + i) 0
   getD-row i h = getD-take w (drop (b * w) g) i 0 h ∙ getD-drop (b * w) g i 0
+
+  -- words of 64 bits
+  pub row-words : ((i : ℕ) → getD g i 0 < 2 ^ 64) → (i : ℕ) → getD (rowAt g w b) i 0 < 2 ^ 64
+  row-words words i = elim (decLt i w) [
+    | yes h ↦ omega (arith, getD-row i h, words (b * w + i))
+    | no n ↦ let z : getD (rowAt g w b) i 0 ≡ 0 = List·getD-eq-default (rowAt g w b) 0 (omega (arith, length-row-le)) in omega arith
+  ]
 
   pub has-row : (x : ℕ) → x < 64 * w → has (rowAt g w b) x ≡ has g (64 * (b * w) + x)
   unfolding has

@@ -1,4 +1,4 @@
--- The lowest number at which a test holds.
+-- The lowest and the highest number at which a test holds.
 use mathlib.Core.Bool.{Bool, cond}
 use Prim.Native.Nat.{ℕ, zero, suc}
 use lib.Dec.{ltb}
@@ -17,3 +17,13 @@ lowest n f = search f 0 n
 unfoldable pub some : ℕ → (ℕ → Bool) → Bool
 unfolding lowest
 some n f = ltb (lowest n f) n
+
+-- the highest number below k at which f holds, or n
+unfoldable pub searchDown : (ℕ → Bool) → ℕ → ℕ → ℕ
+searchDown f n zero = n
+searchDown f n (suc k) = cond (f k) k (searchDown f n k)
+
+-- the highest number below n at which f holds, or n
+unfoldable pub highest : ℕ → (ℕ → Bool) → ℕ
+unfolding searchDown
+highest n f = searchDown f n n

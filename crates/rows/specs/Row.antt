@@ -39,6 +39,12 @@ andRow [] m = []
 andRow (x ∷ l) [] = x ∷ l
 andRow (x ∷ l) (y ∷ m) = bitAnd x y ∷ andRow l m
 
+-- what the first row has and the second lacks, as wide as the first
+abbrev pub minusRow : List ℕ → List ℕ → List ℕ
+minusRow [] m = []
+minusRow (x ∷ l) [] = x ∷ l
+minusRow (x ∷ l) (y ∷ m) = bitAnd x ((2 ^ 64 - 1) - y) ∷ minusRow l m
+
 -- l with the union of m and the row that stands in l from word `at` on
 abbrev pub orPart : List ℕ → ℕ → List ℕ → List ℕ
 orPart l at m = take at l ++ (orRow (take (length m) (drop at l)) m ++ drop (length m) (drop at l))

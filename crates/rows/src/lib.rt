@@ -7,8 +7,8 @@ ghost use mathlib.Core.Bool.{not};
 ghost use mathlib.Core.List.{_++_};
 ghost use Prim.Native.Nat.{_+_, _*_, _/_, _^_, _<_, _≤_};
 ghost use lib.ListN.{length, take, drop, replicate};
-ghost use Rattle.rows.specs.Lowest.{lowest, some};
-ghost use Rattle.rows.specs.Row.{has, insert, erase, orRow, andRow, orPart, countRow, onlyFirst};
+ghost use Rattle.rows.specs.Lowest.{lowest, highest, some};
+ghost use Rattle.rows.specs.Row.{has, insert, erase, orRow, andRow, minusRow, orPart, countRow, onlyFirst};
 
 pub fn test(row: &[u64], b: usize) -> bool
     requires { ⌜ b / 64 < length (now row) ⌝ }
@@ -68,6 +68,16 @@ pub fn intersect(dst: &mut [u64], src: &[u64])
     }
 }
 
+// Of `dst` only the members that `src` lacks stay.
+pub fn subtract(dst: &mut [u64], src: &[u64])
+    requires { ⌜ length (now src) ≤ length (now dst) ⌝ }
+    ensures { λ _. ⌜ now (dst .exit) ≡ minusRow (now (dst .entry)) (now (src .entry)) ⌝ }
+{
+    for i in 0..src.len() {
+        dst[i] &= !src[i];
+    }
+}
+
 // The union with the row of `rows` that starts at word `at` and is as wide as `dst`.
 pub fn union_at(dst: &mut [u64], rows: &[u64], at: usize)
     requires { ⌜ at + length (now dst) ≤ length (now rows) ⌝ }
@@ -95,6 +105,22 @@ pub fn lowest(row: &[u64]) -> usize
         let x = row[i];
         if x != 0 {
             return i * 64 + u64::trailing_zeros(x) as usize;
+        }
+    }
+    row.len() * 64
+}
+
+// The highest member, or the first number past the row where there is none.
+pub fn highest(row: &[u64]) -> usize
+    requires { ⌜ 64 * length (now row) < 2 ^ 64 ⌝ }
+    ensures { λ r. ⌜ r ≡ highest (64 * length (now (row .entry))) (has (now (row .entry))) ⌝ }
+{
+    let mut i = row.len();
+    while 0 < i {
+        i -= 1;
+        let x = row[i];
+        if x != 0 {
+            return i * 64 + (63 - u64::leading_zeros(x) as usize);
         }
     }
     row.len() * 64

@@ -1,0 +1,49 @@
+//! Links the proved libraries, and builds them first where they are missing.
+//! `RIZHAKKON_LIB` names another folder to take them from; `../libraries.txt` lists them, for C hosts too.
+
+use std::env;
+use std::path::{Path, PathBuf};
+use std::process::Command;
+
+const LIBRARIES: &str = include_str!("../libraries.txt");
+const FOLDER: &str = "RIZHAKKON_LIB";
+
+fn main() {
+    println!("cargo:rerun-if-env-changed={FOLDER}");
+    let here = PathBuf::from(env::var_os("CARGO_MANIFEST_DIR").expect("cargo sets it"));
+    let folder = match env::var_os(FOLDER) {
+        Some(folder) => here.join(folder),
+        None => built(&here.join("../..")),
+    };
+    println!("cargo:rustc-link-search=native={}", folder.display());
+    for library in LIBRARIES.split_whitespace() {
+        link(&archive(&folder, library), library);
+    }
+}
+
+fn archive(folder: &Path, library: &str) -> PathBuf {
+    folder.join(format!("lib{library}.a"))
+}
+
+/// The repository's own folder of archives, filled where one is missing.
+fn built(root: &Path) -> PathBuf {
+    let folder = root.join("target/staticlib");
+    if LIBRARIES.split_whitespace().any(|library| !archive(&folder, library).exists()) {
+        build(root);
+    }
+    folder
+}
+
+fn build(root: &Path) {
+    let mut command = Command::new("bash");
+    let run = command.arg("tools/libraries").current_dir(root).output().expect("bash runs");
+    let said = String::from_utf8_lossy(&run.stdout);
+    assert!(run.status.success(), "bash tools/libraries failed:\n{said}{}", String::from_utf8_lossy(&run.stderr));
+}
+
+/// Unbundled, so that the archive is read once, by the final link.
+fn link(archive: &Path, library: &str) {
+    assert!(archive.exists(), "no {} to link; {FOLDER} may name the folder that has it", archive.display());
+    println!("cargo:rerun-if-changed={}", archive.display());
+    println!("cargo:rustc-link-lib=static:-bundle={library}");
+}

@@ -1,0 +1,52 @@
+//! Judging a record against a model or a predicate.
+
+use crate::{ffi, packing, Model, Predicate, Refusal};
+use std::fmt;
+
+/// What the judge finds of a record that passes the questions.
+#[derive(Clone, Copy, Debug, PartialEq, Eq, Hash)]
+pub enum Verdict {
+    /// The record keeps to what was asked.
+    Met,
+    /// It breaks it, first at this pair of events.
+    Broken {
+        /// The pair's first event.
+        a: u16,
+        /// The pair's second event.
+        b: u16,
+    },
+}
+
+/// As the program `verdict` writes it.
+impl fmt::Display for Verdict {
+    fn fmt(&self, f: &mut fmt::Formatter<'_>) -> fmt::Result {
+        match self {
+            Verdict::Met => write!(f, "met"),
+            Verdict::Broken { a, b } => write!(f, "broken {a} {b}"),
+        }
+    }
+}
+
+/// Judges a model. A break is the pair of the first broken predicate in the model's list.
+///
+/// ```
+/// use gcr::{judge_model, Model};
+///
+/// let refusal = judge_model(Model::Causal, &[]).unwrap_err();
+/// assert_eq!(refusal.number, 3);
+/// ```
+pub fn judge_model(model: Model, record: &[u8]) -> Result<Verdict, Refusal> {
+    packing::verdict(ffi::judge_model(model.number(), record))
+}
+
+/// Judges one predicate.
+///
+/// ```
+/// use gcr::{judge_predicate, Predicate};
+///
+/// let refusal = judge_predicate(Predicate::RVal, &[0; 512]).unwrap_err();
+/// assert_eq!((refusal.number, refusal.place), (4, 0));
+/// ```
+pub fn judge_predicate(predicate: Predicate, record: &[u8]) -> Result<Verdict, Refusal> {
+    packing::verdict(ffi::judge_predicate(predicate.number(), record))
+}

@@ -1,0 +1,52 @@
+//! Safe calls over the proved reader, judge and rehearsal of grain position records.
+//!
+//! Two sites put into object 5, and the record of it is judged:
+//!
+//! ```
+//! use gcr::{judge_model, judge_predicate, rehearse, script, Call, Model, Predicate, Verdict, RECORD_MOST};
+//!
+//! let script = script(&[
+//!     Call::Put { site: 0, object: 5, value: 100 },
+//!     Call::Put { site: 1, object: 5, value: 200 },
+//!     Call::Deliver { site: 1, event: 0 },
+//!     Call::Get { site: 1, object: 5 },
+//! ]);
+//! let mut record = [0; RECORD_MOST];
+//! let mut answers = vec![0; script.len()];
+//! let done = rehearse(2, &script, &mut record, &mut answers)?;
+//! let record = &record[..done.length];
+//!
+//! assert_eq!(judge_model(Model::Causal, record)?, Verdict::Met);
+//! assert_eq!(judge_predicate(Predicate::SingleOrder, record)?, Verdict::Broken { a: 0, b: 1 });
+//! # Ok::<(), gcr::Refusal>(())
+//! ```
+//!
+//! The library has no static state and keeps nothing that it is lent, so every call here may run on several threads
+//! at once.
+
+#![deny(unsafe_code)]
+#![warn(missing_docs)]
+
+#[macro_use]
+mod numbered;
+
+mod answer;
+mod call;
+#[allow(unsafe_code)]
+mod ffi;
+mod judging;
+mod model;
+mod packing;
+mod predicate;
+mod reading;
+mod refusal;
+mod rehearsal;
+
+pub use answer::{answers, Answer};
+pub use call::{script, Call};
+pub use judging::{judge_model, judge_predicate, Verdict};
+pub use model::Model;
+pub use predicate::Predicate;
+pub use reading::{is_visible, read, RECORD_MOST, WORK_WORDS};
+pub use refusal::Refusal;
+pub use rehearsal::{rehearse, Rehearsed, SCRIPT_MOST};

@@ -1,0 +1,42 @@
+//! The record reader, and the visible sets that it lays out.
+
+use crate::{ffi, packing, Refusal};
+
+/// The words of work memory that [`read`] asks for; more will do.
+pub const WORK_WORDS: usize = 1024;
+
+/// The bytes of the longest record.
+pub const RECORD_MOST: usize = 19_456;
+
+/// Asks the questions of a record, and lays its visible sets into `work` where all are answered yes.
+///
+/// Refusal 1 leaves `work` unchanged; refusals 3 to 10 leave its first [`WORK_WORDS`] words zero. Words beyond those
+/// never change.
+///
+/// ```
+/// let mut work = [7; gcr::WORK_WORDS];
+/// let refusal = gcr::read(&[0; 100], &mut work).unwrap_err();
+/// assert_eq!((refusal.number, refusal.place), (3, 0));
+/// assert_eq!(work, [0; gcr::WORK_WORDS]);
+/// ```
+pub fn read(record: &[u8], work: &mut [u64]) -> Result<(), Refusal> {
+    packing::verdict(ffi::read(record, work)).map(|_| ())
+}
+
+/// Whether event `a` is visible to event `b`, by the words that a [`read`] which passed has filled.
+///
+/// ```
+/// # use gcr::{is_visible, read, rehearse, script, Call, RECORD_MOST, WORK_WORDS};
+/// # let script = script(&[Call::Put { site: 0, object: 5, value: 100 }, Call::Get { site: 0, object: 5 }]);
+/// # let mut record = [0; RECORD_MOST];
+/// # let length = rehearse(1, &script, &mut record, &mut [0; 16])?.length;
+/// let mut work = [0; WORK_WORDS];
+/// read(&record[..length], &mut work)?;
+/// assert!(is_visible(&work, 0, 1));
+/// assert!(!is_visible(&work, 1, 0));
+/// # Ok::<(), gcr::Refusal>(())
+/// ```
+pub fn is_visible(work: &[u64], a: u16, b: u16) -> bool {
+    let (a, b) = (usize::from(a), usize::from(b));
+    work[4 * b + a / 64] >> (a % 64) & 1 == 1
+}

@@ -1,0 +1,37 @@
+//! The rehearsal of the store.
+
+use crate::{ffi, packing, Refusal};
+
+/// The bytes of the longest script.
+pub const SCRIPT_MOST: usize = 32_768;
+
+/// What a rehearsal that was not refused has come to.
+#[derive(Clone, Copy, Debug, PartialEq, Eq, Hash)]
+pub struct Rehearsed {
+    /// The bytes of the record, from the start of its buffer.
+    pub length: usize,
+    /// The pairs of a put and a site that lacks it.
+    pub outstanding: u64,
+}
+
+/// Runs a script over a store of so many sites. The record of it goes to `record`, which has
+/// [`RECORD_MOST`](crate::RECORD_MOST) bytes or more, and an answer for each call to `answers`, which is at least as
+/// long as the script; bytes beyond what is written stay. A refusal leaves both as they were. A call that is refused
+/// changes only its own answer.
+///
+/// ```
+/// use gcr::{rehearse, RECORD_MOST};
+///
+/// let mut record = [7; RECORD_MOST];
+/// let empty = rehearse(1, &[], &mut record, &mut [])?;
+/// assert_eq!((empty.length, empty.outstanding), (512, 0));
+/// assert_eq!(&record[..4], b"GCR1");
+/// assert_eq!(record[512], 7);
+///
+/// let refusal = rehearse(9, &[], &mut record, &mut []).unwrap_err();
+/// assert_eq!(refusal.sentence(), "The number of sites is not 1 to 8.");
+/// # Ok::<(), gcr::Refusal>(())
+/// ```
+pub fn rehearse(sites: u32, script: &[u8], record: &mut [u8], answers: &mut [u8]) -> Result<Rehearsed, Refusal> {
+    packing::rehearsed(ffi::rehearse(sites, script, record, answers))
+}

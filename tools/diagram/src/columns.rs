@@ -1,0 +1,79 @@
+//! Where each point in time stands, from left to right.
+
+use crate::event::Event;
+
+/// Only the order of times is kept, and that exactly: an event returned before another started where its mark ends
+/// left of the other's.
+pub struct Columns {
+    times: Vec<u64>,
+    /// Where marks that start at this time begin, and where those that return at it end. The two differ only where a
+    /// mark does both, which still needs its width.
+    left: Vec<f64>,
+    right: Vec<f64>,
+}
+
+impl Columns {
+    /// `widths` are what the events' marks need, `gap` is the least distance between two times.
+    pub fn new(events: &[Event], widths: &[f64], gap: f64) -> Columns {
+        let mut times: Vec<u64> = events.iter().flat_map(|event| [Some(event.start), event.end]).flatten().collect();
+        times.sort_unstable();
+        times.dedup();
+        let mut columns = Columns { times, left: Vec::new(), right: Vec::new() };
+        for at in 0..columns.times.len() {
+            columns.place(at, events, widths, gap);
+        }
+        columns
+    }
+
+    fn place(&mut self, at: usize, events: &[Event], widths: &[f64], gap: f64) {
+        let (mut left, mut at_once) = (self.right.last().map_or(0.0, |before| before + gap), 0.0f64);
+        for (event, &width) in events.iter().zip(widths).filter(|(event, _)| event.end == Some(self.times[at])) {
+            if event.start < self.times[at] {
+                left = left.max(self.left(event.start) + width);
+            } else {
+                at_once = at_once.max(width);
+            }
+        }
+        self.left.push(left);
+        self.right.push(left + at_once);
+    }
+
+    pub fn left(&self, time: u64) -> f64 {
+        self.left[self.index(time)]
+    }
+
+    pub fn right(&self, time: u64) -> f64 {
+        self.right[self.index(time)]
+    }
+
+    /// The times with their places.
+    pub fn ticks(&self) -> impl Iterator<Item = (u64, f64)> + '_ {
+        self.times.iter().copied().zip(self.left.iter().copied())
+    }
+
+    fn index(&self, time: u64) -> usize {
+        self.times.binary_search(&time).expect("every start and return has its column")
+    }
+}
+
+#[cfg(test)]
+mod tests {
+    use super::*;
+
+    fn event(start: u64, end: Option<u64>) -> Event {
+        Event { is_write: true, site: 0, object: 0, value: Some(0), position: 0, start, end }
+    }
+
+    #[test]
+    fn marks_have_their_width_and_times_their_gap() {
+        let columns = Columns::new(&[event(0, Some(1)), event(7, Some(900))], &[50.0, 4.0], 10.0);
+        assert_eq!((columns.left(0), columns.right(1)), (0.0, 50.0));
+        assert_eq!((columns.left(7), columns.right(900)), (60.0, 70.0));
+    }
+
+    #[test]
+    fn a_mark_of_no_time_overlaps_what_touches_it() {
+        let columns = Columns::new(&[event(5, Some(5)), event(0, Some(5)), event(5, None)], &[30.0, 20.0, 0.0], 10.0);
+        assert_eq!((columns.left(5), columns.right(5)), (20.0, 50.0));
+    }
+}

@@ -1,0 +1,81 @@
+//! An event of a record, and the words for it.
+
+#[derive(Clone, Debug, PartialEq, Eq)]
+pub struct Event {
+    pub is_write: bool,
+    pub site: usize,
+    pub object: u8,
+    pub value: Option<u32>,
+    /// The place in arbitration.
+    pub position: u16,
+    pub start: u64,
+    /// None while pending.
+    pub end: Option<u64>,
+}
+
+impl Event {
+    /// Reads a slot of a record that passed its questions.
+    pub fn from_slot(slot: &[u8]) -> Event {
+        let number = |at: usize, bytes: usize| (0..bytes).rev().fold(0, |sum, k| sum << 8 | u64::from(slot[at + k]));
+        Event {
+            is_write: slot[0] == 1,
+            site: slot[1].into(),
+            object: slot[2],
+            value: (slot[8] == 1).then(|| number(4, 4) as u32),
+            position: number(10, 2) as u16,
+            start: number(16, 8),
+            end: (slot[3] == 0).then(|| number(24, 8)),
+        }
+    }
+
+    pub fn is_pending(&self) -> bool {
+        self.end.is_none()
+    }
+
+    pub fn returned_before(&self, later: &Event) -> bool {
+        self.end.is_some_and(|end| end < later.start)
+    }
+
+    /// Short: `W 5=100`, `R 5→200`, `R 5→none`, and `R 5→?` while pending.
+    pub fn label(&self) -> String {
+        let object = self.object;
+        match (self.is_write, self.value) {
+            (true, value) => format!("W {object}={}", value.unwrap_or(0)),
+            (false, Some(value)) => format!("R {object}→{value}"),
+            (false, None) if self.is_pending() => format!("R {object}→?"),
+            (false, None) => format!("R {object}→none"),
+        }
+    }
+
+    /// All that the record says of it.
+    pub fn details(&self, number: usize) -> String {
+        let until = self.end.map_or("pending".to_string(), |end| format!("returned {end}"));
+        let (label, site, start, position) = (self.label(), self.site, self.start, self.position);
+        format!("event {number}: {label}, site {site}, start {start}, {until}, arbitration {position}")
+    }
+}
+
+#[cfg(test)]
+mod tests {
+    use super::*;
+
+    fn event(is_write: bool, value: Option<u32>, end: Option<u64>) -> Event {
+        Event { is_write, site: 0, object: 5, value, position: 0, start: 2, end }
+    }
+
+    #[test]
+    fn labels_tell_kind_object_and_value() {
+        assert_eq!(event(true, Some(100), Some(3)).label(), "W 5=100");
+        assert_eq!(event(false, Some(200), Some(3)).label(), "R 5→200");
+        assert_eq!(event(false, None, Some(3)).label(), "R 5→none");
+        assert_eq!(event(false, None, None).label(), "R 5→?");
+    }
+
+    #[test]
+    fn a_return_at_a_start_is_not_before_it() {
+        let later = event(true, Some(1), None);
+        assert!(event(true, Some(1), Some(1)).returned_before(&later));
+        assert!(!event(true, Some(1), Some(2)).returned_before(&later));
+        assert!(!later.returned_before(&later));
+    }
+}
