@@ -4,12 +4,14 @@ use mathlib.Core.Bool.{Bool}
 use mathlib.Core.List.{List}
 use Prim.Native.Nat.{ℕ}
 use lib.Dec.{eqb}
-use Rattle.rows.specs.Row.{has}
+use Rattle.rows.specs.Row.{has, rowAt}
+use Rattle.rows.specs.Relation.{Table}
+use Rattle.rows.proofs.RowLaws.{row-of}
 use Rattle.record.specs.History.{vis}
 use Rattle.record.specs.Words.{objectIn, historyFrom}
 use Rattle.judge.specs.Relations.{ob, ar}
-use Rattle.judge.specs.Reads.{later, held, sameHeld, leftBy}
-use Rattle.judge.specs.Tables.{fieldsOf}
+use Rattle.judge.specs.Reads.{held, sameHeld, leftBy}
+use Rattle.judge.specs.Tables.{Given, fieldsOf}
 use Rattle.judge.specs.declared.Last.{Last}
 use Rattle.judge.specs.declared.Last.the-variants.{Nothing, At}
 use Rattle.judge.proofs.SliceLaws.{sliceAt, slice-row}
@@ -29,13 +31,13 @@ module _ (n w : ℕ) (l v : List ℕ) where
   unfolding ar historyFrom
   ar-test a b t e = e
 
-  pub later-told : (x y : Last) (k : ℕ) → y ≡ later (fieldsOf l) x k → y ≡ later (historyFrom n w l v) x k
-  unfolding ar historyFrom
-  later-told Nothing y k e = e
-  later-told (At x) y k e = e
-
   pub held-test : (e : ℕ) (x : Last) (t : Bool) → t ≡ sameHeld (held (fieldsOf l) e) (leftBy (fieldsOf l) x)
       → t ≡ sameHeld (held (historyFrom n w l v) e) (leftBy (historyFrom n w l v) x)
   unfolding historyFrom
   held-test e Nothing t q = q
   held-test e (At x) t q = q
+
+  -- the visible sets as a table
+  pub seen-table : Given n w l v → Table n w (vis (historyFrom n w l v)) v
+  unfolding vis historyFrom
+  seen-table g b h = row-of n (has (rowAt v w b)) (rowAt v w b) (λ x e. (g .rows .inside b x h e, e)) (λ x i e. e)

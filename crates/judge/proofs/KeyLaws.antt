@@ -12,9 +12,8 @@ use Rattle.rows.specs.Row.{insert, andRow, rowAt, Row}
 use Rattle.rows.specs.Relation.{Rel, Table}
 use Rattle.rows.proofs.RowLaws.{row-set, row-skip, row-and}
 use Rattle.rows.proofs.TableLaws.{row-room, length-row, length-row-le, has-row-cleared, row-insert-same, row-insert-other}
-use Rattle.record.specs.Words.{historyFrom}
-use Rattle.judge.specs.Relations.{rb, ss, ob, so, both}
-use Rattle.judge.specs.Tables.{fieldsOf, keyIn, sameKey, KeyRows}
+use Rattle.judge.specs.Relations.{both}
+use Rattle.judge.specs.Tables.{keyIn, sameKey, KeyRows}
 
 module _ (w : ℕ) (key : ℕ → ℕ) where
   pub keys-none : (m : ℕ) (g : List ℕ) → g ≡ replicate m 0 → KeyRows 0 w key g
@@ -48,12 +47,3 @@ table-cut object l n w q keys g room i f r t b h =
     let k : ℕ = keyIn object l b in
     rw (f b h) (row-and n (λ a. r a b) (rowAt q w b) (t b h) (λ a. sameKey object l a b) (rowAt keys w k) (i k (key-lt object l b))
     (omega (arith, length-row-le q w b, length-row keys w k (row-room 256 w k (length keys) (key-lt object l b) room))))
-
--- by site that cuts rb to so, and by object any relation to one object
-pub cut-so : (l : List ℕ) (n w : ℕ) (g : List ℕ) → Table n w (both (rb (fieldsOf l)) (sameKey false l)) g → Table n w (so (fieldsOf l)) g
-unfolding so ss historyFrom
-cut-so l n w g t = t
-
-pub cut-ob : (l : List ℕ) (n w : ℕ) (r : Rel) (g : List ℕ) → Table n w (both r (sameKey true l)) g → Table n w (both r (ob (fieldsOf l))) g
-unfolding ob historyFrom
-cut-ob l n w r g t = t

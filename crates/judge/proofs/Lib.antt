@@ -13,8 +13,10 @@ pub mod OrderLaws
 pub mod BestPair
 pub mod InclusionLaws
 pub mod TableFill
+pub mod ArbitrationLaws
+pub mod DifferenceLaws
+pub mod LatestLaws
 pub mod KeyLaws
-pub mod MiddleLaws
 pub mod RecordLaws
 pub mod JudgmentLaws
 pub mod ListLaws

@@ -1,26 +1,23 @@
--- Laws of lists of predicates by number: the table of models, what a list is judged from, and its first broken predicate. Assumes nothing.
-use mathlib.Core.Path.{_≡_, refl, sym, ap, _∙_, subst}
-use mathlib.Core.Bool.{Bool, true, false, _&&_, _||_, false≢true}
+-- Laws of lists of predicates by number: the table of models, and the first broken predicate of a list. Assumes nothing.
+use mathlib.Core.Path.{_≡_, refl, sym, ap, _∙_}
+use mathlib.Core.Bool.{Bool, true, false, _&&_, false≢true}
 use mathlib.Core.List.{List, [], _∷_, map}
-use Prim.Native.Nat.{ℕ, zero, suc, _+_, _-_, _≤_, _<_}
+use Prim.Native.Nat.{ℕ, zero, suc, _+_, _-_, _≤_}
 use native.Mathlib.Numerals.{add-one}
 use native.Mathlib.Omega.{arith}
-use borrow.Author.Count.{below-none, below-more}
 use borrow.Author.Tests.{leb-true, eq-eqb, ne-eqb}
 use lib.Dec.{leb}
 use lib.ListN.{length, getD, drop, replicate, getD-replicate, List·getD-map, List·getD-eq-default}
-use Rattle.rows.proofs.Tests.{and-left, and-right, or-elim, or-left, or-right}
+use Rattle.rows.proofs.Tests.{and-left, and-right}
 use Rattle.record.specs.History.{History}
 use Rattle.judge.specs.Predicates.{numbered, verdict}
 use Rattle.judge.specs.Models.{models, listOf, orElse, firstBroken}
-use Rattle.judge.specs.Tables.{needsOf, Covers, Closed, Serves, Numbers, upToZero}
-use Rattle.judge.specs.declared.Needs.{Needs}
+use Rattle.judge.specs.Tables.{Numbers, upToZero}
 use Rattle.judge.specs.declared.Verdict.{Verdict}
 use Rattle.judge.specs.declared.Verdict.the-variants.{Met, Broken}
 use Rattle.judge.specs.declared.Outcome.{Outcome}
 use Rattle.judge.specs.declared.Outcome.the-variants.{AllMet, BrokenAt}
 use Rattle.judge.specs.declared.Predicate.{Predicate}
-use Rattle.judge.specs.declared.Predicate.the-variants.{RVal, SingleOrder, RealTime, RealTimeWrites, MonotonicReads, ReadYourWrites, MonotonicWrites, WritesFollowReads, Pram, CausalVisibility, CausalArbitration, PerObjectPram, PerObjectSingleOrder}
 
 -- ---- the table of models
 
@@ -58,79 +55,6 @@ model-list table same each m h =
 -- a number that is none of four in a row, from which it is not below, is above them
 pub past-four : (k q : ℕ) → k ≤ q → (q ≡ k → ⊥) → (q ≡ k + 1 → ⊥) → (q ≡ k + 2 → ⊥) → (q ≡ k + 3 → ⊥) → k + 4 ≤ q
 past-four k q h a b c d = omega arith
-
--- ---- what the predicates of a list are judged from
-
--- u is what `s || t` gave
-pub or-taken : {s u : Bool} (t : Bool) → s ≡ true → u ≡ s → u ≡ s || t
-or-taken {s} t e f = f ∙ e ∙ sym (or-left s t e)
-
-pub or-passed : {s u : Bool} (t : Bool) → s ≡ false → u ≡ t → u ≡ s || t
-or-passed t e f = f ∙ sym (ap (λ (b : Bool). b || t) e)
-
-abbrev pub either : Needs → Needs → Needs
-either m o = record { basic = m .basic || o .basic; middle = m .middle || o .middle; hb = m .hb || o .hb }
-
-pub either-made : (m o m' : Needs) (a b c : Bool) → m' ≡ record { basic = a; middle = b; hb = c } → a ≡ m .basic || o .basic → b ≡ m .middle || o .middle → c ≡ m .hb || o .hb
-    → m' ≡ either m o
-either-made m o m' a b c e f g h = e ∙ rw (f, g, h)
-
-closed-of : (p : Predicate) → Closed (needsOf p)
-closed-of RVal = record { middle = λ e. cc; hb = λ e. cc }
-closed-of SingleOrder = record { middle = λ e. cc; hb = λ e. cc }
-closed-of RealTime = record { middle = λ e. refl; hb = λ e. refl }
-closed-of RealTimeWrites = record { middle = λ e. refl; hb = λ e. refl }
-closed-of MonotonicReads = record { middle = λ e. refl; hb = λ e. refl }
-closed-of ReadYourWrites = record { middle = λ e. refl; hb = λ e. refl }
-closed-of MonotonicWrites = record { middle = λ e. refl; hb = λ e. refl }
-closed-of WritesFollowReads = record { middle = λ e. refl; hb = λ e. refl }
-closed-of Pram = record { middle = λ e. refl; hb = λ e. refl }
-closed-of CausalVisibility = record { middle = λ e. refl; hb = λ e. refl }
-closed-of CausalArbitration = record { middle = λ e. refl; hb = λ e. refl }
-closed-of PerObjectPram = record { middle = λ e. refl; hb = λ e. refl }
-closed-of PerObjectSingleOrder = record { middle = λ e. cc; hb = λ e. cc }
-
-closed-either : (m o : Needs) → Closed m → Closed o → Closed (either m o)
-closed-either m o c d = record {
-  middle = λ e. or-elim (m .middle) (o .middle) e (λ f. or-left (m .basic) (o .basic) (c .middle f)) (λ f. or-right (m .basic) (o .basic) (d .middle f));
-  hb = λ e. or-elim (m .hb) (o .hb) e (λ f. or-left (m .basic) (o .basic) (c .hb f)) (λ f. or-right (m .basic) (o .basic) (d .hb f));
-}
-
-covers-left : (m o : Needs) (p : Predicate) → Covers m p → Covers (either m o) p
-covers-left m o p c = record {
-  basic = λ e. or-left (m .basic) (o .basic) (c .basic e);
-  middle = λ e. or-left (m .middle) (o .middle) (c .middle e);
-  hb = λ e. or-left (m .hb) (o .hb) (c .hb e);
-}
-
-covers-right : (m : Needs) (p : Predicate) → Covers (either m (needsOf p)) p
-covers-right m p = record {
-  basic = λ e. or-right (m .basic) (needsOf p .basic) e;
-  middle = λ e. or-right (m .middle) (needsOf p .middle) e;
-  hb = λ e. or-right (m .hb) (needsOf p .hb) e;
-}
-
--- m is closed, and has what each predicate of the first k places is judged from
-pub record Served (ks : List ℕ) (m : Needs) (k : ℕ) : Type 0 where
-  pub closed : Closed m
-  pub serves : (i : ℕ) → i < k → 1 ≤ getD ks i 0 → Covers m (numbered (getD ks i 0))
-
-pub served-none : (ks : List ℕ) → Served ks (record { basic = false; middle = false; hb = false }) 0
-served-none ks = record { closed = record { middle = λ e. cc; hb = λ e. cc }; serves = below-none _ }
-
-module _ (ks : List ℕ) (m : Needs) (k : ℕ) (s : Served ks m k) where
-  pub served-skip : getD ks k 0 ≡ 0 → Served ks m (k + 1)
-  served-skip e = record { closed = s .closed; serves = below-more _ k (s .serves) (λ h. absurd (omega arith)) }
-
-  pub served-more : (p : Predicate) (o m' : Needs) → p ≡ numbered (getD ks k 0) → o ≡ needsOf p → m' ≡ either m o → Served ks m' (k + 1)
-  served-more p o m' e f g = subst (λ (n : Needs). Served ks n (k + 1)) (sym (g ∙ ap (either m) f)) (record {
-    closed = closed-either m (needsOf p) (s .closed) (closed-of p);
-    serves = below-more _ k (λ i l h. covers-left m (needsOf p) (numbered (getD ks i 0)) (s .serves i l h))
-        (λ h. subst (Covers (either m (needsOf p))) e (covers-right m p));
-  })
-
-  pub served-all : 4 ≤ k → Closed m × Serves m ks
-  served-all h = (s .closed, λ i l. s .serves i (omega arith))
 
 -- ---- the first broken predicate of what is left of a list from place k on
 

@@ -1,10 +1,9 @@
 -- Laws of predicates 2 and 13: the pairs on which vis and ar differ, from what tests told on the way. Assumes nothing.
 use mathlib.Core.Path.{_≡_, refl, sym, ap, ap₂, _∙_}
 use mathlib.Core.Bool.{Bool, true, false, not, _&&_, Bool·beq, true≢false, false≢true}
-use Prim.Native.Nat.{ℕ, _<_}
+use Prim.Native.Nat.{ℕ}
 use borrow.Author.Tests.{not-true, not-false}
 use Rattle.rows.specs.Relation.{Rel}
-use Rattle.rows.proofs.LowestLaws.{some-of, none-some}
 use Rattle.record.specs.History.{History}
 use Rattle.judge.specs.Relations.{ob}
 use Rattle.judge.specs.Predicates.{excused, differ, misfit}
@@ -23,18 +22,6 @@ cut-object false h q a b t e f c = absurd (false≢true c)
 pub cut-whole : (cut : Bool) (h : History) (q : Rel) (a b : ℕ) (t : Bool) → t ≡ q a b → not t ≡ false → cut ≡ false → true ≡ cutTo cut h q a b
 cut-whole true h q a b t e f c = absurd (true≢false c)
 cut-whole false h q a b t e f c = sym (not-false t f) ∙ e
-
--- ---- whether an event is excused; t is whether it is pending
-
-module _ (h : History) (q : Rel) (a : ℕ) (t : Bool) (pending : t ≡ h .isPending a) where
-  pub excused-returned : not t ≡ true → false ≡ excused h q a
-  excused-returned f = rw (← pending, not-true t f)
-
-  pub excused-seen : (b : ℕ) (s : Bool) → not t ≡ false → b < h .count → s ≡ q a b → s ≡ true → false ≡ excused h q a
-  excused-seen b s f i e u = rw (← pending, not-false t f, some-of (h .count) (q a) b i (sym e ∙ u))
-
-  pub excused-unseen : not t ≡ false → ((b : ℕ) → b < h .count → q a b ≡ false) → true ≡ excused h q a
-  excused-unseen f e = rw (← pending, not-false t f, none-some (h .count) (q a) e)
 
 -- ---- whether a pair breaks the rule; x is whether its first event is excused
 

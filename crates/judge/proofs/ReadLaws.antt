@@ -1,58 +1,18 @@
--- Laws of predicate 1: the last write that a read sees, what the read holds, and the lowest read that holds something else, from what
--- tests told on the way. Assumes nothing.
-use mathlib.Core.Path.{_≡_, refl, sym, ap, ap₂, _∙_, subst}
+-- Laws of predicate 1: what a read holds, and the lowest read that holds something else, from what tests told on the way. Assumes nothing.
+use mathlib.Core.Path.{_≡_, refl, sym, ap, ap₂, _∙_}
 use mathlib.Core.Bool.{Bool, true, false, not, cond, _&&_, and-false}
-use Prim.Native.Nat.{ℕ, _+_, _<_, _≤_}
+use Prim.Native.Nat.{ℕ, _<_}
 use native.Mathlib.Omega.{arith}
-use native.Mathlib.Numerals.{add-one}
 use lib.Dec.{eqb}
 use borrow.Author.Tests.{eq-eqb, ne-eqb, not-true, not-false}
-use Rattle.record.specs.History.{History, vis}
+use Rattle.record.specs.History.{History}
 use Rattle.judge.specs.FirstPair.{first}
-use Rattle.judge.specs.Relations.{ob}
-use Rattle.judge.specs.Reads.{none, value, candidate, later, lastBelow, lastWrite, sameHeld, held, leftBy, expected, wrongRead, lastOr, wrong}
-use Rattle.judge.specs.Tables.{LastBelow}
+use Rattle.judge.specs.Reads.{none, value, lastWrite, sameHeld, held, leftBy, expected, wrongRead, lastOr, wrong}
 use Rattle.judge.specs.declared.Verdict.the-variants.{Met, Broken}
 use Rattle.judge.specs.declared.Last.{Last}
 use Rattle.judge.specs.declared.Last.the-variants.{Nothing, At}
 use Rattle.judge.proofs.FirstPairLaws.{first-at, first-none}
-use Rattle.judge.proofs.LastWriteLaws.{LastIn, last-in, lastOr-lt}
-
--- ---- whether k is a candidate for e; t is whether it is visible, s whether it is a write
-
-module _ (h : History) (e k : ℕ) (t : Bool) (seen : t ≡ vis h k e) where
-  pub candidate-unseen : not t ≡ true → false ≡ candidate h e k
-  unfolding candidate
-  candidate-unseen f = rw (← seen, not-true t f)
-
-  module _ (s : Bool) (wrote : s ≡ h .isWrite k) (f : not t ≡ false) where
-    pub candidate-read : not s ≡ true → false ≡ candidate h e k
-    unfolding candidate
-    candidate-read g = rw (← seen, ← wrote, not-false t f, not-true s g)
-
-    pub candidate-write : not s ≡ false → ob h k e ≡ candidate h e k
-    unfolding candidate
-    candidate-write g = rw (← seen, ← wrote, not-false t f, not-false s g)
-
--- ---- the last write
-
-below-wider : (k n : ℕ) (x : Last) → k ≤ n → LastIn k x → LastBelow n x
-below-wider k n Nothing l i = tt
-below-wider k n (At w) l i = omega arith
-
-module _ (h : History) (e k : ℕ) where
-  -- one event more: t is whether it is a candidate
-  pub last-new : (x : Last) (t : Bool) → x ≡ lastBelow h e k → t ≡ candidate h e k → t ≡ true → later h x k ≡ lastBelow h e (k + 1)
-  unfolding lastBelow
-  last-new x t q p f = rw (add-one k, sym p ∙ f, q)
-
-  pub last-old : (x : Last) (t : Bool) → x ≡ lastBelow h e k → t ≡ candidate h e k → t ≡ false → x ≡ lastBelow h e (k + 1)
-  unfolding lastBelow
-  last-old x t q p f = rw (add-one k, sym p ∙ f) q
-
-  -- what is found among the events below k is below any later number
-  pub last-below : (n : ℕ) (x : Last) → k ≤ n → x ≡ lastBelow h e k → LastBelow n x
-  last-below n x l q = below-wider k n x l (subst (LastIn k) (sym q) (last-in h e k))
+use Rattle.judge.proofs.LastWriteLaws.{lastOr-lt}
 
 -- ---- what a read holds; t is whether it holds anything
 

@@ -18,7 +18,7 @@ use Rattle.record.proofs.StoresLaws.{Bytes}
 use Rattle.record.proofs.SlotWords.{length-slot-words}
 use Rattle.record.proofs.WorkLaws.{length-visible}
 use Rattle.record.proofs.WordsLaws.{words-agree}
-use Rattle.record.proofs.QuestionsAnswered.{passed-count, passed-blocks, passed-graph}
+use Rattle.record.proofs.QuestionsAnswered.{passed-count, passed-blocks, passed-position, passed-distinct, passed-graph}
 use Rattle.judge.specs.Tables.{Given}
 
 -- the words l and v, four an event each, have the n events of the record s
@@ -81,11 +81,19 @@ module _ (s : List ℕ) (passed : questions gcr1 s ≡ Passed) where
     sets : v ≡ visibleWords gcr1 s ++ drop 1024 v
     sets = sym (take-append-drop 1024 v) ∙ ap (λ (t : List ℕ). t ++ drop 1024 v) begins
 
+    same : Agree (historyOf gcr1 s) (historyFrom n 4 l v)
+    same = rw (counted, heads, sets) (words-agree s bytes (passed-count s passed) (drop (n * 4) d) (drop 1024 v))
+
     pub words-told : Told s n l v
+    unfolding historyOf historyFrom
     words-told = record {
       given = record {
         heads = omega (arith, ap length loaded, length-append (slotWords gcr1 0 4 s n) (drop (n * 4) d), length-slot-words gcr1 0 4 s n);
         rows = rw (counted, sets) (passed-graph s passed bytes (drop 1024 v));
+        placed = record {
+          below = λ e i. omega (arith, passed-position s passed e (omega arith), same .position e (omega arith));
+          distinct = λ d e i j q. passed-distinct s passed d e (omega arith) (omega arith) (same .position d (omega arith) ∙ q ∙ sym (same .position e (omega arith)));
+        };
       };
-      agree = rw (counted, heads, sets) (words-agree s bytes (passed-count s passed) (drop (n * 4) d) (drop 1024 v));
+      agree = same;
     }

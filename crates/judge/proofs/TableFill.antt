@@ -78,7 +78,7 @@ module _ (w : ℕ) (P : ℕ → List ℕ → Type 0) (g₀ : List ℕ) (b : ℕ)
       rows = λ c h. rw given (subst (P c) (sym (row-put-other g w b m wide room c (λ e. omega arith))) (i .rows c h));
     }
 
-    pub filled-more : P b m → Filled w P g₀ (b + 1) (giveBack g w b m)
+    filled-more : P b m → Filled w P g₀ (b + 1) (giveBack g w b m)
     filled-more p = record {
       size = filled-kept .size;
       rows = λ c h. split (ltb c b)

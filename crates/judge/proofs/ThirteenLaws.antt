@@ -1,6 +1,5 @@
 -- Laws of the numbers of the thirteen verdicts. Assumes nothing.
-use mathlib.Core.Path.{_≡_, refl, sym, ap, ap₂, _∙_}
-use mathlib.Core.Bool.{true}
+use mathlib.Core.Path.{_≡_, sym, ap, ap₂, _∙_}
 use mathlib.Core.List.{List, [], _∷_, _++_}
 use Prim.Native.Nat.{ℕ, _+_, _≤_, _<_}
 use native.Mathlib.Numerals.{add-one}
@@ -11,22 +10,10 @@ use Rattle.rows.specs.Relation.{Rel}
 use Rattle.record.specs.History.{History}
 use Rattle.judge.specs.Predicates.{rule, breaks, verdict, numbered}
 use Rattle.judge.specs.Judgments.{packedVerdict, packedVerdicts}
-use Rattle.judge.specs.Tables.{Covers, Closed}
-use Rattle.judge.specs.declared.Needs.{Needs}
 use Rattle.judge.specs.declared.Predicate.{Predicate}
 use Rattle.judge.specs.declared.Verdict.{Verdict}
 use Rattle.judge.specs.declared.Verdict.the-variants.{Met, Broken}
 use Rattle.judge.proofs.FirstPairLaws.{Says, says-of}
-
--- all tables
-abbrev pub everything : Needs
-everything = record { basic = true; middle = true; hb = true }
-
-pub closed-everything : Closed everything
-closed-everything = record { middle = λ e. refl; hb = λ e. refl }
-
-pub covers-everything : (p : Predicate) → Covers everything p
-covers-everything p = record { basic = λ e. refl; middle = λ e. refl; hb = λ e. refl }
 
 -- ---- events are below 256, so a verdict's number is small
 

@@ -2,32 +2,40 @@
 use mathlib.Core.Path.{_≡_}
 use mathlib.Core.Bool.{Bool, true, false, not, cond, _&&_, _||_}
 use mathlib.Core.List.{List, [], _∷_}
-use Prim.Native.Nat.{ℕ, _+_, _*_, _^_, _<_, _≤_}
+use Prim.Native.Nat.{ℕ, suc, _*_, _<_, _≤_}
 use lib.Dec.{eqb}
 use lib.ListN.{length, getD}
 use Rattle.rows.specs.Lowest.{some}
-use Rattle.rows.specs.Row.{has, rowAt, Row}
+use Rattle.rows.specs.Row.{has, onlyFirst, rowAt, Row}
 use Rattle.rows.specs.Relation.{Rel, Graph, Table}
 use Rattle.record.specs.History.{History, vis}
-use Rattle.record.specs.Words.{isWriteIn, siteIn, objectIn, historyFrom}
-use Rattle.judge.specs.Relations.{rb, ss, ob, so, ar, hb, read, both, through}
-use Rattle.judge.specs.declared.Predicate.{Predicate}
-use Rattle.judge.specs.declared.Predicate.the-variants.{RVal, SingleOrder, RealTime, RealTimeWrites, MonotonicReads, ReadYourWrites, MonotonicWrites, WritesFollowReads, Pram, CausalVisibility, CausalArbitration, PerObjectPram, PerObjectSingleOrder}
-use Rattle.judge.specs.Predicates.{misfit, numbered}
-use Rattle.judge.specs.declared.Needs.{Needs}
+use Rattle.record.specs.Words.{isWriteIn, siteIn, objectIn, positionIn, historyFrom}
+use Rattle.judge.specs.Relations.{rb, ob, so, ar, hb, read, both, through}
+use Rattle.judge.specs.Predicates.{differ, misfit}
 use Rattle.judge.specs.declared.Kind.{Kind}
 use Rattle.judge.specs.declared.Kind.the-variants.{Every, Writes, Reads}
 use Rattle.judge.specs.declared.Last.{Last}
 use Rattle.judge.specs.declared.Last.the-variants.{Nothing, At}
 
--- the words of n events: four of fields each, and w of its visible set
+-- n events have positions below n, and no two have one, as question 8 asks
+pub record Placed (n : ℕ) (l : List ℕ) : Type 0 where
+  pub below : (e : ℕ) → e < n → positionIn l e < n
+  pub distinct : (d e : ℕ) → d < n → e < n → positionIn l d ≡ positionIn l e → d ≡ e
+
+-- the words of n events: four of fields each, and w of its visible set, with positions as question 8 asks
 pub record Given (n w : ℕ) (l v : List ℕ) : Type 0 where
   pub heads : 4 * n ≤ length l
   pub rows : Graph v n w
+  pub placed : Placed n l
 
 -- the fields alone
 abbrev pub fieldsOf : List ℕ → History
 fieldsOf l = historyFrom 0 0 l []
+
+-- at its position `order` has each event e of the first k, counted from 1, and elsewhere 0
+pub record Ordered (k : ℕ) (l order : List ℕ) : Type 0 where
+  pub there : (e : ℕ) → e < k → getD order (positionIn l e) 0 ≡ suc e
+  pub only : (p e : ℕ) → getD order p 0 ≡ suc e → (e < k) × (positionIn l e ≡ p)
 
 -- every event, the writes, or the reads
 abbrev pub ofKind : Kind → List ℕ → ℕ → Bool
@@ -54,50 +62,27 @@ joined q r a b = q a b || r a b
 abbrev pub between : ℕ → (ℕ → Bool) → Rel → Rel → Rel
 between n s q r a c = some n (λ b. q a b && (s b && r b c))
 
--- which tables a predicate is judged from
-abbrev pub needsOf : Predicate → Needs
-needsOf RVal = record { basic = false; middle = false; hb = false }
-needsOf SingleOrder = record { basic = false; middle = false; hb = false }
-needsOf RealTime = record { basic = true; middle = false; hb = false }
-needsOf RealTimeWrites = record { basic = true; middle = false; hb = false }
-needsOf MonotonicReads = record { basic = true; middle = true; hb = false }
-needsOf ReadYourWrites = record { basic = true; middle = false; hb = false }
-needsOf MonotonicWrites = record { basic = true; middle = false; hb = false }
-needsOf WritesFollowReads = record { basic = true; middle = true; hb = false }
-needsOf Pram = record { basic = true; middle = false; hb = false }
-needsOf CausalVisibility = record { basic = true; middle = false; hb = true }
-needsOf CausalArbitration = record { basic = true; middle = false; hb = true }
-needsOf PerObjectPram = record { basic = true; middle = false; hb = false }
-needsOf PerObjectSingleOrder = record { basic = false; middle = false; hb = false }
-
--- rb, so, ar, and so cut to one object
-pub record Basic (n w : ℕ) (h : History) (rbs sos ars objects : List ℕ) : Type 0 where
-  pub rbs-hold : Table n w (rb h) rbs
-  pub sos-hold : Table n w (so h) sos
-  pub ars-hold : Table n w (ar h) ars
-  pub objects-hold : Table n w (both (so h) (ob h)) objects
-
 -- a table has room for n rows
 abbrev pub Room : ℕ → ℕ → List ℕ → Type 0
 Room n w g = n * w ≤ length g
 
--- the tables that are needed hold their relations; `middles` has the pairs of predicates 5 and 8, a vis b, b so c for a read b
-pub record Prepared (m : Needs) (n w : ℕ) (h : History) (rbs sos ars objects middles hbs : List ℕ) : Type 0 where
+-- rb, so, ar and the pairs of predicates 5 and 8, a vis b, b so c for a read b
+pub record Timed (n w : ℕ) (l v rbs sos ars middles : List ℕ) : Type 0 where
+  pub rbs-hold : Table n w (rb (historyFrom n w l v)) rbs
+  pub sos-hold : Table n w (so (historyFrom n w l v)) sos
+  pub ars-hold : Table n w (ar (historyFrom n w l v)) ars
+  pub middles-hold : Table n w (through (historyFrom n w l v) (read (historyFrom n w l v)) (vis (historyFrom n w l v)) (so (historyFrom n w l v))) middles
+
+-- all that predicates are judged from: those, so cut to one object, hb, the events of each object, and the writes
+pub record Prepared (n w : ℕ) (l v rbs sos ars objects middles hbs keys writes : List ℕ) : Type 0 where
   pub rooms : Room n w rbs × Room n w sos × Room n w ars × Room n w objects × Room n w middles × Room n w hbs
-  pub basics : m .basic ≡ true → Basic n w h rbs sos ars objects
-  pub middles-hold : m .middle ≡ true → Table n w (through h (read h) (vis h) (so h)) middles
-  pub hbs-hold : m .hb ≡ true → Table n w (hb h) hbs
-
--- whatever p is judged from, m has
-pub record Covers (m : Needs) (p : Predicate) : Type 0 where
-  pub basic : needsOf p .basic ≡ true → m .basic ≡ true
-  pub middle : needsOf p .middle ≡ true → m .middle ≡ true
-  pub hb : needsOf p .hb ≡ true → m .hb ≡ true
-
--- the other tables are made from the basic ones
-pub record Closed (m : Needs) : Type 0 where
-  pub middle : m .middle ≡ true → m .basic ≡ true
-  pub hb : m .hb ≡ true → m .basic ≡ true
+  pub timed : Timed n w l v rbs sos ars middles
+  pub objects-hold : Table n w (both (so (historyFrom n w l v)) (ob (historyFrom n w l v))) objects
+  pub hbs-hold : Table n w (hb (historyFrom n w l v)) hbs
+  pub keys-hold : KeyRows n w (keyIn true l) keys
+  pub keys-room : 256 * w ≤ length keys
+  pub writes-hold : Row n (isWriteIn l) writes
+  pub writes-long : length writes ≡ w
 
 -- the pairs of q, all of them or only those on one object
 abbrev pub cutTo : Bool → History → Rel → Rel
@@ -108,10 +93,25 @@ cutTo false h q = q
 abbrev pub misplaced : Bool → History → Rel
 misplaced cut h = misfit h (cutTo cut h (vis h)) (cutTo cut h (ar h))
 
+-- the events for which q and r differ on some event below k, and those that q relates to some event below k
+pub record Compared (n k : ℕ) (q r : Rel) (differing visible : List ℕ) : Type 0 where
+  pub differs : Row n (λ a. some k (λ b. differ (q a b) (r a b))) differing
+  pub begins : Row n (λ a. some k (q a)) visible
+
 -- an event that was found is below n
 abbrev pub LastBelow : ℕ → Last → Type 0
 LastBelow n Nothing = Unit
 LastBelow n (At w) = w < n
+
+-- x is a member of a that b lacks, or past the row where there is none
+pub record Picked (a b : List ℕ) (x : ℕ) : Type 0 where
+  pub member : x < 64 * length a → onlyFirst a b x ≡ true
+  pub none : 64 * length a ≤ x → (y : ℕ) → onlyFirst a b y ≡ false
+
+-- an event that was found is the last of those in s, by their positions
+abbrev pub Latest : (ℕ → ℕ) → List ℕ → Last → Type 0
+Latest position s Nothing = (x : ℕ) → has s x ≡ false
+Latest position s (At w) = (has s w ≡ true) × ((x : ℕ) → has s x ≡ true → position x ≤ position w)
 
 -- the numbers of a list up to the first 0
 unfoldable pub upToZero : List ℕ → List ℕ
@@ -122,7 +122,3 @@ upToZero (k ∷ ks) = cond (eqb k 0) [] (k ∷ upToZero ks)
 pub record Numbers (ks : List ℕ) : Type 0 where
   pub four : length ks ≡ 4
   pub small : (i : ℕ) → getD ks i 0 ≤ 13
-
--- m has what each predicate of a list is judged from
-abbrev pub Serves : Needs → List ℕ → Type 0
-Serves m ks = (i : ℕ) → i < 4 → 1 ≤ getD ks i 0 → Covers m (numbered (getD ks i 0))

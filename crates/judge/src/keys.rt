@@ -3,7 +3,7 @@ use record::events;
 ghost use mathlib.Core.Path.{_≡_};
 ghost use Prim.Native.Nat.{_+_, _*_, _^_, _<_, _≤_};
 ghost use lib.ListN.{length};
-ghost use Rattle.rows.specs.Relation.{Rel, related, Table};
+ghost use Rattle.rows.specs.Relation.{Rel, Table};
 ghost use Rattle.judge.specs.Relations.{both};
 ghost use Rattle.judge.specs.Tables.{keyIn, sameKey, KeyRows};
 

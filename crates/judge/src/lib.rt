@@ -1,4 +1,5 @@
 // The judge of thirteen predicates and thirteen models.
+pub mod arbitration;
 pub mod host;
 pub mod inclusion;
 pub mod keys;
@@ -69,13 +70,6 @@ pub enum Kind {
     Every,
     Writes,
     Reads,
-}
-
-// Which tables are wanted: rb, so, ar and so on one object; the pairs with a read between them; hb.
-pub struct Needs {
-    pub basic: bool,
-    pub middle: bool,
-    pub hb: bool,
 }
 
 // A record's reading, and the numbers of its thirteen verdicts, zeros where it was refused.

@@ -1,16 +1,14 @@
 // Lists of predicates, by number: the table of models, and the first broken predicate of a list.
-use super::Needs;
 use super::Outcome;
 use super::Predicate;
 use super::Verdict;
 use super::prepared;
 ghost use mathlib.Core.Path.{_≡_};
-ghost use Prim.Native.Nat.{_*_, _≤_, _<_};
-ghost use lib.ListN.{length};
+ghost use Prim.Native.Nat.{_≤_};
 ghost use Rattle.record.specs.Words.{historyFrom};
 ghost use Rattle.judge.specs.Predicates.{numbered};
 ghost use Rattle.judge.specs.Models.{listOf, firstBroken};
-ghost use Rattle.judge.specs.Tables.{Given, needsOf, upToZero, Numbers, Covers, Closed, Serves};
+ghost use Rattle.judge.specs.Tables.{Given, upToZero, Numbers};
 
 // The predicates of each model in the order in which they are asked, 0 past a list's end.
 const MODELS: [[u8; 4]; 13] = [
@@ -59,71 +57,6 @@ pub fn by_number(k: u8) -> Predicate
     }
 }
 
-// The tables that a predicate is judged from.
-pub fn needs_of(p: Predicate) -> Needs
-    ensures { λ r. ⌜ r ≡ needsOf p ⌝ }
-{
-    let none = Needs {
-        basic: false,
-        middle: false,
-        hb: false,
-    };
-    let basic = Needs {
-        basic: true,
-        middle: false,
-        hb: false,
-    };
-    let middle = Needs {
-        basic: true,
-        middle: true,
-        hb: false,
-    };
-    let hb = Needs {
-        basic: true,
-        middle: false,
-        hb: true,
-    };
-    match p {
-        Predicate::RVal => none,
-        Predicate::SingleOrder => none,
-        Predicate::RealTime => basic,
-        Predicate::RealTimeWrites => basic,
-        Predicate::MonotonicReads => middle,
-        Predicate::ReadYourWrites => basic,
-        Predicate::MonotonicWrites => basic,
-        Predicate::WritesFollowReads => middle,
-        Predicate::Pram => basic,
-        Predicate::CausalVisibility => hb,
-        Predicate::CausalArbitration => hb,
-        Predicate::PerObjectPram => basic,
-        Predicate::PerObjectSingleOrder => none,
-    }
-}
-
-// The tables that the predicates of a list are judged from.
-pub fn needs_of_list(list: [u8; 4]) -> Needs
-    requires { ⌜ Numbers list ⌝ }
-    ensures { λ r. ⌜ Closed r × Serves r list ⌝ }
-{
-    let mut all = Needs {
-        basic: false,
-        middle: false,
-        hb: false,
-    };
-    for k in 0..4 {
-        let number = list[k];
-        if number != 0 {
-            let one = needs_of(by_number(number));
-            all = Needs {
-                basic: all.basic || one.basic,
-                middle: all.middle || one.middle,
-                hb: all.hb || one.hb,
-            };
-        }
-    }
-    all
-}
-
 // The first broken predicate of a list, with its pair.
 pub fn first_broken(list: [u8; 4], l: &[u64], v: &[u64], n: usize) -> Outcome
     requires { ⌜ Given n 4 (now l) (now v) × Numbers list ⌝ }
@@ -135,9 +68,9 @@ pub fn first_broken(list: [u8; 4], l: &[u64], v: &[u64], n: usize) -> Outcome
     let mut objects = [0u64; 1024];
     let mut middles = [0u64; 1024];
     let mut hbs = [0u64; 1024];
-    let m = needs_of_list(list);
+    let mut keys = [0u64; 1024];
+    let mut writes = [0u64; 4];
     prepared::prepare(
-        m,
         l,
         v,
         n,
@@ -147,6 +80,8 @@ pub fn first_broken(list: [u8; 4], l: &[u64], v: &[u64], n: usize) -> Outcome
         &mut objects,
         &mut middles,
         &mut hbs,
+        &mut keys,
+        &mut writes,
     );
     for k in 0..4 {
         let number = list[k];
@@ -154,7 +89,20 @@ pub fn first_broken(list: [u8; 4], l: &[u64], v: &[u64], n: usize) -> Outcome
             return Outcome::AllMet;
         }
         let p = by_number(number);
-        let found = prepared::judge(p, m, l, v, n, &rbs, &sos, &ars, &objects, &middles, &hbs);
+        let found = prepared::judge(
+            p,
+            l,
+            v,
+            n,
+            &rbs,
+            &sos,
+            &ars,
+            &objects,
+            &middles,
+            &hbs,
+            &keys,
+            &writes,
+        );
         if let Verdict::Broken(a, b) = found {
             return Outcome::BrokenAt(number as usize, a, b);
         }

@@ -1,22 +1,68 @@
 // Tables filled once a record, and each predicate judged from them. Rows are four words wide from here on.
 use super::Kind;
-use super::Needs;
 use super::Predicate;
 use super::Verdict;
+use super::arbitration;
 use super::inclusion::first_between;
+use super::keys;
 use super::order;
 use super::reads;
+use super::sweep;
 use super::tables;
 ghost use mathlib.Core.Path.{_≡_};
-ghost use Prim.Native.Nat.{_*_, _≤_};
+ghost use mathlib.Core.Bool.{true};
+ghost use Prim.Native.Nat.{_*_, _^_, _<_, _≤_};
 ghost use lib.ListN.{length};
-ghost use Rattle.record.specs.Words.{historyFrom};
+ghost use Rattle.rows.specs.Row.{Row};
+ghost use Rattle.rows.specs.Relation.{Table};
+ghost use Rattle.record.specs.Words.{isWriteIn, historyFrom};
+ghost use Rattle.judge.specs.FirstPair.{first};
+ghost use Rattle.judge.specs.Relations.{ar};
+ghost use Rattle.judge.specs.Reads.{wrong};
 ghost use Rattle.judge.specs.Predicates.{verdict};
-ghost use Rattle.judge.specs.Tables.{Given, Room, Prepared, Covers, Closed};
+ghost use Rattle.judge.specs.Tables.{Given, fieldsOf, keyIn, KeyRows, Room, Timed, Prepared, misplaced};
 
-// The tables that are wanted.
+// The tables that come of times and positions.
+fn fill_timed(
+    l: &[u64],
+    v: &[u64],
+    n: usize,
+    rbs: &mut [u64],
+    sos: &mut [u64],
+    ars: &mut [u64],
+    middles: &mut [u64],
+)
+    requires { ⌜ Given n 4 (now l) (now v) ⌝ }
+    requires { ⌜ Room n 4 (now rbs) × Room n 4 (now sos) × Room n 4 (now ars) × Room n 4 (now middles) ⌝ }
+    ensures { λ _. ⌜ Timed n 4 (now (l .entry)) (now (v .entry)) (now (rbs .exit)) (now (sos .exit)) (now (ars .exit)) (now (middles .exit)) ⌝ }
+    ensures { λ _. ⌜ (length (now (rbs .exit)) ≡ length (now (rbs .entry))) × (length (now (sos .exit)) ≡ length (now (sos .entry))) × (length (now (ars .exit)) ≡ length (now (ars .entry))) × (length (now (middles .exit)) ≡ length (now (middles .entry))) ⌝ }
+{
+    let mut starts = [0u64; 256];
+    let mut returns = [0u64; 256];
+    let mut all = [0u64; 4];
+    let mut here = [0u64; 1024];
+    let mut seen = [0u64; 1024];
+    sweep::sweep(
+        l,
+        v,
+        n,
+        4,
+        rbs,
+        sos,
+        middles,
+        &mut starts,
+        &mut returns,
+        &mut all,
+        &mut here,
+        &mut seen,
+    );
+    let mut placed = [0u64; 256];
+    let mut before = [0u64; 4];
+    arbitration::fill_ar(l, n, 4, &mut placed, &mut before, ars);
+}
+
+// All tables, the events of each object, and the writes.
 pub fn prepare(
-    m: Needs,
     l: &[u64],
     v: &[u64],
     n: usize,
@@ -26,30 +72,72 @@ pub fn prepare(
     objects: &mut [u64],
     middles: &mut [u64],
     hbs: &mut [u64],
+    keys: &mut [u64],
+    writes: &mut [u64],
 )
-    requires { ⌜ Given n 4 (now l) (now v) × Closed m ⌝ }
+    requires { ⌜ Given n 4 (now l) (now v) ⌝ }
     requires { ⌜ Room n 4 (now rbs) × Room n 4 (now sos) × Room n 4 (now ars) × Room n 4 (now objects) × Room n 4 (now middles) × Room n 4 (now hbs) ⌝ }
-    ensures { λ _. ⌜ Prepared m n 4 (historyFrom n 4 (now (l .entry)) (now (v .entry))) (now (rbs .exit)) (now (sos .exit)) (now (ars .exit)) (now (objects .exit)) (now (middles .exit)) (now (hbs .exit)) ⌝ }
+    requires { ⌜ (256 * 4 ≤ length (now keys)) × (64 * length (now keys) < 2 ^ 64) × (length (now writes) ≡ 4) ⌝ }
+    ensures { λ _. ⌜ Prepared n 4 (now (l .entry)) (now (v .entry)) (now (rbs .exit)) (now (sos .exit)) (now (ars .exit)) (now (objects .exit)) (now (middles .exit)) (now (hbs .exit)) (now (keys .exit)) (now (writes .exit)) ⌝ }
 {
-    if m.basic {
-        let mut keys = [0u64; 1024];
-        tables::fill_basic(l, n, 4, rbs, sos, ars, objects, &mut keys);
-    }
-    if m.middle {
-        let mut readers = [0u64; 4];
-        tables::fill_kind(l, n, Kind::Reads, &mut readers);
-        tables::fill_middle(n, 4, v, sos, &readers, middles);
-    }
-    if m.hb {
-        let mut row = [0u64; 4];
-        tables::fill_hb(n, sos, v, hbs, &mut row);
-    }
+    fill_timed(l, v, n, rbs, sos, ars, middles);
+    keys::fill_keys(l, n, 4, true, keys);
+    keys::keep_same_key(l, n, 4, true, sos, keys, objects);
+    let mut settled = [0u64; 4];
+    let mut rest = [0u64; 4];
+    let mut row = [0u64; 4];
+    tables::fill_hb(n, sos, v, hbs, &mut settled, &mut rest, &mut row);
+    tables::fill_kind(l, n, Kind::Writes, writes);
+}
+
+// Predicate 1.
+fn judge_values(
+    l: &[u64],
+    v: &[u64],
+    n: usize,
+    ars: &[u64],
+    keys: &[u64],
+    writes: &[u64],
+) -> Verdict
+    requires { ⌜ Given n 4 (now l) (now v) ⌝ }
+    requires { ⌜ Table n 4 (ar (fieldsOf (now l))) (now ars) × Room n 4 (now ars) ⌝ }
+    requires { ⌜ KeyRows n 4 (keyIn true (now l)) (now keys) × (256 * 4 ≤ length (now keys)) ⌝ }
+    requires { ⌜ Row n (isWriteIn (now l)) (now writes) × (length (now writes) ≡ 4) ⌝ }
+    ensures { λ r. ⌜ r ≡ first n (wrong (historyFrom n 4 (now (l .entry)) (now (v .entry)))) ⌝ }
+{
+    let mut seen = [0u64; 4];
+    reads::wrong_values(l, v, n, 4, ars, keys, writes, &mut seen)
+}
+
+// Predicate 2, or with `cut` 13.
+fn judge_order(cut: bool, l: &[u64], v: &[u64], n: usize, ars: &[u64], keys: &[u64]) -> Verdict
+    requires { ⌜ Given n 4 (now l) (now v) ⌝ }
+    requires { ⌜ Table n 4 (ar (fieldsOf (now l))) (now ars) × Room n 4 (now ars) ⌝ }
+    requires { ⌜ KeyRows n 4 (keyIn true (now l)) (now keys) × (256 * 4 ≤ length (now keys)) ⌝ }
+    ensures { λ r. ⌜ r ≡ first n (misplaced cut (historyFrom n 4 (now (l .entry)) (now (v .entry)))) ⌝ }
+{
+    let mut differing = [0u64; 4];
+    let mut visible = [0u64; 4];
+    let mut seen = [0u64; 4];
+    let mut placed = [0u64; 4];
+    order::first_misplaced(
+        cut,
+        l,
+        v,
+        n,
+        4,
+        ars,
+        keys,
+        &mut differing,
+        &mut visible,
+        &mut seen,
+        &mut placed,
+    )
 }
 
 // The verdict of one predicate.
 pub fn judge(
     p: Predicate,
-    m: Needs,
     l: &[u64],
     v: &[u64],
     n: usize,
@@ -59,14 +147,16 @@ pub fn judge(
     objects: &[u64],
     middles: &[u64],
     hbs: &[u64],
+    keys: &[u64],
+    writes: &[u64],
 ) -> Verdict
-    requires { ⌜ Given n 4 (now l) (now v) × Covers m p ⌝ }
-    requires { ⌜ Prepared m n 4 (historyFrom n 4 (now l) (now v)) (now rbs) (now sos) (now ars) (now objects) (now middles) (now hbs) ⌝ }
+    requires { ⌜ Given n 4 (now l) (now v) ⌝ }
+    requires { ⌜ Prepared n 4 (now l) (now v) (now rbs) (now sos) (now ars) (now objects) (now middles) (now hbs) (now keys) (now writes) ⌝ }
     ensures { λ r. ⌜ r ≡ verdict p (historyFrom n 4 (now (l .entry)) (now (v .entry))) ⌝ }
 {
     match p {
-        Predicate::RVal => reads::wrong_values(l, v, n, 4),
-        Predicate::SingleOrder => order::first_misplaced(false, l, v, n, 4),
+        Predicate::RVal => judge_values(l, v, n, ars, keys, writes),
+        Predicate::SingleOrder => judge_order(false, l, v, n, ars, keys),
         Predicate::RealTime => first_between(l, n, rbs, Kind::Every, Kind::Every, ars),
         Predicate::RealTimeWrites => first_between(l, n, rbs, Kind::Writes, Kind::Every, ars),
         Predicate::MonotonicReads => first_between(l, n, middles, Kind::Every, Kind::Reads, v),
@@ -84,6 +174,6 @@ pub fn judge(
         Predicate::CausalVisibility => first_between(l, n, hbs, Kind::Every, Kind::Every, v),
         Predicate::CausalArbitration => first_between(l, n, hbs, Kind::Every, Kind::Every, ars),
         Predicate::PerObjectPram => first_between(l, n, objects, Kind::Every, Kind::Every, v),
-        Predicate::PerObjectSingleOrder => order::first_misplaced(true, l, v, n, 4),
+        Predicate::PerObjectSingleOrder => judge_order(true, l, v, n, ars, keys),
     }
 }

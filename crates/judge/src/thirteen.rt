@@ -1,11 +1,9 @@
 // All thirteen predicates over tables that are filled once.
-use super::Needs;
 use super::Verdict;
 use super::lists;
 use super::prepared;
 ghost use mathlib.Core.Path.{_≡_};
 ghost use Prim.Native.Nat.{_≤_};
-ghost use lib.ListN.{length};
 ghost use Rattle.record.specs.Words.{historyFrom};
 ghost use Rattle.judge.specs.Judgments.{packedVerdict, packedVerdicts};
 ghost use Rattle.judge.specs.Tables.{Given};
@@ -32,13 +30,9 @@ pub fn verdicts(l: &[u64], v: &[u64], n: usize) -> [u64; 13]
     let mut objects = [0u64; 1024];
     let mut middles = [0u64; 1024];
     let mut hbs = [0u64; 1024];
-    let m = Needs {
-        basic: true,
-        middle: true,
-        hb: true,
-    };
+    let mut keys = [0u64; 1024];
+    let mut writes = [0u64; 4];
     prepared::prepare(
-        m,
         l,
         v,
         n,
@@ -48,11 +42,26 @@ pub fn verdicts(l: &[u64], v: &[u64], n: usize) -> [u64; 13]
         &mut objects,
         &mut middles,
         &mut hbs,
+        &mut keys,
+        &mut writes,
     );
     let mut answers = [0u64; 13];
     for k in 0..13 {
         let p = lists::by_number(k as u8 + 1);
-        let found = prepared::judge(p, m, l, v, n, &rbs, &sos, &ars, &objects, &middles, &hbs);
+        let found = prepared::judge(
+            p,
+            l,
+            v,
+            n,
+            &rbs,
+            &sos,
+            &ars,
+            &objects,
+            &middles,
+            &hbs,
+            &keys,
+            &writes,
+        );
         answers[k] = pack(found);
     }
     answers

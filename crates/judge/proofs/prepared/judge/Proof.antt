@@ -1,43 +1,48 @@
 -- `prepared::judge` meets its contract. In each arm the two tables hold the two sides of the predicate's rule. Assumes nothing.
-use mathlib.Core.Path.{_≡_, refl, sym, ap, _∙_, subst}
-use borrow.Author.Needs.{needs}
+use mathlib.Core.Path.{_≡_, sym, ap, _∙_}
 use Rattle.rows.specs.Relation.{Table}
 use Rattle.record.specs.History.{History, vis}
 use Rattle.record.specs.Words.{historyFrom}
 use Rattle.judge.specs.Relations.{rb, ob, so, ar, hb, read, both, through}
 use Rattle.judge.specs.Predicates.{rule, breaks, verdict}
-use Rattle.judge.specs.Tables.{Covers}
+use Rattle.judge.specs.Tables.{fieldsOf, Room}
 use Rattle.judge.specs.declared.Predicate.{Predicate}
 use Rattle.judge.specs.declared.Predicate.the-variants.{RVal, SingleOrder, RealTime, RealTimeWrites, MonotonicReads, ReadYourWrites, MonotonicWrites, WritesFollowReads, Pram, CausalVisibility, CausalArbitration, PerObjectPram, PerObjectSingleOrder}
 use Rattle.judge.specs.declared.Verdict.{Verdict}
-use Rattle.judge.proofs.PreparedLaws.{seen-table}
+use Rattle.judge.proofs.PreparedLaws.{seen-table, ars-fields}
+use borrow.Author.Needs.{needs}
 use Rattle.judge.proofs.prepared.judge.Statement.{statement}
 use Rattle.judge.proofs.prepared.judge.Tie as tie
 
 abbrev history : tie.Start → History
 history s = historyFrom (s .args .n) 4 (s .args .l .now) (s .args .v .now)
 
--- p is q, so q's verdict is p's, and what q is judged from is there
+-- p is q, so q's verdict is p's
 as-is : (s : tie.Start) (q : Predicate) {r : Verdict} → s .args .p ≡ q → r ≡ verdict q (history s) → r ≡ verdict (s .args .p) (history s)
 as-is s q e f = f ∙ ap (λ (x : Predicate). verdict x (history s)) (sym e)
 
-covers : (s : tie.Start) (q : Predicate) → s .args .p ≡ q → Covers (s .args .m) q
-covers s q e = subst (Covers (s .args .m)) e (s .pre .0 .1)
-
 seen : (s : tie.Start) → Table (s .args .n) 4 (vis (history s)) (s .args .v .now)
-seen s = seen-table (s .args .n) (s .args .l .now) (s .args .v .now) (s .pre .0 .0)
+seen s = seen-table (s .args .n) (s .args .l .now) (s .args .v .now) (s .pre .0)
+
+placed : (s : tie.Start) → Table (s .args .n) 4 (ar (fieldsOf (s .args .l .now))) (s .args .ars .now) × Room (s .args .n) 4 (s .args .ars .now)
+placed s = (ars-fields (s .args .n) (s .args .l .now) (s .args .v .now) (s .args .ars .now) (s .pre .1 .timed .ars-hold), s .pre .1 .rooms .2)
 
 enum-told : tie.Need-enum-told
 enum-told c = search needs
 
-wrong-values-requires : tie.Need-wrong-values-requires
-wrong-values-requires c κs = search needs
+judge-values-requires : tie.Need-judge-values-requires
+judge-values-requires c κs =
+    let s = c .before .before .before .before .before .before .before .before .before .before .before .before in
+    let q = s .pre .1 in
+    (s .pre .0, (placed s, ((q .keys-hold, q .keys-room), (q .writes-hold, q .writes-long))))
 
 enum-told-2 : tie.Need-enum-told-2
 enum-told-2 c = search needs
 
-first-misplaced-requires : tie.Need-first-misplaced-requires
-first-misplaced-requires c κs = search needs
+judge-order-requires : tie.Need-judge-order-requires
+judge-order-requires c κs =
+    let s = c .before .before .before .before .before .before .before .before .before .before .before .before in
+    (s .pre .0, (placed s, (s .pre .1 .keys-hold, s .pre .1 .keys-room)))
 
 enum-told-3 : tie.Need-enum-told-3
 enum-told-3 c = search needs
@@ -102,117 +107,109 @@ first-between-requires-10 c κs = search needs
 enum-told-13 : tie.Need-enum-told-13
 enum-told-13 c = search needs
 
-first-misplaced-requires-2 : tie.Need-first-misplaced-requires-2
-first-misplaced-requires-2 c κs = search needs
+judge-order-requires-2 : tie.Need-judge-order-requires-2
+judge-order-requires-2 c κs =
+    let s = c .before .before .before .before .before .before .before .before .before .before .before .before in
+    (s .pre .0, (placed s, (s .pre .1 .keys-hold, s .pre .1 .keys-room)))
 
 returns : tie.Need-returns
 unfolding rule breaks verdict historyFrom
-returns c = as-is (c .before .before .before .before .before .before .before .before .before .before .before) RVal (c .before .enum-told .given .1) (c .wrong-values .ensures)
+returns c = as-is (c .before .before .before .before .before .before .before .before .before .before .before .before .before) RVal (c .before .enum-told .given .1) (c .judge-values .ensures)
 
 returns-2 : tie.Need-returns-2
 unfolding rule breaks verdict historyFrom
-returns-2 c = as-is (c .before .before .before .before .before .before .before .before .before .before .before) SingleOrder (c .before .enum-told2 .given .1) (c .first-misplaced .ensures)
+returns-2 c = as-is (c .before .before .before .before .before .before .before .before .before .before .before .before .before) SingleOrder (c .before .enum-told2 .given .1) (c .judge-order .ensures)
 
 returns-3 : tie.Need-returns-3
 unfolding rule breaks verdict historyFrom
 returns-3 c =
-    let s = c .before .before .before .before .before .before .before .before .before .before .before in
+    let s = c .before .before .before .before .before .before .before .before .before .before .before .before .before in
     let h = history s in
-    let e = c .before .enum-told3 .given .1 in
-    let b = s .pre .1 .basics (covers s RealTime e .basic refl) in
-    as-is s RealTime e (c .first-between .ensures (rb h) (ar h) (b .rbs-hold) (b .ars-hold))
+    let b = s .pre .1 .timed in
+    as-is s RealTime (c .before .enum-told3 .given .1) (c .first-between .ensures (rb h) (ar h) (b .rbs-hold) (b .ars-hold))
 
 returns-4 : tie.Need-returns-4
 unfolding rule breaks verdict historyFrom
 returns-4 c =
-    let s = c .before .before .before .before .before .before .before .before .before .before .before in
+    let s = c .before .before .before .before .before .before .before .before .before .before .before .before .before in
     let h = history s in
-    let e = c .before .enum-told4 .given .1 in
-    let b = s .pre .1 .basics (covers s RealTimeWrites e .basic refl) in
-    as-is s RealTimeWrites e (c .first-between2 .ensures (rb h) (ar h) (b .rbs-hold) (b .ars-hold))
+    let b = s .pre .1 .timed in
+    as-is s RealTimeWrites (c .before .enum-told4 .given .1) (c .first-between2 .ensures (rb h) (ar h) (b .rbs-hold) (b .ars-hold))
 
 returns-5 : tie.Need-returns-5
 unfolding rule breaks verdict historyFrom
 returns-5 c =
-    let s = c .before .before .before .before .before .before .before .before .before .before .before in
+    let s = c .before .before .before .before .before .before .before .before .before .before .before .before .before in
     let h = history s in
-    let e = c .before .enum-told5 .given .1 in
-    as-is s MonotonicReads e (c .first-between3 .ensures (through h (read h) (vis h) (so h)) (vis h) (s .pre .1 .middles-hold (covers s MonotonicReads e .middle refl)) (seen s))
+    let b = s .pre .1 .timed in
+    as-is s MonotonicReads (c .before .enum-told5 .given .1) (c .first-between3 .ensures (through h (read h) (vis h) (so h)) (vis h) (b .middles-hold) (seen s))
 
 returns-6 : tie.Need-returns-6
 unfolding rule breaks verdict historyFrom
 returns-6 c =
-    let s = c .before .before .before .before .before .before .before .before .before .before .before in
+    let s = c .before .before .before .before .before .before .before .before .before .before .before .before .before in
     let h = history s in
-    let e = c .before .enum-told6 .given .1 in
-    let b = s .pre .1 .basics (covers s ReadYourWrites e .basic refl) in
-    as-is s ReadYourWrites e (c .first-between4 .ensures (so h) (vis h) (b .sos-hold) (seen s))
+    let b = s .pre .1 .timed in
+    as-is s ReadYourWrites (c .before .enum-told6 .given .1) (c .first-between4 .ensures (so h) (vis h) (b .sos-hold) (seen s))
 
 returns-7 : tie.Need-returns-7
 unfolding rule breaks verdict historyFrom
 returns-7 c =
-    let s = c .before .before .before .before .before .before .before .before .before .before .before in
+    let s = c .before .before .before .before .before .before .before .before .before .before .before .before .before in
     let h = history s in
-    let e = c .before .enum-told7 .given .1 in
-    let b = s .pre .1 .basics (covers s MonotonicWrites e .basic refl) in
-    as-is s MonotonicWrites e (c .first-between5 .ensures (so h) (ar h) (b .sos-hold) (b .ars-hold))
+    let b = s .pre .1 .timed in
+    as-is s MonotonicWrites (c .before .enum-told7 .given .1) (c .first-between5 .ensures (so h) (ar h) (b .sos-hold) (b .ars-hold))
 
 returns-8 : tie.Need-returns-8
 unfolding rule breaks verdict historyFrom
 returns-8 c =
-    let s = c .before .before .before .before .before .before .before .before .before .before .before in
+    let s = c .before .before .before .before .before .before .before .before .before .before .before .before .before in
     let h = history s in
-    let e = c .before .enum-told8 .given .1 in
-    let b = s .pre .1 .basics (covers s WritesFollowReads e .basic refl) in
-    as-is s WritesFollowReads e (c .first-between6 .ensures (through h (read h) (vis h) (so h)) (ar h) (s .pre .1 .middles-hold (covers s WritesFollowReads e .middle refl)) (b .ars-hold))
+    let b = s .pre .1 .timed in
+    as-is s WritesFollowReads (c .before .enum-told8 .given .1) (c .first-between6 .ensures (through h (read h) (vis h) (so h)) (ar h) (b .middles-hold) (b .ars-hold))
 
 returns-9 : tie.Need-returns-9
 unfolding rule breaks verdict historyFrom
 returns-9 c =
-    let s = c .before .before .before .before .before .before .before .before .before .before .before in
+    let s = c .before .before .before .before .before .before .before .before .before .before .before .before .before in
     let h = history s in
-    let e = c .before .enum-told9 .given .1 in
-    let b = s .pre .1 .basics (covers s Pram e .basic refl) in
-    as-is s Pram e (c .first-between7 .ensures (so h) (vis h) (b .sos-hold) (seen s))
+    let b = s .pre .1 .timed in
+    as-is s Pram (c .before .enum-told9 .given .1) (c .first-between7 .ensures (so h) (vis h) (b .sos-hold) (seen s))
 
 returns-10 : tie.Need-returns-10
 unfolding rule breaks verdict historyFrom
 returns-10 c =
-    let s = c .before .before .before .before .before .before .before .before .before .before .before in
+    let s = c .before .before .before .before .before .before .before .before .before .before .before .before .before in
     let h = history s in
-    let e = c .before .enum-told10 .given .1 in
-    as-is s CausalVisibility e (c .first-between8 .ensures (hb h) (vis h) (s .pre .1 .hbs-hold (covers s CausalVisibility e .hb refl)) (seen s))
+    as-is s CausalVisibility (c .before .enum-told10 .given .1) (c .first-between8 .ensures (hb h) (vis h) (s .pre .1 .hbs-hold) (seen s))
 
 returns-11 : tie.Need-returns-11
 unfolding rule breaks verdict historyFrom
 returns-11 c =
-    let s = c .before .before .before .before .before .before .before .before .before .before .before in
+    let s = c .before .before .before .before .before .before .before .before .before .before .before .before .before in
     let h = history s in
-    let e = c .before .enum-told11 .given .1 in
-    let b = s .pre .1 .basics (covers s CausalArbitration e .basic refl) in
-    as-is s CausalArbitration e (c .first-between9 .ensures (hb h) (ar h) (s .pre .1 .hbs-hold (covers s CausalArbitration e .hb refl)) (b .ars-hold))
+    let b = s .pre .1 .timed in
+    as-is s CausalArbitration (c .before .enum-told11 .given .1) (c .first-between9 .ensures (hb h) (ar h) (s .pre .1 .hbs-hold) (b .ars-hold))
 
 returns-12 : tie.Need-returns-12
 unfolding rule breaks verdict historyFrom
 returns-12 c =
-    let s = c .before .before .before .before .before .before .before .before .before .before .before in
+    let s = c .before .before .before .before .before .before .before .before .before .before .before .before .before in
     let h = history s in
-    let e = c .before .enum-told12 .given .1 in
-    let b = s .pre .1 .basics (covers s PerObjectPram e .basic refl) in
-    as-is s PerObjectPram e (c .first-between10 .ensures (both (so h) (ob h)) (vis h) (b .objects-hold) (seen s))
+    as-is s PerObjectPram (c .before .enum-told12 .given .1) (c .first-between10 .ensures (both (so h) (ob h)) (vis h) (s .pre .1 .objects-hold) (seen s))
 
 returns-13 : tie.Need-returns-13
 unfolding rule breaks verdict historyFrom
-returns-13 c = as-is (c .before .before .before .before .before .before .before .before .before .before .before) PerObjectSingleOrder (c .before .enum-told13 .given .1) (c .first-misplaced2 .ensures)
+returns-13 c = as-is (c .before .before .before .before .before .before .before .before .before .before .before .before .before) PerObjectSingleOrder (c .before .enum-told13 .given .1) (c .judge-order2 .ensures)
 
 pub judge-spec : {M : Type 1} → statement M
 judge-spec =
     tie.close
     (tie.spec
     enum-told
-    wrong-values-requires
+    judge-values-requires
     enum-told-2
-    first-misplaced-requires
+    judge-order-requires
     enum-told-3
     first-between-requires
     enum-told-4
@@ -234,7 +231,7 @@ judge-spec =
     enum-told-12
     first-between-requires-10
     enum-told-13
-    first-misplaced-requires-2
+    judge-order-requires-2
     returns
     returns-2
     returns-3
