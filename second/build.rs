@@ -4,7 +4,7 @@ use std::env;
 use std::path::PathBuf;
 
 const LIBRARIES: [(&str, &str); 3] =
-    [("CARGO_FEATURE_READER", "record"), ("CARGO_FEATURE_JUDGE", "judge"), ("CARGO_FEATURE_REHEARSAL", "rehearsal")];
+    [("CARGO_FEATURE_READER", "reader"), ("CARGO_FEATURE_JUDGE", "judge"), ("CARGO_FEATURE_REHEARSAL", "rehearsal")];
 
 fn main() {
     println!("cargo:rerun-if-env-changed=SECOND_STATICLIB");

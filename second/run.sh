@@ -25,7 +25,7 @@ esac
 needs() {
     case $1 in
     inspect | verdict | rehearse) echo "$bin/$1" ;;
-    reader) echo "$libraries/librecord.a" ;;
+    reader) echo "$libraries/libreader.a" ;;
     models) echo "$libraries/libjudge.a" ;;
     rehearsal) echo "$libraries/librehearsal.a" ;;
     esac

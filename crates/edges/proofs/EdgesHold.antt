@@ -8,15 +8,15 @@ use Rattle.record.specs.Blocks.{sumA, sumB}
 use Rattle.record.specs.History.{vis}
 use Rattle.record.specs.Questions.{wrongSet, onRing, setQuestions, packed}
 use Rattle.record.specs.Encode.{littleBytes, withSlots, sealed, unsealed, recordBytes}
-use Rattle.judge.specs.FirstPair.{firstLeft, first}
-use Rattle.judge.specs.Relations.{rb, ss, ob, so, ar, step, hb, through}
-use Rattle.judge.specs.Reads.{candidate, lastBelow, lastWrite, expected, wrongRead, wrong}
-use Rattle.judge.specs.Predicates.{rule, breaks, verdict, numbered}
-use Rattle.rehearsal.specs.Calls.{callAt, callsFrom, callsOf}
-use Rattle.rehearsal.specs.Rules.{reached, refusal, effect, run, doneAnswer, answer, answers}
-use Rattle.rehearsal.specs.Rules as rules
-use Rattle.rehearsal.specs.Recorded.{rank, recorded}
-use Rattle.rehearsal.specs.Rehearsal.{storeAfter}
+use Rattle.consistency.specs.FirstPair.{firstLeft, first}
+use Rattle.consistency.specs.Relations.{rb, ss, ob, so, ar, step, hb, through}
+use Rattle.consistency.specs.Reads.{candidate, lastBelow, lastWrite, expected, wrongRead, wrong}
+use Rattle.consistency.specs.Predicates.{rule, breaks, verdict, numbered}
+use Rattle.store.specs.Calls.{callAt, callsFrom, callsOf}
+use Rattle.store.specs.Rules.{reached, refusal, effect, run, doneAnswer, answer, answers}
+use Rattle.store.specs.Rules as rules
+use Rattle.store.specs.Recorded.{rank, recorded}
+use Rattle.store.specs.Rehearsal.{storeAfter}
 use Rattle.edges.specs.Events.{member, historyOfEvents}
 use Rattle.edges.specs.Cases.{right, allRight, judgedFrom, edges}
 

@@ -9,14 +9,14 @@ use Rattle.record.specs.Layout.{gcr1}
 use Rattle.record.specs.History.{History, vis}
 use Rattle.record.specs.Questions.{setQuestions, packed}
 use Rattle.record.specs.Encode.{recordBytes}
-use Rattle.judge.specs.Reads.{none, value}
-use Rattle.judge.specs.Predicates.{numbered, verdict}
+use Rattle.consistency.specs.Reads.{none, value}
+use Rattle.consistency.specs.Predicates.{numbered, verdict}
 use Rattle.judge.specs.Judgments.{packedVerdict}
-use Rattle.rehearsal.specs.Store.{fresh}
-use Rattle.rehearsal.specs.Calls.{callsOf}
-use Rattle.rehearsal.specs.Rules.{answers}
-use Rattle.rehearsal.specs.Recorded.{recorded}
-use Rattle.rehearsal.specs.Rehearsal.{storeAfter}
+use Rattle.store.specs.Store.{fresh}
+use Rattle.store.specs.Calls.{callsOf}
+use Rattle.store.specs.Rules.{answers}
+use Rattle.store.specs.Recorded.{recorded}
+use Rattle.store.specs.Rehearsal.{storeAfter}
 use Rattle.edges.specs.Events.{Event, event, reading, writing, returned, pending, historyOfEvents}
 
 pub data Case : Type 0 where

@@ -5,9 +5,9 @@ use Prim.Native.Nat.{ℕ, _+_, _*_}
 use lib.Dec.{eqb}
 use lib.ListN.{length, getD}
 use Rattle.record.specs.History.{History}
-use Rattle.judge.specs.Reads.{Held, none, value}
-use Rattle.rehearsal.specs.Rules.{valueOr0}
-use Rattle.rehearsal.specs.Recorded.{isValue}
+use Rattle.consistency.specs.Reads.{Held, none, value}
+use Rattle.store.specs.Rules.{valueOr0}
+use Rattle.store.specs.Recorded.{isValue}
 
 pub data Kind : Type 0 where
   reading : Kind

@@ -6,5 +6,5 @@ fn main() {
     let mut input = [0u8; 19457];
     let length = io::read_full(STDIN_FILENO, &mut input);
     let mut work = [0u64; 1024];
-    lines::reading(record::read(&input[..length], &mut work));
+    lines::reading(reader::read(&input[..length], &mut work));
 }

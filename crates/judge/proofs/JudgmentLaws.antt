@@ -14,18 +14,18 @@ use Rattle.record.specs.Questions.{numberOf, placeOf, questions, reading}
 use Rattle.record.specs.declared.Reading.{Reading}
 use Rattle.record.specs.declared.Reading.the-variants.{Passed, ShortWork}
 use Rattle.record.proofs.QuestionsAnswered.{number-most, place-small, passed-count}
-use Rattle.judge.specs.Predicates.{breaks, rule, numbered, verdict}
-use Rattle.judge.specs.Models.{listOf, orElse, firstBroken}
+use Rattle.consistency.specs.Predicates.{breaks, rule, numbered, verdict}
+use Rattle.consistency.specs.Models.{listOf, orElse, firstBroken}
 use Rattle.judge.specs.Judgments.{isNumber, pick, judgedList, judged, predicateJudgment, modelJudgment, packed, packedVerdict, packedVerdicts, verdictsOf}
-use Rattle.judge.specs.Tables.{upToZero, Numbers}
-use Rattle.judge.specs.declared.Verdict.{Verdict}
-use Rattle.judge.specs.declared.Verdict.the-variants.{Met, Broken}
-use Rattle.judge.specs.declared.Outcome.{Outcome}
-use Rattle.judge.specs.declared.Outcome.the-variants.{AllMet, BrokenAt}
+use Rattle.judge.specs.Lists.{upToZero, Numbers}
+use Rattle.consistency.specs.declared.Verdict.{Verdict}
+use Rattle.consistency.specs.declared.Verdict.the-variants.{Met, Broken}
+use Rattle.consistency.specs.declared.Outcome.{Outcome}
+use Rattle.consistency.specs.declared.Outcome.the-variants.{AllMet, BrokenAt}
 use Rattle.judge.specs.declared.Judgment.{Judgment}
 use Rattle.judge.specs.declared.Judgment.the-variants.{Judged, NoSuchNumber, Refused}
-use Rattle.judge.proofs.FirstPairLaws.{Says, first-says}
-use Rattle.judge.proofs.SameVerdict.{verdict-same}
+use Rattle.consistency.proofs.FirstPairLaws.{Says, first-says}
+use Rattle.consistency.proofs.SameVerdict.{verdict-same}
 use Rattle.judge.proofs.Packing.{Fitting}
 use Rattle.judge.proofs.RecordLaws.{number-passed}
 

@@ -1,26 +1,7 @@
--- Laws and theorems of the judge. What users should know: MetIffHolds, HappensBefore, ModelMet, SameVerdict, Packing.
-pub mod FirstPairLaws
-pub mod LastWriteLaws
-pub mod MetIffHolds
-pub mod HappensBefore
-pub mod SameVerdict
-pub mod ModelMet
+-- Laws of the judging calls. What users should know: Packing.
 pub mod Packing
-pub mod SliceLaws
-pub mod EventLaws
-pub mod ReadLaws
-pub mod OrderLaws
-pub mod BestPair
-pub mod InclusionLaws
-pub mod TableFill
-pub mod ArbitrationLaws
-pub mod DifferenceLaws
-pub mod LatestLaws
-pub mod KeyLaws
 pub mod RecordLaws
 pub mod JudgmentLaws
 pub mod ListLaws
 pub mod PreparedLaws
 pub mod ThirteenLaws
-pub mod OrderOfTime
-pub mod SweepLaws

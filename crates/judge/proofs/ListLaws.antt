@@ -10,14 +10,14 @@ use lib.Dec.{leb}
 use lib.ListN.{length, getD, drop, replicate, getD-replicate, List·getD-map, List·getD-eq-default}
 use Rattle.rows.proofs.Tests.{and-left, and-right}
 use Rattle.record.specs.History.{History}
-use Rattle.judge.specs.Predicates.{numbered, verdict}
-use Rattle.judge.specs.Models.{models, listOf, orElse, firstBroken}
-use Rattle.judge.specs.Tables.{Numbers, upToZero}
-use Rattle.judge.specs.declared.Verdict.{Verdict}
-use Rattle.judge.specs.declared.Verdict.the-variants.{Met, Broken}
-use Rattle.judge.specs.declared.Outcome.{Outcome}
-use Rattle.judge.specs.declared.Outcome.the-variants.{AllMet, BrokenAt}
-use Rattle.judge.specs.declared.Predicate.{Predicate}
+use Rattle.consistency.specs.Predicates.{numbered, verdict}
+use Rattle.consistency.specs.Models.{models, listOf, orElse, firstBroken}
+use Rattle.judge.specs.Lists.{Numbers, upToZero}
+use Rattle.consistency.specs.declared.Verdict.{Verdict}
+use Rattle.consistency.specs.declared.Verdict.the-variants.{Met, Broken}
+use Rattle.consistency.specs.declared.Outcome.{Outcome}
+use Rattle.consistency.specs.declared.Outcome.the-variants.{AllMet, BrokenAt}
+use Rattle.consistency.specs.declared.Predicate.{Predicate}
 
 -- ---- the table of models
 

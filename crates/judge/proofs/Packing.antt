@@ -5,7 +5,7 @@ use native.Mathlib.Omega.{arith}
 use Rattle.record.specs.Questions.{numberOf, placeOf}
 use Rattle.record.proofs.QuestionsAnswered.{number-most}
 use Rattle.judge.specs.Judgments.{packed}
-use Rattle.judge.specs.declared.Outcome.the-variants.{AllMet, BrokenAt}
+use Rattle.consistency.specs.declared.Outcome.the-variants.{AllMet, BrokenAt}
 use Rattle.judge.specs.declared.Judgment.{Judgment}
 use Rattle.judge.specs.declared.Judgment.the-variants.{Judged, NoSuchNumber, Refused}
 

@@ -9,10 +9,10 @@ use Rattle.rows.specs.Relation.{Rel, reaches, Table}
 use Rattle.rows.proofs.RowLaws.{row-of}
 use Rattle.record.specs.History.{History, vis}
 use Rattle.record.specs.Words.{historyFrom}
-use Rattle.judge.specs.Relations.{rb, ss, ob, so, ar, step, hb, both}
-use Rattle.judge.specs.Tables.{Given, fieldsOf, sameKey, joined, Room, Timed}
-use Rattle.judge.specs.Sweep.{FromSweep}
-use Rattle.judge.proofs.SweepLaws.{sweep-through}
+use Rattle.consistency.specs.Relations.{rb, ss, ob, so, ar, step, hb, both}
+use Rattle.tables.specs.Tables.{Given, fieldsOf, sameKey, joined, Room, Timed}
+use Rattle.tables.specs.Sweep.{FromSweep}
+use Rattle.tables.proofs.SweepLaws.{sweep-through}
 
 module _ (n : ℕ) (l v : List ℕ) where
   abbrev h : History

@@ -19,7 +19,7 @@ use Rattle.record.proofs.SlotWords.{length-slot-words}
 use Rattle.record.proofs.WorkLaws.{length-visible}
 use Rattle.record.proofs.WordsLaws.{words-agree}
 use Rattle.record.proofs.QuestionsAnswered.{passed-count, passed-blocks, passed-position, passed-distinct, passed-graph}
-use Rattle.judge.specs.Tables.{Given}
+use Rattle.tables.specs.Tables.{Given}
 
 -- the words l and v, four an event each, have the n events of the record s
 pub record Told (s : List ℕ) (n : ℕ) (l v : List ℕ) : Type 0 where

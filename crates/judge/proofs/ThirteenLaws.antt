@@ -8,12 +8,12 @@ use lib.ListN.{length, take, set}
 use lib.Seq.{take-all, take-suc-set}
 use Rattle.rows.specs.Relation.{Rel}
 use Rattle.record.specs.History.{History}
-use Rattle.judge.specs.Predicates.{rule, breaks, verdict, numbered}
+use Rattle.consistency.specs.Predicates.{rule, breaks, verdict, numbered}
 use Rattle.judge.specs.Judgments.{packedVerdict, packedVerdicts}
-use Rattle.judge.specs.declared.Predicate.{Predicate}
-use Rattle.judge.specs.declared.Verdict.{Verdict}
-use Rattle.judge.specs.declared.Verdict.the-variants.{Met, Broken}
-use Rattle.judge.proofs.FirstPairLaws.{Says, says-of}
+use Rattle.consistency.specs.declared.Predicate.{Predicate}
+use Rattle.consistency.specs.declared.Verdict.{Verdict}
+use Rattle.consistency.specs.declared.Verdict.the-variants.{Met, Broken}
+use Rattle.consistency.proofs.FirstPairLaws.{Says, says-of}
 
 -- ---- events are below 256, so a verdict's number is small
 

@@ -9,12 +9,12 @@ use Rattle.record.specs.History.{History, historyOf}
 use Rattle.record.specs.Questions.{numberOf, placeOf, questions}
 use Rattle.record.specs.declared.Reading.{Reading}
 use Rattle.record.specs.declared.Reading.the-variants.{ShortWork}
-use Rattle.judge.specs.Predicates.{numbered, verdict}
-use Rattle.judge.specs.Models.{listOf, firstBroken}
-use Rattle.judge.specs.declared.Verdict.{Verdict}
-use Rattle.judge.specs.declared.Verdict.the-variants.{Met, Broken}
-use Rattle.judge.specs.declared.Outcome.{Outcome}
-use Rattle.judge.specs.declared.Outcome.the-variants.{AllMet, BrokenAt}
+use Rattle.consistency.specs.Predicates.{numbered, verdict}
+use Rattle.consistency.specs.Models.{listOf, firstBroken}
+use Rattle.consistency.specs.declared.Verdict.{Verdict}
+use Rattle.consistency.specs.declared.Verdict.the-variants.{Met, Broken}
+use Rattle.consistency.specs.declared.Outcome.{Outcome}
+use Rattle.consistency.specs.declared.Outcome.the-variants.{AllMet, BrokenAt}
 use Rattle.judge.specs.declared.Judgment.{Judgment}
 use Rattle.judge.specs.declared.Judgment.the-variants.{Judged, NoSuchNumber, Refused}
 

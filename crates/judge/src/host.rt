@@ -1,6 +1,6 @@
 // The judge for hosts, callable from C and Rust on numbers and a byte slice.
 use super::Judgment;
-use super::Outcome;
+use consistency::Outcome;
 ghost use mathlib.Core.Path.{_≡_};
 ghost use Prim.Native.Nat.{_^_, _<_};
 ghost use Rattle.record.specs.Layout.{gcr1};

@@ -1,16 +1,10 @@
 // The judge of thirteen predicates and thirteen models.
-pub mod arbitration;
 pub mod host;
-pub mod inclusion;
-pub mod keys;
 pub mod lists;
-pub mod order;
 pub mod prepared;
-pub mod reads;
-pub mod sweep;
-pub mod tables;
 pub mod thirteen;
 
+use consistency::Outcome;
 use record::Reading;
 ghost use mathlib.Core.Path.{_≡_};
 ghost use Prim.Native.Nat.{_≤_};
@@ -19,57 +13,15 @@ ghost use Rattle.record.specs.Layout.{gcr1};
 ghost use Rattle.record.specs.History.{historyOf};
 ghost use Rattle.record.specs.Questions.{numberOf, reading, questions};
 ghost use Rattle.record.specs.Words.{visibleWords, workAfter};
-ghost use Rattle.judge.specs.Models.{firstBroken};
+ghost use Rattle.consistency.specs.Models.{firstBroken};
 ghost use Rattle.judge.specs.Judgments.{refusal, predicateJudgment, modelJudgment, verdictsOf, judgedList};
-ghost use Rattle.judge.specs.Tables.{upToZero, Numbers};
-
-// A predicate, in the paper's order.
-pub enum Predicate {
-    RVal,
-    SingleOrder,
-    RealTime,
-    RealTimeWrites,
-    MonotonicReads,
-    ReadYourWrites,
-    MonotonicWrites,
-    WritesFollowReads,
-    Pram,
-    CausalVisibility,
-    CausalArbitration,
-    PerObjectPram,
-    PerObjectSingleOrder,
-}
-
-// Whether a predicate is met, or the first pair that breaks it.
-pub enum Verdict {
-    Met,
-    Broken(usize, usize),
-}
-
-// The last write that a read sees.
-pub enum Last {
-    Nothing,
-    At(usize),
-}
-
-// Whether all predicates of a list are met, or the first that is broken, by its number, and its pair.
-pub enum Outcome {
-    AllMet,
-    BrokenAt(usize, usize, usize),
-}
+ghost use Rattle.judge.specs.Lists.{upToZero, Numbers};
 
 // The answer of a judging call.
 pub enum Judgment {
     Judged(Outcome),
     NoSuchNumber,
     Refused(Reading),
-}
-
-// Every event, the writes, or the reads.
-pub enum Kind {
-    Every,
-    Writes,
-    Reads,
 }
 
 // A record's reading, and the numbers of its thirteen verdicts, zeros where it was refused.
@@ -85,9 +37,9 @@ fn outcome_of(list: [u8; 4], s: &[u8], v: &[u64]) -> Outcome
     requires { ⌜ Numbers list ⌝ }
     ensures { λ r. ⌜ r ≡ firstBroken (upToZero list) (historyOf gcr1 (now (s .entry))) ⌝ }
 {
-    let n = record::header::count(s);
+    let n = reader::header::count(s);
     let mut l = [0u64; 1024];
-    record::words::load(s, n, 0, 4, &mut l);
+    reader::words::load(s, n, 0, 4, &mut l);
     lists::first_broken(list, &l, v, n)
 }
 
@@ -97,7 +49,7 @@ fn judge_list(list: [u8; 4], s: &[u8], work: &mut [u64]) -> Judgment
     ensures { λ r. ⌜ r ≡ judgedList gcr1 (now (s .entry)) (upToZero list) ⌝ }
     ensures { λ r. ⌜ now (work .exit) ≡ workAfter gcr1 (refusal r) (now (s .entry)) (now (work .entry)) ⌝ }
 {
-    let reading = record::ask(s, work);
+    let reading = reader::ask(s, work);
     if record::number(reading) != 0 {
         return Judgment::Refused(reading);
     }
@@ -145,16 +97,16 @@ pub fn judge_all(s: &[u8], work: &mut [u64]) -> AllVerdicts
     ensures { λ r. ⌜ r .verdicts ≡ verdictsOf gcr1 (r .reading) (now (s .entry)) ⌝ }
     ensures { λ r. ⌜ now (work .exit) ≡ workAfter gcr1 (numberOf (r .reading)) (now (s .entry)) (now (work .entry)) ⌝ }
 {
-    let reading = record::read(s, work);
+    let reading = reader::read(s, work);
     if record::number(reading) != 0 {
         return AllVerdicts {
             reading,
             verdicts: [0u64; 13],
         };
     }
-    let n = record::header::count(s);
+    let n = reader::header::count(s);
     let mut l = [0u64; 1024];
-    record::words::load(s, n, 0, 4, &mut l);
+    reader::words::load(s, n, 0, 4, &mut l);
     let verdicts = thirteen::verdicts(&l, work, n);
     AllVerdicts { reading, verdicts }
 }

@@ -1,14 +1,15 @@
 // Lists of predicates, by number: the table of models, and the first broken predicate of a list.
-use super::Outcome;
-use super::Predicate;
-use super::Verdict;
 use super::prepared;
+use consistency::Outcome;
+use consistency::Predicate;
+use consistency::Verdict;
 ghost use mathlib.Core.Path.{_≡_};
 ghost use Prim.Native.Nat.{_≤_};
 ghost use Rattle.record.specs.Words.{historyFrom};
-ghost use Rattle.judge.specs.Predicates.{numbered};
-ghost use Rattle.judge.specs.Models.{listOf, firstBroken};
-ghost use Rattle.judge.specs.Tables.{Given, upToZero, Numbers};
+ghost use Rattle.consistency.specs.Predicates.{numbered};
+ghost use Rattle.consistency.specs.Models.{listOf, firstBroken};
+ghost use Rattle.tables.specs.Tables.{Given};
+ghost use Rattle.judge.specs.Lists.{upToZero, Numbers};
 
 // The predicates of each model in the order in which they are asked, 0 past a list's end.
 const MODELS: [[u8; 4]; 13] = [

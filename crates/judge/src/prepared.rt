@@ -1,14 +1,15 @@
 // Tables filled once a record, and each predicate judged from them. Rows are four words wide from here on.
-use super::Kind;
-use super::Predicate;
-use super::Verdict;
-use super::arbitration;
-use super::inclusion::first_between;
-use super::keys;
-use super::order;
-use super::reads;
-use super::sweep;
-use super::tables;
+use consistency::Predicate;
+use consistency::Verdict;
+use pairs::inclusion::first_between;
+use pairs::order;
+use pairs::reads;
+use tables::Kind;
+use tables::arbitration;
+use tables::happens_before;
+use tables::keys;
+use tables::kinds;
+use tables::sweep;
 ghost use mathlib.Core.Path.{_≡_};
 ghost use mathlib.Core.Bool.{true};
 ghost use Prim.Native.Nat.{_*_, _^_, _<_, _≤_};
@@ -16,11 +17,12 @@ ghost use lib.ListN.{length};
 ghost use Rattle.rows.specs.Row.{Row};
 ghost use Rattle.rows.specs.Relation.{Table};
 ghost use Rattle.record.specs.Words.{isWriteIn, historyFrom};
-ghost use Rattle.judge.specs.FirstPair.{first};
-ghost use Rattle.judge.specs.Relations.{ar};
-ghost use Rattle.judge.specs.Reads.{wrong};
-ghost use Rattle.judge.specs.Predicates.{verdict};
-ghost use Rattle.judge.specs.Tables.{Given, fieldsOf, keyIn, KeyRows, Room, Timed, Prepared, misplaced};
+ghost use Rattle.consistency.specs.FirstPair.{first};
+ghost use Rattle.consistency.specs.Relations.{ar};
+ghost use Rattle.consistency.specs.Reads.{wrong};
+ghost use Rattle.consistency.specs.Predicates.{verdict};
+ghost use Rattle.tables.specs.Tables.{Given, fieldsOf, keyIn, KeyRows, Room, Timed, Prepared};
+ghost use Rattle.pairs.specs.Searches.{misplaced};
 
 // The tables that come of times and positions.
 fn fill_timed(
@@ -86,8 +88,8 @@ pub fn prepare(
     let mut settled = [0u64; 4];
     let mut rest = [0u64; 4];
     let mut row = [0u64; 4];
-    tables::fill_hb(n, sos, v, hbs, &mut settled, &mut rest, &mut row);
-    tables::fill_kind(l, n, Kind::Writes, writes);
+    happens_before::fill_hb(n, sos, v, hbs, &mut settled, &mut rest, &mut row);
+    kinds::fill_kind(l, n, Kind::Writes, writes);
 }
 
 // Predicate 1.

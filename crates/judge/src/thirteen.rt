@@ -1,12 +1,12 @@
 // All thirteen predicates over tables that are filled once.
-use super::Verdict;
 use super::lists;
 use super::prepared;
+use consistency::Verdict;
 ghost use mathlib.Core.Path.{_≡_};
 ghost use Prim.Native.Nat.{_≤_};
 ghost use Rattle.record.specs.Words.{historyFrom};
 ghost use Rattle.judge.specs.Judgments.{packedVerdict, packedVerdicts};
-ghost use Rattle.judge.specs.Tables.{Given};
+ghost use Rattle.tables.specs.Tables.{Given};
 
 // A verdict as a host's number.
 pub fn pack(v: Verdict) -> u64

@@ -6,7 +6,7 @@ use native.Mathlib.Omega.{arith}
 use lib.ListN.{replicate}
 use lib.Seq.{sets}
 use Rattle.rows.specs.Row.{has}
-use Rattle.record.specs.declared.write.Slot.{Slot}
+use Rattle.record.specs.declared.Slot.{Slot}
 use Rattle.record.specs.Layout.{gcr1}
 use Rattle.record.specs.History.{History}
 use Rattle.record.specs.Encode.{littleBytes, bit, setBytes, slotBytes, SlotOf}

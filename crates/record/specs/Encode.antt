@@ -6,7 +6,7 @@ use Prim.Native.Nat.{ℕ, zero, suc, _+_, _*_, _-_, _/_, _%_, _<_}
 use lib.ListN.{replicate}
 use lib.Seq.{sets}
 use Rattle.rows.specs.Row.{has}
-use Rattle.record.specs.declared.write.Slot.{Slot}
+use Rattle.record.specs.declared.Slot.{Slot}
 use Rattle.record.specs.Layout.{Layout, slotAt}
 use Rattle.record.specs.Blocks.{sumA, sumB}
 use Rattle.record.specs.History.{History}

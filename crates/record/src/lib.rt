@@ -1,22 +1,8 @@
-// The reader of grain position records: questions 1 and 3 to 10, and what a record says.
-pub mod blocks;
-pub mod events;
-pub mod fields;
-pub mod header;
-pub mod host;
+// What grain position records are: their format and the questions asked of them in specs/, what follows from these in proofs/. The code has their types, and where things stand in a record.
 pub mod layout;
-pub mod positions;
-pub mod sets;
-pub mod slots;
-pub mod words;
-pub mod write;
 
 ghost use mathlib.Core.Path.{_≡_};
-ghost use Prim.Native.Nat.{_≤_};
-ghost use lib.ListN.{length};
-ghost use Rattle.record.specs.Layout.{gcr1};
-ghost use Rattle.record.specs.Questions.{numberOf, placeOf, byteQuestions, questions, reading};
-ghost use Rattle.record.specs.Words.{workAfter};
+ghost use Rattle.record.specs.Questions.{numberOf, placeOf};
 
 // How a record was read: passed, or the first question that got a no, with its place.
 pub enum Reading {
@@ -30,6 +16,20 @@ pub enum Reading {
     WrongPosition(usize),
     WrongSet(usize),
     OnRing(usize),
+}
+
+// The fields of a slot, and its visible set.
+pub struct Slot {
+    pub write: bool,
+    pub site: u8,
+    pub object: u8,
+    pub pending: bool,
+    pub present: bool,
+    pub value: u32,
+    pub position: u16,
+    pub start: u64,
+    pub returned: u64,
+    pub sees: [u64; 4],
 }
 
 // The question that got a no, or 0.
@@ -65,66 +65,4 @@ pub fn place(r: Reading) -> usize
         Reading::WrongSet(e) => e,
         Reading::OnRing(e) => e,
     }
-}
-
-// Questions 3 to 8, asked of the bytes alone.
-pub fn ask_bytes(s: &[u8]) -> Reading
-    ensures { λ r. ⌜ r ≡ byteQuestions gcr1 (now (s .entry)) ⌝ }
-{
-    if !header::length_holds(s) {
-        return Reading::WrongLength;
-    }
-    let blocks = s.len() / 512;
-    let block = blocks::wrong_block(s);
-    if block < blocks {
-        return Reading::WrongCheck(block);
-    }
-    if !header::header_holds(s) {
-        return Reading::WrongHeader;
-    }
-    let n = header::count(s);
-    if blocks != 1 + (n + 6) / 7 {
-        return Reading::WrongBlocks;
-    }
-    let slot = slots::wrong_slot(s, n);
-    if slot < 7 * (blocks - 1) {
-        return Reading::WrongSlot(slot);
-    }
-    let mut taken = [0u64; 4];
-    let event = positions::wrong_position(s, n, &mut taken);
-    if event < n {
-        return Reading::WrongPosition(event);
-    }
-    Reading::Passed
-}
-
-// Questions 3 to 10, over a work slice that is long enough.
-pub fn ask(s: &[u8], work: &mut [u64]) -> Reading
-    requires { ⌜ 1024 ≤ length (now work) ⌝ }
-    ensures { λ r. ⌜ r ≡ questions gcr1 (now (s .entry)) ⌝ }
-    ensures { λ r. ⌜ now (work .exit) ≡ workAfter gcr1 (numberOf r) (now (s .entry)) (now (work .entry)) ⌝ }
-{
-    rows::clear(&mut work[0..1024]);
-    let bytes = ask_bytes(s);
-    if number(bytes) != 0 {
-        return bytes;
-    }
-    let n = header::count(s);
-    words::load(s, n, 32, 4, work);
-    let sets = sets::ask(work, n);
-    if number(sets) != 0 {
-        rows::clear(&mut work[0..1024]);
-    }
-    sets
-}
-
-// Question 1, then 3 to 10.
-pub fn read(s: &[u8], work: &mut [u64]) -> Reading
-    ensures { λ r. ⌜ r ≡ reading gcr1 (length (now (work .entry))) (now (s .entry)) ⌝ }
-    ensures { λ r. ⌜ now (work .exit) ≡ workAfter gcr1 (numberOf r) (now (s .entry)) (now (work .entry)) ⌝ }
-{
-    if work.len() < 1024 {
-        return Reading::ShortWork;
-    }
-    ask(s, work)
 }

@@ -6,10 +6,10 @@ use native.Mathlib.Numerals.{add-one}
 use native.Mathlib.Omega.{arith}
 use Rattle.record.specs.Encode.{bit, SlotOf}
 use Rattle.record.proofs.NumberBytes.{bit-le}
-use Rattle.rehearsal.specs.Store.{Event, Store}
-use Rattle.rehearsal.specs.Rules.{valueOr0}
-use Rattle.rehearsal.specs.Recorded.{rank, isValue, recorded}
-use Rattle.rehearsal.specs.Rehearsal.{puts}
+use Rattle.store.specs.Store.{Event, Store}
+use Rattle.store.specs.Rules.{valueOr0}
+use Rattle.store.specs.Recorded.{rank, isValue, recorded}
+use Rattle.store.specs.Rehearsal.{puts}
 use Rattle.rehearsal.specs.Mirror.{shownOf, eventOf}
 use Rattle.rehearsal.specs.declared.KeptEvent.{KeptEvent}
 

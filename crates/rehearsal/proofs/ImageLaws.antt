@@ -8,11 +8,11 @@ use lib.Seq.{sets}
 use Rattle.record.specs.Layout.{gcr1, slotAt}
 use Rattle.record.specs.History.{History}
 use Rattle.record.specs.Encode.{slotBytes, blocksFor, headerBytes, withSlots, sealed, SlotOf}
-use Rattle.record.specs.declared.write.Slot.{Slot}
+use Rattle.record.specs.declared.Slot.{Slot}
 use Rattle.record.proofs.SoundLayout.{gcr1-sound}
 use Rattle.record.proofs.WrittenLaws.{slots-none, slots-more, written}
-use Rattle.rehearsal.specs.Store.{Event, Store}
-use Rattle.rehearsal.specs.Recorded.{rank, recorded, storeRecord}
+use Rattle.store.specs.Store.{Event, Store}
+use Rattle.store.specs.Recorded.{rank, recorded, storeRecord}
 use Rattle.rehearsal.specs.Mirror.{eventOf, pastEvent, Stands, Bounded, Keyed}
 use Rattle.rehearsal.specs.declared.KeptEvent.{KeptEvent}
 

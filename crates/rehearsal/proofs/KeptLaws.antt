@@ -11,13 +11,13 @@ use lib.Seq.{getD-set-same, getD-set-other}
 use borrow.Author.Tests.{eq-eqb, ne-eqb}
 use Rattle.rows.specs.Row.{has, insert, orRow}
 use Rattle.rows.proofs.RowLaws.{has-insert, has-or, length-or}
-use Rattle.judge.specs.Reads.{none, value}
-use Rattle.rehearsal.specs.Store.{upd, Cell, full, merge}
-use Rattle.rehearsal.specs.Rules.{reached, afterPut, afterGet, afterDelivery, valueOr0}
+use Rattle.consistency.specs.Reads.{none, value}
+use Rattle.store.specs.Store.{upd, Cell, full, merge}
+use Rattle.store.specs.Rules.{reached, afterPut, afterGet, afterDelivery, valueOr0}
 use Rattle.rehearsal.specs.Mirror.{siteOf, eventOf}
 use Rattle.rehearsal.specs.declared.Kept.{Kept}
 use Rattle.rehearsal.specs.declared.KeptEvent.{KeptEvent}
-use Rattle.rehearsal.proofs.UpdateLaws.{upd-elim, lt-suc-elim}
+use Rattle.store.proofs.UpdateLaws.{upd-elim, lt-suc-elim}
 
 -- ---- arrays
 

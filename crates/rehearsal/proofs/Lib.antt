@@ -1,14 +1,4 @@
--- What is proved of the store's rules.
-pub mod UpdateLaws
-pub mod Invariant
-pub mod DeliverKeeps
-pub mod PutGetKeeps
-pub mod RunKeeps
-pub mod RankLaws
-pub mod Sizes
-pub mod StoreIsCausal
-pub mod WholeList
-pub mod ThirdDemand
+-- Laws of the store kept in arrays, which functions' proofs cite.
 pub mod KeptLaws
 pub mod ServeLaws
 pub mod MirrorLaws

@@ -12,15 +12,15 @@ use borrow.Author.Tests.{lt-ltb, le-ltb, eq-eqb, eqb-true, eqb-false, ltb-true, 
 use Rattle.rows.proofs.Tests.{split, tell}
 use Rattle.rows.proofs.RowLaws.{has-cleared}
 use Rattle.record.proofs.StoresLaws.{zero-at}
-use Rattle.rehearsal.specs.Store.{upd, Cell, empty, Site, Event, Store, freshSite, noEvent, fresh}
-use Rattle.rehearsal.specs.Rules.{refusal, step}
+use Rattle.store.specs.Store.{upd, Cell, empty, Site, Event, Store, freshSite, noEvent, fresh}
+use Rattle.store.specs.Rules.{refusal, step}
 use Rattle.rehearsal.specs.Mirror.{callOf, cellOf, eventOf, noCell, cellsOf, siteOf, pastEvent, pastSite, freshKept, freshEvent, storeOf, objectOf, Concerned, changed, Serves}
 use Rattle.rehearsal.specs.declared.Asked.{Asked}
 use Rattle.rehearsal.specs.declared.Kept.{Kept}
 use Rattle.rehearsal.specs.declared.KeptCell.{KeptCell}
 use Rattle.rehearsal.specs.declared.KeptEvent.{KeptEvent}
 use Rattle.rehearsal.specs.declared.Served.{Served}
-use Rattle.rehearsal.proofs.UpdateLaws.{upd-elim}
+use Rattle.store.proofs.UpdateLaws.{upd-elim}
 use Rattle.rehearsal.proofs.ServeLaws.{store-path}
 
 -- ---- the start

@@ -3,7 +3,7 @@ use mathlib.Core.Path.{_≡_, refl}
 use Prim.Native.Nat.{ℕ, _+_, _*_, _/_, _%_, _<_}
 use native.Mathlib.Omega.{arith}
 use Rattle.rehearsal.specs.Packed.{packedRehearsal, unpackedRehearsal}
-use Rattle.rehearsal.specs.declared.Rehearsed.{Rehearsed}
+use Rattle.store.specs.declared.Rehearsed.{Rehearsed}
 
 -- the three parts of a number that is put together of them
 parts : (x y z p : ℕ) → x < 256 → y < 65536 → p ≡ x + 256 * y + 16777216 * z → (p % 256 ≡ x) × (p / 256 % 65536 ≡ y) × (p / 16777216 ≡ z)

@@ -13,17 +13,17 @@ use Rattle.record.specs.Encode.{blocksFor}
 use Rattle.record.proofs.StoresLaws.{Bytes}
 use Rattle.record.proofs.SoundLayout.{gcr1-sound}
 use Rattle.record.proofs.ImageLaws.{length-record}
-use Rattle.rehearsal.specs.Store.{Event, fresh}
-use Rattle.rehearsal.specs.Calls.{callsOf}
-use Rattle.rehearsal.specs.Rules.{ask, answers}
-use Rattle.rehearsal.specs.Recorded.{recorded, storeRecord}
-use Rattle.rehearsal.specs.Rehearsal.{rehearsalRefusal, storeAfter, recordOf, recordAfter, answersAfter, lengthAfter, puts, mostCopies}
+use Rattle.store.specs.Store.{Event, fresh}
+use Rattle.store.specs.Calls.{callsOf}
+use Rattle.store.specs.Rules.{ask, answers}
+use Rattle.store.specs.Recorded.{recorded, storeRecord}
+use Rattle.store.specs.Rehearsal.{rehearsalRefusal, storeAfter, recordOf, recordAfter, answersAfter, lengthAfter, puts, mostCopies}
 use Rattle.rehearsal.specs.Mirror.{Stands, Bounded}
-use Rattle.rehearsal.specs.Demand.{Rehearses}
+use Rattle.store.specs.Demand.{Rehearses}
 use Rattle.rehearsal.specs.declared.KeptEvent.{KeptEvent}
-use Rattle.rehearsal.proofs.RunKeeps.{every-run}
-use Rattle.rehearsal.proofs.Sizes.{every-limits, every-sizes}
-use Rattle.rehearsal.proofs.ThirdDemand.{third-demand}
+use Rattle.store.proofs.RunKeeps.{every-run}
+use Rattle.store.proofs.Sizes.{every-limits, every-sizes}
+use Rattle.store.proofs.ThirdDemand.{third-demand}
 
 -- ---- what a run leaves is small
 

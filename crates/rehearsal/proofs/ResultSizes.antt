@@ -11,12 +11,12 @@ use borrow.Author.Tests.{eqb-true}
 use Rattle.record.specs.Layout.{gcr1}
 use Rattle.record.proofs.SoundLayout.{gcr1-sound}
 use Rattle.record.proofs.ImageLaws.{length-record}
-use Rattle.rehearsal.specs.Store.{Store}
-use Rattle.rehearsal.specs.Rules.{ask}
-use Rattle.rehearsal.specs.Recorded.{recorded, storeRecord}
-use Rattle.rehearsal.specs.Rehearsal.{rehearsalRefusal, storeAfter, recordOf, recordAfter, lengthAfter, puts, mostCopies}
-use Rattle.rehearsal.specs.Demand.{Rehearses}
-use Rattle.rehearsal.specs.declared.Rehearsed.{Rehearsed}
+use Rattle.store.specs.Store.{Store}
+use Rattle.store.specs.Rules.{ask}
+use Rattle.store.specs.Recorded.{recorded, storeRecord}
+use Rattle.store.specs.Rehearsal.{rehearsalRefusal, storeAfter, recordOf, recordAfter, lengthAfter, puts, mostCopies}
+use Rattle.store.specs.Demand.{Rehearses}
+use Rattle.store.specs.declared.Rehearsed.{Rehearsed}
 use Rattle.rehearsal.proofs.EventLaws.{puts-most}
 use Rattle.rehearsal.proofs.RehearsalLaws.{store-few, accepted}
 

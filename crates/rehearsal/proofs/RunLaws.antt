@@ -8,20 +8,20 @@ use native.Mathlib.Numerals.{add-one}
 use native.Mathlib.Omega.{arith}
 use lib.ListN.{length, getD, set, take, drop, replicate, length-replicate, length-set, length-append, length-drop}
 use lib.Seq.{sets, sets-eq, length-sets, take-at, take-all, drop-append-add, drop-drop}
-use Rattle.judge.specs.Reads.{value}
-use Rattle.rehearsal.specs.Store.{Site, Event, Store, fresh}
-use Rattle.rehearsal.specs.Calls.{callAt, callsOf}
-use Rattle.rehearsal.specs.Rules.{answer, step, answers}
-use Rattle.rehearsal.specs.Rehearsal.{storeAfter}
+use Rattle.consistency.specs.Reads.{value}
+use Rattle.store.specs.Store.{Site, Event, Store, fresh}
+use Rattle.store.specs.Calls.{callAt, callsOf}
+use Rattle.store.specs.Rules.{answer, step, answers}
+use Rattle.store.specs.Rehearsal.{storeAfter}
 use Rattle.rehearsal.specs.Mirror.{callOf, shownOf, eventOf, noCell, pastEvent, pastSite, freshKept, freshEvent, storeOf, objectOf, Concerned, Small, Serves, Stands}
 use Rattle.rehearsal.specs.declared.Asked.{Asked}
 use Rattle.rehearsal.specs.declared.Kept.{Kept}
 use Rattle.rehearsal.specs.declared.KeptCell.{KeptCell}
 use Rattle.rehearsal.specs.declared.KeptEvent.{KeptEvent}
 use Rattle.rehearsal.specs.declared.Served.{Served}
-use Rattle.rehearsal.proofs.Invariant.{StoreInv}
-use Rattle.rehearsal.proofs.Sizes.{Limits, Sizes}
-use Rattle.rehearsal.proofs.WholeList.{storeUpTo, answersUpTo, store-none, store-more, answers-none, answers-more, up-to-keeps, up-to-limits, up-to-sizes, store-whole, answers-whole, answer-length, answers-up-to-length}
+use Rattle.store.proofs.Invariant.{StoreInv}
+use Rattle.store.proofs.Sizes.{Limits, Sizes}
+use Rattle.store.proofs.WholeList.{storeUpTo, answersUpTo, store-none, store-more, answers-none, answers-more, up-to-keeps, up-to-limits, up-to-sizes, store-whole, answers-whole, answer-length, answers-up-to-length}
 use Rattle.rehearsal.proofs.MirrorLaws.{fresh-store, store-count, site-at, event-at, concerned, turn, turn-made}
 
 -- ---- stores one after the other

@@ -11,19 +11,19 @@ use borrow.Author.Tests.{eqb-true, ltb-true, ne-eqb}
 use Rattle.rows.specs.Row.{has}
 use Rattle.rows.proofs.Tests.{split}
 use Rattle.record.specs.Encode.{littleBytes}
-use Rattle.judge.specs.Reads.{Held, none, value}
-use Rattle.rehearsal.specs.Store.{upd, Cell, empty, full, cellValue, merge, Site, Event, Store}
-use Rattle.rehearsal.specs.Calls.{Call, put, get, deliver}
-use Rattle.rehearsal.specs.Rules.{ask, reached, refusal, made, afterPut, afterGet, afterDelivery, valueOr0, isFound, effect, doneAnswer, answer}
+use Rattle.consistency.specs.Reads.{Held, none, value}
+use Rattle.store.specs.Store.{upd, Cell, empty, full, cellValue, merge, Site, Event, Store}
+use Rattle.store.specs.Calls.{Call, put, get, deliver}
+use Rattle.store.specs.Rules.{ask, reached, refusal, made, afterPut, afterGet, afterDelivery, valueOr0, isFound, effect, doneAnswer, answer}
 use Rattle.rehearsal.specs.Mirror.{callOf, cellOf, shownOf, eventOf, siteOf, partOf, objectOf, Concerned, Small, changed, Done, Serves}
 use Rattle.rehearsal.specs.declared.Asked.{Asked}
 use Rattle.rehearsal.specs.declared.Kept.{Kept}
 use Rattle.rehearsal.specs.declared.KeptCell.{KeptCell}
 use Rattle.rehearsal.specs.declared.KeptEvent.{KeptEvent}
 use Rattle.rehearsal.specs.declared.Served.{Served}
-use Rattle.rehearsal.proofs.UpdateLaws.{upd-there}
-use Rattle.rehearsal.proofs.DeliverKeeps.{Deliverable}
-use Rattle.rehearsal.proofs.RunKeeps.{Doable, put-doable, get-doable, deliverable, delivery-site}
+use Rattle.store.proofs.UpdateLaws.{upd-there}
+use Rattle.store.proofs.DeliverKeeps.{Deliverable}
+use Rattle.store.proofs.RunKeeps.{Doable, put-doable, get-doable, deliverable, delivery-site}
 
 -- ---- what refuses a call
 

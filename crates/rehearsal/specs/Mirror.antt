@@ -6,10 +6,10 @@ use Prim.Native.Nat.{ℕ, suc, _+_, _*_, _≤_, _<_}
 use lib.Dec.{eqb, ltb}
 use lib.ListN.{getD, replicate}
 use Rattle.rows.specs.Row.{has}
-use Rattle.judge.specs.Reads.{Held, none, value}
-use Rattle.rehearsal.specs.Store.{upd, Cell, empty, full, Site, Event, Store, freshSite, noEvent}
-use Rattle.rehearsal.specs.Calls.{Call, put, get, deliver, malformed}
-use Rattle.rehearsal.specs.Rules.{refusal, effect, doneAnswer, answer}
+use Rattle.consistency.specs.Reads.{Held, none, value}
+use Rattle.store.specs.Store.{upd, Cell, empty, full, Site, Event, Store, freshSite, noEvent}
+use Rattle.store.specs.Calls.{Call, put, get, deliver, malformed}
+use Rattle.store.specs.Rules.{refusal, effect, doneAnswer, answer}
 use Rattle.rehearsal.specs.declared.Asked.{Asked}
 use Rattle.rehearsal.specs.declared.Kept.{Kept}
 use Rattle.rehearsal.specs.declared.KeptCell.{KeptCell}

@@ -1,6 +1,6 @@
 -- A rehearsal's result as a host's number: number + 256 × length + 16,777,216 × outstanding.
 use Prim.Native.Nat.{ℕ, _+_, _*_, _/_, _%_}
-use Rattle.rehearsal.specs.declared.Rehearsed.{Rehearsed}
+use Rattle.store.specs.declared.Rehearsed.{Rehearsed}
 
 unfoldable pub packedRehearsal : Rehearsed → ℕ
 packedRehearsal r = r .number + 256 * r .length + 16777216 * r .outstanding

@@ -4,7 +4,7 @@ use rows::octets;
 ghost use mathlib.Core.Path.{_≡_};
 ghost use Prim.Native.Nat.{_+_, _≤_};
 ghost use lib.ListN.{length};
-ghost use Rattle.rehearsal.specs.Calls.{callAt};
+ghost use Rattle.store.specs.Calls.{callAt};
 ghost use Rattle.rehearsal.specs.Mirror.{callOf};
 
 pub fn asked_at(s: &[u8], at: usize) -> Asked

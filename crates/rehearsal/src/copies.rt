@@ -2,8 +2,8 @@
 use super::Ran;
 ghost use mathlib.Core.Path.{_≡_};
 ghost use Prim.Native.Nat.{_*_, _-_, _≤_};
-ghost use Rattle.rehearsal.specs.Store.{Store};
-ghost use Rattle.rehearsal.specs.Rehearsal.{puts};
+ghost use Rattle.store.specs.Store.{Store};
+ghost use Rattle.store.specs.Rehearsal.{puts};
 ghost use Rattle.rehearsal.specs.Mirror.{Stands};
 
 pub fn puts(ran: Ran) -> usize

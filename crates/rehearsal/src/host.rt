@@ -1,5 +1,5 @@
 // The rehearsal for hosts, callable from C and Rust on a number and slices.
-ghost use Rattle.rehearsal.specs.Demand.{Rehearses};
+ghost use Rattle.store.specs.Demand.{Rehearses};
 ghost use Rattle.rehearsal.specs.Packed.{unpackedRehearsal};
 
 // The result is packed as number + 256 × length + 16,777,216 × outstanding.

@@ -2,15 +2,14 @@
 use super::Ran;
 use super::ranks;
 use super::slots;
-use record::write;
 ghost use mathlib.Core.Path.{_≡_};
 ghost use mathlib.Core.List.{_++_};
 ghost use Prim.Native.Nat.{_*_, _≤_};
 ghost use lib.ListN.{length, drop};
 ghost use Rattle.record.specs.Layout.{gcr1};
 ghost use Rattle.record.specs.Encode.{blocksFor, withSlots};
-ghost use Rattle.rehearsal.specs.Store.{Store};
-ghost use Rattle.rehearsal.specs.Recorded.{recorded, storeRecord};
+ghost use Rattle.store.specs.Store.{Store};
+ghost use Rattle.store.specs.Recorded.{recorded, storeRecord};
 ghost use Rattle.rehearsal.specs.Mirror.{Stands, Bounded};
 
 // The slot of each event.
@@ -26,7 +25,7 @@ fn put_slots(ran: Ran, rec: &mut [u8])
         let e = events[k];
         let position = ranks::rank(&keys, count, k);
         let x = slots::slot(k, e, position as u16);
-        write::put_slot(rec, k, x);
+        writer::put_slot(rec, k, x);
     }
 }
 
@@ -39,9 +38,9 @@ pub fn write(n: u8, ran: Ran, rec: &mut [u8]) -> usize
 {
     let count = ran.count;
     let blocks = 1 + (count + 6) / 7;
-    write::clear(rec, 512 * blocks);
-    write::header(rec, count, n);
+    writer::clear(rec, 512 * blocks);
+    writer::header(rec, count, n);
     put_slots(ran, rec);
-    write::seal(rec, blocks);
+    writer::seal(rec, blocks);
     512 * blocks
 }

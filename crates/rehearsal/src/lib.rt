@@ -11,9 +11,10 @@ pub mod serve;
 pub mod sites;
 pub mod slots;
 
+use store::Rehearsed;
 ghost use mathlib.Core.Path.{_≡_};
-ghost use Rattle.rehearsal.specs.Rehearsal.{rehearsalRefusal};
-ghost use Rattle.rehearsal.specs.Demand.{Rehearses};
+ghost use Rattle.store.specs.Rehearsal.{rehearsalRefusal};
+ghost use Rattle.store.specs.Demand.{Rehearses};
 
 // A call as it was decoded: kind 1 put, 2 get, 3 deliver, 0 malformed.
 pub struct Asked {
@@ -64,13 +65,6 @@ pub struct Ran {
     pub count: usize,
     pub events: [KeptEvent; 256],
     pub deliveries: usize,
-}
-
-// What a rehearsal came to: 0 or the number that refused it, the record's length, and the copies outstanding.
-pub struct Rehearsed {
-    pub number: usize,
-    pub length: usize,
-    pub outstanding: usize,
 }
 
 // A rehearsal that questions 20 to 23 let pass: the whole script, and then its record.

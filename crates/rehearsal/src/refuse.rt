@@ -10,8 +10,8 @@ ghost use Prim.Native.Nat.{ℕ, _≤_};
 ghost use lib.Dec.{leb, ltb};
 ghost use lib.ListN.{length, getD};
 ghost use Rattle.rows.specs.Row.{has};
-ghost use Rattle.rehearsal.specs.Rules.{ask, reached, refusal};
-ghost use Rattle.rehearsal.specs.Rehearsal.{rehearsalRefusal};
+ghost use Rattle.store.specs.Rules.{ask, reached, refusal};
+ghost use Rattle.store.specs.Rehearsal.{rehearsalRefusal};
 ghost use Rattle.rehearsal.specs.Mirror.{callOf, partOf};
 
 // Of a rehearsal at n sites, by the lengths of the script and of both buffers. 0 where it is not refused.

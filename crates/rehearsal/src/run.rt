@@ -11,10 +11,10 @@ ghost use mathlib.Core.List.{_++_};
 ghost use Prim.Native.Nat.{_+_, _%_, _≤_};
 ghost use lib.ListN.{length, drop};
 ghost use lib.Seq.{sets};
-ghost use Rattle.rehearsal.specs.Store.{fresh};
-ghost use Rattle.rehearsal.specs.Calls.{callsOf};
-ghost use Rattle.rehearsal.specs.Rules.{answers};
-ghost use Rattle.rehearsal.specs.Rehearsal.{storeAfter};
+ghost use Rattle.store.specs.Store.{fresh};
+ghost use Rattle.store.specs.Calls.{callsOf};
+ghost use Rattle.store.specs.Rules.{answers};
+ghost use Rattle.store.specs.Rehearsal.{storeAfter};
 ghost use Rattle.rehearsal.specs.Mirror.{noCell, freshKept, freshEvent, objectOf, Stands};
 
 fn fresh_site() -> Kept

@@ -12,9 +12,9 @@ ghost use mathlib.Core.List.{_∷_, _++_};
 ghost use Prim.Native.Nat.{_≤_, _<_};
 ghost use lib.ListN.{getD};
 ghost use Rattle.record.specs.Encode.{littleBytes};
-ghost use Rattle.rehearsal.specs.Store.{Store};
-ghost use Rattle.rehearsal.specs.Calls.{put, get, deliver};
-ghost use Rattle.rehearsal.specs.Rules.{isFound, valueOr0};
+ghost use Rattle.store.specs.Store.{Store};
+ghost use Rattle.store.specs.Calls.{put, get, deliver};
+ghost use Rattle.store.specs.Rules.{isFound, valueOr0};
 ghost use Rattle.rehearsal.specs.Mirror.{cellOf, eventOf, siteOf, shownOf, Concerned, Small, Done, Serves};
 
 // The answer of a done put or get, which found a value where one is present.

@@ -8,8 +8,8 @@ ghost use Prim.Native.Nat.{ℕ, suc, _≤_, _<_};
 ghost use lib.Dec.{eqb};
 ghost use lib.ListN.{getD};
 ghost use Rattle.rows.specs.Row.{has};
-ghost use Rattle.rehearsal.specs.Store.{upd, Cell, full, merge};
-ghost use Rattle.rehearsal.specs.Rules.{reached, afterPut, afterGet, afterDelivery};
+ghost use Rattle.store.specs.Store.{upd, Cell, full, merge};
+ghost use Rattle.store.specs.Rules.{reached, afterPut, afterGet, afterDelivery};
 ghost use Rattle.rehearsal.specs.Mirror.{cellOf, eventOf, siteOf};
 
 // Whether the counts reach a put's needs, for every site.

@@ -1,11 +1,11 @@
 // What the record says of an event.
 use super::KeptEvent;
-use record::write::Slot;
+use record::Slot;
 ghost use mathlib.Core.Path.{_≡_};
 ghost use Prim.Native.Nat.{_<_};
 ghost use Rattle.record.specs.Encode.{SlotOf};
-ghost use Rattle.rehearsal.specs.Store.{Store};
-ghost use Rattle.rehearsal.specs.Recorded.{rank, recorded};
+ghost use Rattle.store.specs.Store.{Store};
+ghost use Rattle.store.specs.Recorded.{rank, recorded};
 ghost use Rattle.rehearsal.specs.Mirror.{eventOf};
 
 // Event k, kept as e, at its position in ar. It starts at 2 × k and returns at 2 × k + 1; none is pending.

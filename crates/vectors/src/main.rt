@@ -33,7 +33,7 @@ fn is_kept(work: &[u64], from: usize) -> bool {
 
 fn report(s: &[u8], work: &mut [u64]) {
     fill(work);
-    let reading = record::read(s, work);
+    let reading = reader::read(s, work);
     io::write_all(STDOUT_FILENO, b"  ");
     io::print_decimal(STDOUT_FILENO, work.len() as u64);
     io::write_all(STDOUT_FILENO, b": ");

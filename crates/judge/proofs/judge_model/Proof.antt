@@ -6,7 +6,7 @@ use borrow.Author.Needs.{needs}
 use lib.ListN.{length}
 use Rattle.record.specs.Layout.{gcr1}
 use Rattle.record.specs.Words.{workAfter}
-use Rattle.judge.specs.Models.{listOf}
+use Rattle.consistency.specs.Models.{listOf}
 use Rattle.judge.specs.Judgments.{judgedList, modelJudgment}
 use Rattle.judge.proofs.JudgmentLaws.{judged-short, judged-low, judged-high, judged-list}
 use Rattle.judge.proofs.judge_model.Statement.{statement}

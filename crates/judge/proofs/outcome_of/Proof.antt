@@ -9,8 +9,8 @@ use Rattle.record.specs.Layout.{gcr1}
 use Rattle.record.specs.History.{historyOf}
 use Rattle.record.specs.Words.{historyFrom}
 use Rattle.record.proofs.StoresLaws.{Bytes}
-use Rattle.judge.specs.Tables.{upToZero}
-use Rattle.judge.proofs.SameVerdict.{firstBroken-same}
+use Rattle.judge.specs.Lists.{upToZero}
+use Rattle.consistency.proofs.SameVerdict.{firstBroken-same}
 use Rattle.judge.proofs.RecordLaws.{Told, passed-long, count-small, blocks-long, words-told}
 use Rattle.judge.proofs.outcome_of.Statement.{statement}
 use Rattle.judge.proofs.outcome_of.Tie as tie

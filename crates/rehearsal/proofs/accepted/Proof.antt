@@ -2,7 +2,7 @@
 use native.Mathlib.Omega.{arith}
 use borrow.Author.Needs.{needs}
 use Rattle.rehearsal.specs.Mirror.{Bounded}
-use Rattle.rehearsal.specs.Rehearsal.{storeAfter}
+use Rattle.store.specs.Rehearsal.{storeAfter}
 use Rattle.rehearsal.proofs.RehearsalLaws.{Accepted, accepted, run-bounded, accepted-rehearses}
 use Rattle.rehearsal.proofs.accepted.Statement.{statement}
 use Rattle.rehearsal.proofs.accepted.Tie as tie

@@ -1,7 +1,7 @@
 -- `rehearsal::rehearse` meets its contract: the questions refuse it, and then nothing has changed, or it is accepted. Assumes nothing.
 use mathlib.Core.Path.{_≡_, refl, sym, _∙_}
 use borrow.Author.Needs.{needs}
-use Rattle.rehearsal.specs.Rehearsal.{rehearsalRefusal}
+use Rattle.store.specs.Rehearsal.{rehearsalRefusal}
 use Rattle.rehearsal.proofs.RehearsalLaws.{refused-rehearses}
 use Rattle.rehearsal.proofs.rehearse.Statement.{statement}
 use Rattle.rehearsal.proofs.rehearse.Tie as tie

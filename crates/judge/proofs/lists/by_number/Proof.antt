@@ -1,7 +1,7 @@
 -- `lists::by_number` meets its contract. In the last arm the number is none of 1 to 12, so it is 13. Assumes nothing.
 use Prim.Native.Nat.{_≤_}
 use native.Mathlib.Nat.{le-antisymm}
-use Rattle.judge.specs.Predicates.{numbered}
+use Rattle.consistency.specs.Predicates.{numbered}
 use Rattle.judge.proofs.ListLaws.{past-four}
 use Rattle.judge.proofs.lists.by_number.Statement.{statement}
 use Rattle.judge.proofs.lists.by_number.Tie as tie

@@ -5,8 +5,8 @@ use native.Mathlib.Omega.{arith}
 use lib.ListN.{drop}
 use Rattle.record.specs.History.{History}
 use Rattle.record.specs.Words.{historyFrom}
-use Rattle.judge.specs.Models.{firstBroken}
-use Rattle.judge.specs.Tables.{upToZero}
+use Rattle.consistency.specs.Models.{firstBroken}
+use Rattle.judge.specs.Lists.{upToZero}
 use Rattle.judge.proofs.ListLaws.{left-end, left-past, left-met, left-broken}
 use Rattle.judge.proofs.PreparedLaws.{rooms-of}
 use borrow.Author.Needs.{needs}

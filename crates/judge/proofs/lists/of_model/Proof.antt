@@ -3,7 +3,7 @@ use mathlib.Core.Path.{refl}
 use mathlib.Core.List.{List, [], _∷_}
 use Prim.Native.Nat.{ℕ}
 use borrow.Author.Needs.{needs}
-use Rattle.judge.specs.Tables.{upToZero}
+use Rattle.judge.specs.Lists.{upToZero}
 use Rattle.judge.proofs.ListLaws.{model-list}
 use Rattle.judge.proofs.lists.of_model.Statement.{statement}
 use Rattle.judge.proofs.lists.of_model.Tie as tie

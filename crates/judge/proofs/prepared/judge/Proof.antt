@@ -3,12 +3,12 @@ use mathlib.Core.Path.{_≡_, sym, ap, _∙_}
 use Rattle.rows.specs.Relation.{Table}
 use Rattle.record.specs.History.{History, vis}
 use Rattle.record.specs.Words.{historyFrom}
-use Rattle.judge.specs.Relations.{rb, ob, so, ar, hb, read, both, through}
-use Rattle.judge.specs.Predicates.{rule, breaks, verdict}
-use Rattle.judge.specs.Tables.{fieldsOf, Room}
-use Rattle.judge.specs.declared.Predicate.{Predicate}
-use Rattle.judge.specs.declared.Predicate.the-variants.{RVal, SingleOrder, RealTime, RealTimeWrites, MonotonicReads, ReadYourWrites, MonotonicWrites, WritesFollowReads, Pram, CausalVisibility, CausalArbitration, PerObjectPram, PerObjectSingleOrder}
-use Rattle.judge.specs.declared.Verdict.{Verdict}
+use Rattle.consistency.specs.Relations.{rb, ob, so, ar, hb, read, both, through}
+use Rattle.consistency.specs.Predicates.{rule, breaks, verdict}
+use Rattle.tables.specs.Tables.{fieldsOf, Room}
+use Rattle.consistency.specs.declared.Predicate.{Predicate}
+use Rattle.consistency.specs.declared.Predicate.the-variants.{RVal, SingleOrder, RealTime, RealTimeWrites, MonotonicReads, ReadYourWrites, MonotonicWrites, WritesFollowReads, Pram, CausalVisibility, CausalArbitration, PerObjectPram, PerObjectSingleOrder}
+use Rattle.consistency.specs.declared.Verdict.{Verdict}
 use Rattle.judge.proofs.PreparedLaws.{seen-table, ars-fields}
 use borrow.Author.Needs.{needs}
 use Rattle.judge.proofs.prepared.judge.Statement.{statement}

@@ -1,7 +1,7 @@
 -- `rehearsal::calls::asked_at` meets its contract: each return is one arm of `callAt`, picked by the tests that led to it. Assumes nothing.
 use borrow.Author.Needs.{needs}
 use borrow.Author.Tests.{eq-eqb, ne-eqb}
-use Rattle.rehearsal.specs.Calls.{callAt}
+use Rattle.store.specs.Calls.{callAt}
 use Rattle.rehearsal.proofs.calls.asked_at.Statement.{statement}
 use Rattle.rehearsal.proofs.calls.asked_at.Tie as tie
 

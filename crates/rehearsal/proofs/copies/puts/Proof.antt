@@ -6,8 +6,8 @@ use Prim.Native.Nat.{ℕ, _≤_, _-_}
 use native.Mathlib.Omega.{arith}
 use lib.ListN.{getD}
 use Rattle.rehearsal.specs.Mirror.{eventOf, pastEvent}
-use Rattle.rehearsal.specs.Rehearsal.{puts}
-use Rattle.rehearsal.specs.Store.{Event}
+use Rattle.store.specs.Rehearsal.{puts}
+use Rattle.store.specs.Store.{Event}
 use Rattle.rehearsal.proofs.EventLaws.{puts-none, puts-more, puts-same}
 use Rattle.rehearsal.proofs.copies.puts.Statement.{statement}
 use Rattle.rehearsal.proofs.copies.puts.Tie as tie

@@ -4,7 +4,7 @@ use Prim.Native.Nat.{ℕ, _-_}
 use native.Mathlib.Omega.{arith}
 use Rattle.record.specs.Layout.{gcr1}
 use Rattle.record.specs.Encode.{withSlots}
-use Rattle.rehearsal.specs.Recorded.{recorded}
+use Rattle.store.specs.Recorded.{recorded}
 use Rattle.rehearsal.proofs.ImageLaws.{Slotted, slotted-none, slotted-more}
 use Rattle.rehearsal.proofs.image.put_slots.Statement.{statement}
 use Rattle.rehearsal.proofs.image.put_slots.Tie as tie

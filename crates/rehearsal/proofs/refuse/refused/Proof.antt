@@ -1,7 +1,7 @@
 -- `rehearsal::refuse::refused` meets its contract: by the kind of call. Assumes nothing.
 use borrow.Author.Needs.{needs}
 use borrow.Author.Tests.{ne-eqb}
-use Rattle.rehearsal.specs.Rules.{refusal}
+use Rattle.store.specs.Rules.{refusal}
 use Rattle.rehearsal.proofs.refuse.refused.Statement.{statement}
 use Rattle.rehearsal.proofs.refuse.refused.Tie as tie
 

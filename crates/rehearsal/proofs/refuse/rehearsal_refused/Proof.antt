@@ -1,6 +1,6 @@
 -- `rehearsal::refuse::rehearsal_refused` meets its contract: each return is the first question that got a no. Assumes nothing.
 use borrow.Author.Tests.{le-leb, lt-leb, eq-eqb, ne-eqb}
-use Rattle.rehearsal.specs.Rehearsal.{rehearsalRefusal}
+use Rattle.store.specs.Rehearsal.{rehearsalRefusal}
 use Rattle.rehearsal.proofs.refuse.rehearsal_refused.Statement.{statement}
 use Rattle.rehearsal.proofs.refuse.rehearsal_refused.Tie as tie
 

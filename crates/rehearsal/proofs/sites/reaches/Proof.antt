@@ -5,7 +5,7 @@ use Prim.Native.Nat.{ℕ, _≤_, _-_}
 use native.Mathlib.Omega.{arith}
 use lib.ListN.{getD}
 use borrow.Author.Tests.{le-leb, lt-leb}
-use Rattle.rehearsal.specs.Rules.{reached}
+use Rattle.store.specs.Rules.{reached}
 use Rattle.rehearsal.proofs.KeptLaws.{reached-more, reached-stops}
 use Rattle.rehearsal.proofs.sites.reaches.Statement.{statement}
 use Rattle.rehearsal.proofs.sites.reaches.Tie as tie

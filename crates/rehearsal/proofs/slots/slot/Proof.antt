@@ -3,7 +3,7 @@ use mathlib.Core.Logic.{⊎-elim}
 use mathlib.Core.Path.{_≡_}
 use borrow.Author.Needs.{needs}
 use Rattle.rehearsal.specs.Mirror.{shownOf}
-use Rattle.rehearsal.specs.Rules.{valueOr0}
+use Rattle.store.specs.Rules.{valueOr0}
 use Rattle.rehearsal.proofs.EventLaws.{slot-of}
 use Rattle.rehearsal.proofs.slots.slot.Statement.{statement}
 use Rattle.rehearsal.proofs.slots.slot.Tie as tie

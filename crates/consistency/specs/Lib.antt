@@ -1,0 +1,7 @@
+-- What a verdict means.
+pub mod FirstPair
+pub mod Relations
+pub mod Reads
+pub mod Predicates
+pub mod Holds
+pub mod Models

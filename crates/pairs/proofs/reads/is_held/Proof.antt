@@ -1,0 +1,69 @@
+-- `reads::is_held` meets its contract, by the case of the last write. Assumes nothing.
+use mathlib.Core.Path.{subst}
+use native.Mathlib.Omega.{arith}
+use borrow.Author.Needs.{needs}
+use Rattle.record.specs.Words.{historyFrom}
+use Rattle.tables.specs.Tables.{fieldsOf}
+use Rattle.pairs.specs.Searches.{LastBelow}
+use Rattle.consistency.specs.declared.Last.the-variants.{At}
+use Rattle.consistency.proofs.ReadLaws.{held-unwritten, held-absent, held-present}
+use Rattle.pairs.proofs.reads.is_held.Statement.{statement}
+use Rattle.pairs.proofs.reads.is_held.Tie as tie
+
+enum-told : tie.Need-enum-told
+enum-told c = search needs
+
+is-present-requires : tie.Need-is-present-requires
+is-present-requires c κs = search needs
+
+enum-known-found : tie.Need-enum-known-found
+enum-known-found c = search needs
+
+is-present-requires-2 : tie.Need-is-present-requires-2
+is-present-requires-2 c κs = search needs
+
+returns : tie.Need-returns
+unfolding historyFrom
+returns c =
+    let g = c .before .before .before .before .before .before .args in
+    let f = c .before .before .before .found .given in
+    let p = c .before .is-present2 in
+    held-absent (fieldsOf (g .l .now)) (g .e) (g .found) (p .result) (p .ensures) (f .0 .0) (f .1) (c .if1 .taken)
+
+value-requires : tie.Need-value-requires
+value-requires c κs = search needs
+
+value-requires-2 : tie.Need-value-requires-2
+value-requires-2 c κs =
+    let s = c .before .before .before .before .before .before .before in
+    let f = c .before .before .before .before .found .given in
+    let i : LastBelow (s .args .n) (At (f .0 .0)) = subst (LastBelow (s .args .n)) (f .1) (s .pre .1 .1) in
+    omega (arith, s .pre .0)
+
+returns-2 : tie.Need-returns-2
+unfolding historyFrom
+returns-2 c =
+    let g = c .before .before .before .before .args in
+    held-unwritten (fieldsOf (g .l .now)) (g .e) (g .found) (c .is-present .result) (c .is-present .ensures) (c .before .enum-told .given .1)
+
+returns-3 : tie.Need-returns-3
+unfolding historyFrom
+returns-3 c =
+    let g = c .before .before .before .before .before .before .before .before .args in
+    let f = c .before .before .before .before .before .found .given in
+    let p = c .before .before .before .is-present2 in
+    held-present (fieldsOf (g .l .now)) (g .e) (g .found) (p .result) (p .ensures) (f .0 .0) (c .before .value .result) (c .value2 .result) (f .1) (c .before .before .if1 .left) (c .before .value .ensures) (c .value2 .ensures)
+
+pub is-held-spec : {M : Type 1} → statement M
+is-held-spec =
+    tie.close
+    (tie.spec
+    enum-told
+    is-present-requires
+    enum-known-found
+    is-present-requires-2
+    returns
+    value-requires
+    value-requires-2
+    returns-2
+    returns-3)

@@ -1,0 +1,43 @@
+-- What the searches for a first pair go by. Only contracts of inner functions cite this.
+use mathlib.Core.Path.{_≡_}
+use mathlib.Core.Bool.{Bool, true, false}
+use mathlib.Core.List.{List}
+use Prim.Native.Nat.{ℕ, _*_, _<_, _≤_}
+use lib.ListN.{length}
+use Rattle.rows.specs.Lowest.{some}
+use Rattle.rows.specs.Row.{has, onlyFirst, Row}
+use Rattle.rows.specs.Relation.{Rel}
+use Rattle.record.specs.History.{History, vis}
+use Rattle.consistency.specs.Relations.{ob, ar, both}
+use Rattle.consistency.specs.Predicates.{differ, misfit}
+use Rattle.consistency.specs.declared.Last.{Last}
+use Rattle.consistency.specs.declared.Last.the-variants.{Nothing, At}
+
+-- the pairs of q, all of them or only those on one object
+abbrev pub cutTo : Bool → History → Rel → Rel
+cutTo true h q = both q (ob h)
+cutTo false h q = q
+
+-- the pairs that break predicate 2, or with `cut` 13
+abbrev pub misplaced : Bool → History → Rel
+misplaced cut h = misfit h (cutTo cut h (vis h)) (cutTo cut h (ar h))
+
+-- the events for which q and r differ on some event below k, and those that q relates to some event below k
+pub record Compared (n k : ℕ) (q r : Rel) (differing visible : List ℕ) : Type 0 where
+  pub differs : Row n (λ a. some k (λ b. differ (q a b) (r a b))) differing
+  pub begins : Row n (λ a. some k (q a)) visible
+
+-- an event that was found is below n
+abbrev pub LastBelow : ℕ → Last → Type 0
+LastBelow n Nothing = Unit
+LastBelow n (At w) = w < n
+
+-- x is a member of a that b lacks, or past the row where there is none
+pub record Picked (a b : List ℕ) (x : ℕ) : Type 0 where
+  pub member : x < 64 * length a → onlyFirst a b x ≡ true
+  pub none : 64 * length a ≤ x → (y : ℕ) → onlyFirst a b y ≡ false
+
+-- an event that was found is the last of those in s, by their positions
+abbrev pub Latest : (ℕ → ℕ) → List ℕ → Last → Type 0
+Latest position s Nothing = (x : ℕ) → has s x ≡ false
+Latest position s (At w) = (has s w ≡ true) × ((x : ℕ) → has s x ≡ true → position x ≤ position w)

@@ -1,0 +1,139 @@
+// Predicate 1, RVal: what each returned read holds.
+use consistency::Last;
+use consistency::Verdict;
+use reader::events;
+ghost use mathlib.Core.Path.{_≡_};
+ghost use mathlib.Core.Bool.{true};
+ghost use Prim.Native.Nat.{ℕ, _*_, _^_, _<_, _≤_};
+ghost use lib.ListN.{length};
+ghost use Rattle.rows.specs.Row.{has, Row};
+ghost use Rattle.rows.specs.Relation.{Table};
+ghost use Rattle.record.specs.Words.{isWriteIn, positionIn, historyFrom};
+ghost use Rattle.consistency.specs.FirstPair.{first};
+ghost use Rattle.consistency.specs.Relations.{ar};
+ghost use Rattle.consistency.specs.Reads.{lastWrite, leftBy, held, sameHeld, lastOr, wrong};
+ghost use Rattle.tables.specs.Tables.{Given, fieldsOf, keyIn, KeyRows, Room, Placed};
+ghost use Rattle.pairs.specs.Searches.{Picked, Latest, LastBelow};
+
+// A member of `a` that `b` lacks, or the first number past the row where there is none. The search starts at the end, where later events mostly stand.
+pub fn pick_difference(a: &[u64], b: &[u64]) -> usize
+    requires { ⌜ (64 * length (now a) < 2 ^ 64) × (length (now a) ≤ length (now b)) ⌝ }
+    ensures { λ r. ⌜ Picked (now (a .entry)) (now (b .entry)) r ⌝ }
+{
+    let mut i = a.len();
+    while 0 < i {
+        i -= 1;
+        let x = a[i] & !b[i];
+        if x != 0 {
+            return i * 64 + (63 - u64::leading_zeros(x) as usize);
+        }
+    }
+    a.len() * 64
+}
+
+// The last in ar of the events in `seen`: from one of them on to one that is later, as long as there is any.
+pub fn last_of(l: &[u64], n: usize, w: usize, ars: &[u64], seen: &mut [u64]) -> Last
+    requires { ⌜ Placed n (now l) × Table n w (ar (fieldsOf (now l))) (now ars) × Room n w (now ars) ⌝ }
+    requires { ⌜ (n ≤ 64 * w) × (64 * w < 2 ^ 64) × (length (now seen) ≡ w) × ((x : ℕ) → has (now seen) x ≡ true → x < n) ⌝ }
+    ensures { λ r. ⌜ Latest (positionIn (now (l .entry))) (now (seen .entry)) r ⌝ }
+{
+    let mut x = rows::lowest(seen);
+    if n <= x {
+        return Last::Nothing;
+    }
+    loop {
+        rows::remove(seen, x);
+        let at = x * w;
+        let end = at + w;
+        let next = pick_difference(seen, &ars[at..end]);
+        if n <= next {
+            return Last::At(x);
+        }
+        x = next;
+    }
+}
+
+// Of the writes on e's object that e sees the last in ar.
+pub fn last_write(
+    l: &[u64],
+    v: &[u64],
+    n: usize,
+    w: usize,
+    ars: &[u64],
+    objects: &[u64],
+    writes: &[u64],
+    e: usize,
+    seen: &mut [u64],
+) -> Last
+    requires { ⌜ Given n w (now l) (now v) × (e < n) ⌝ }
+    requires { ⌜ Table n w (ar (fieldsOf (now l))) (now ars) × Room n w (now ars) ⌝ }
+    requires { ⌜ KeyRows n w (keyIn true (now l)) (now objects) × (256 * w ≤ length (now objects)) ⌝ }
+    requires { ⌜ Row n (isWriteIn (now l)) (now writes) × (length (now writes) ≡ w) × (length (now seen) ≡ w) ⌝ }
+    ensures { λ r. ⌜ r ≡ lastWrite (historyFrom n w (now (l .entry)) (now (v .entry))) e ⌝ }
+    ensures { λ r. ⌜ LastBelow n r ⌝ }
+{
+    let at = e * w;
+    let end = at + w;
+    rows::copy(seen, &v[at..end]);
+    rows::intersect(seen, writes);
+    let from = events::object(l, e) as usize * w;
+    let to = from + w;
+    rows::intersect(seen, &objects[from..to]);
+    last_of(l, n, w, ars, seen)
+}
+
+// Whether a read holds what the last write that it sees left.
+pub fn is_held(l: &[u64], n: usize, e: usize, found: Last) -> bool
+    requires { ⌜ 4 * n ≤ length (now l) ⌝ }
+    requires { ⌜ (e < n) × LastBelow n found ⌝ }
+    ensures { λ r. ⌜ r ≡ sameHeld (held (fieldsOf (now (l .entry))) e) (leftBy (fieldsOf (now (l .entry))) found) ⌝ }
+{
+    match found {
+        Last::Nothing => !events::is_present(l, e),
+        Last::At(x) => {
+            if !events::is_present(l, e) {
+                return false;
+            }
+            events::value(l, e) == events::value(l, x)
+        }
+    }
+}
+
+pub fn last_or(e: usize, found: Last) -> usize
+    ensures { λ r. ⌜ r ≡ lastOr e found ⌝ }
+{
+    match found {
+        Last::Nothing => e,
+        Last::At(x) => x,
+    }
+}
+
+// The first returned read that holds something else, with that last write or itself.
+pub fn wrong_values(
+    l: &[u64],
+    v: &[u64],
+    n: usize,
+    w: usize,
+    ars: &[u64],
+    objects: &[u64],
+    writes: &[u64],
+    seen: &mut [u64],
+) -> Verdict
+    requires { ⌜ Given n w (now l) (now v) ⌝ }
+    requires { ⌜ Table n w (ar (fieldsOf (now l))) (now ars) × Room n w (now ars) ⌝ }
+    requires { ⌜ KeyRows n w (keyIn true (now l)) (now objects) × (256 * w ≤ length (now objects)) ⌝ }
+    requires { ⌜ Row n (isWriteIn (now l)) (now writes) × (length (now writes) ≡ w) × (length (now seen) ≡ w) ⌝ }
+    ensures { λ r. ⌜ r ≡ first n (wrong (historyFrom n w (now (l .entry)) (now (v .entry)))) ⌝ }
+{
+    for e in 0..n {
+        if !events::is_write(l, e) {
+            if !events::is_pending(l, e) {
+                let found = last_write(l, v, n, w, ars, objects, writes, e, seen);
+                if !is_held(l, n, e, found) {
+                    return Verdict::Broken(e, last_or(e, found));
+                }
+            }
+        }
+    }
+    Verdict::Met
+}

@@ -1,0 +1,178 @@
+-- `record::ask_bytes` meets its contract: each search or test answers one question, and those before it got a yes. Assumes nothing.
+use mathlib.Core.Path.{_≡_, sym, _∙_, subst}
+use mathlib.Core.Bool.{true, not}
+use mathlib.Core.List.{List}
+use Prim.Native.Nat.{ℕ, _%_, _≤_}
+use native.Mathlib.Omega.{arith}
+use borrow.Author.Needs.{needs}
+use lib.ListN.{length}
+use Rattle.rows.specs.Lowest.{lowest}
+use Rattle.rows.proofs.Tests.{told-true, told-false}
+use Rattle.record.specs.declared.Reading.the-variants.{Passed, WrongLength, WrongCheck, WrongHeader, WrongBlocks, WrongSlot, WrongPosition}
+use Rattle.record.specs.Layout.{gcr1, countIn}
+use Rattle.record.specs.Blocks.{blockRight}
+use Rattle.record.specs.History.{historyOf}
+use Rattle.record.specs.Slots.{slotRight}
+use Rattle.record.specs.Questions.{lengthRight, headerRight, blocksRight, slotsIn, wrongPosition, byteQuestions}
+use Rattle.record.proofs.AskLaws.{ask-yes, ask-no, each-found, each-past}
+use Rattle.record.proofs.QuestionLaws.{blocksIn, length-says, header-says, blocks-yes, blocks-no, fromChecks, fromHeader, fromBlocks, fromSlots, fromPositions, bytes-asked}
+use Rattle.reader.proofs.ask_bytes.Statement.{statement}
+use Rattle.reader.proofs.ask_bytes.Tie as tie
+
+-- the record's bytes at the places on the way
+abbrev bytes1 : tie.Else1 → List ℕ
+bytes1 c = c .before .before .before .args .s .now
+
+abbrev bytes2 : tie.Else2 → List ℕ
+bytes2 c = bytes1 (c .before .before)
+
+abbrev bytes3 : tie.Else3 → List ℕ
+bytes3 c = bytes2 (c .before .before)
+
+abbrev bytes4 : tie.Else4 → List ℕ
+bytes4 c = bytes3 (c .before .before)
+
+abbrev bytes5 : tie.Else5 → List ℕ
+bytes5 c = bytes4 (c .before .before)
+
+-- what is known after each yes, and the questions that are left
+length-yes : (c : tie.Else1) → lengthRight gcr1 (bytes1 c) ≡ true
+length-yes c = told-true (c .before .length-holds .ensures) (c .if1 .left)
+
+long : (c : tie.Else1) → (512 ≤ length (bytes1 c)) × (length (bytes1 c) ≤ 19456) × (length (bytes1 c) % 512 ≡ 0)
+long c = length-says gcr1 (bytes1 c) (length-yes c)
+
+to-checks : (c : tie.Else1) → byteQuestions gcr1 (bytes1 c) ≡ fromChecks gcr1 (bytes1 c) Passed
+to-checks c = bytes-asked gcr1 (bytes1 c) ∙ ask-yes (lengthRight gcr1 (bytes1 c)) WrongLength (fromChecks gcr1 (bytes1 c) Passed) (length-yes c)
+
+to-header : (c : tie.Else2) → byteQuestions gcr1 (bytes2 c) ≡ fromHeader gcr1 (bytes2 c) Passed
+to-header c =
+    let w = c .before .wrong-block in
+    to-checks (c .before .before)
+    ∙ each-past (blocksIn (bytes2 c)) (λ k. not (blockRight (bytes2 c) k)) WrongCheck (fromHeader gcr1 (bytes2 c) Passed) (w .result) (w .ensures) (c .if2 .left)
+
+header-yes : (c : tie.Else3) → headerRight gcr1 (bytes3 c) ≡ true
+header-yes c = told-true (c .before .header-holds .ensures) (c .if3 .left)
+
+to-blocks : (c : tie.Else3) → byteQuestions gcr1 (bytes3 c) ≡ fromBlocks gcr1 (bytes3 c) Passed
+to-blocks c = to-header (c .before .before) ∙ ask-yes (headerRight gcr1 (bytes3 c)) WrongHeader (fromBlocks gcr1 (bytes3 c) Passed) (header-yes c)
+
+few : (c : tie.After-count) → c .count .result ≤ 256
+few c = rw (c .count .ensures) (header-says gcr1 (bytes3 (c .before)) (header-yes (c .before)))
+
+to-slots : (c : tie.Else4) → byteQuestions gcr1 (bytes4 c) ≡ fromSlots gcr1 (bytes4 c) Passed
+to-slots c =
+    let n = c .before .count in
+    to-blocks (c .before .before)
+    ∙ ask-yes (blocksRight gcr1 (bytes4 c)) WrongBlocks (fromSlots gcr1 (bytes4 c) Passed) (blocks-yes gcr1 (bytes4 c) (n .result) (n .ensures) (c .if4 .left))
+
+to-positions : (c : tie.Else5) → byteQuestions gcr1 (bytes5 c) ≡ fromPositions gcr1 (bytes5 c) Passed
+to-positions c =
+    let w = c .before .wrong-slot in
+    to-slots (c .before .before)
+    ∙ each-past (slotsIn gcr1 (bytes5 c)) (λ e. not (slotRight gcr1 (bytes5 c) e)) WrongSlot (fromPositions gcr1 (bytes5 c) Passed) (w .result) (w .ensures) (c .if5 .left)
+
+-- the event that the search for a wrong position answered
+event : (c : tie.After-wrong-position)
+    → c .wrong-position .result ≡ lowest (countIn (bytes5 (c .before .before))) (wrongPosition (historyOf gcr1 (bytes5 (c .before .before))))
+event c =
+    let e = c .before .before in
+    subst (λ n. c .wrong-position .result ≡ lowest n (wrongPosition (historyOf gcr1 (bytes5 e)))) (e .before .before .before .count .ensures) (c .wrong-position .ensures .0)
+
+length-holds-requires : tie.Need-length-holds-requires
+length-holds-requires c κs = search needs
+
+returns : tie.Need-returns
+returns c =
+    let s = c .before .before .before .args .s .now in
+    sym (bytes-asked gcr1 s ∙ ask-no (lengthRight gcr1 s) WrongLength (fromChecks gcr1 s Passed) (told-false (c .before .length-holds .ensures) (c .if1 .taken)))
+
+wrong-block-requires : tie.Need-wrong-block-requires
+wrong-block-requires c κs = omega (arith, long c)
+
+returns-2 : tie.Need-returns-2
+returns-2 c =
+    let e = c .before .before in
+    let w = c .before .wrong-block in
+    sym (to-checks e ∙ each-found (blocksIn (bytes1 e)) (λ k. not (blockRight (bytes1 e) k)) WrongCheck (fromHeader gcr1 (bytes1 e) Passed) (w .result) (w .ensures) (c .if2 .taken))
+
+header-holds-requires : tie.Need-header-holds-requires
+header-holds-requires c κs = long (c .before .before) .0
+
+returns-3 : tie.Need-returns-3
+returns-3 c =
+    let e = c .before .before in
+    sym (to-header e ∙ ask-no (headerRight gcr1 (bytes2 e)) WrongHeader (fromBlocks gcr1 (bytes2 e) Passed) (told-false (c .before .header-holds .ensures) (c .if3 .taken)))
+
+count-requires : tie.Need-count-requires
+count-requires c κs = long (c .before .before .before .before) .0
+
+add-if4 : tie.Need-add-if4
+add-if4 c = omega (arith, few c)
+
+add-if4-2 : tie.Need-add-if4-2
+add-if4-2 c = search needs
+
+returns-4 : tie.Need-returns-4
+returns-4 c =
+    let e = c .before .before in
+    let n = c .before .count in
+    sym (to-blocks e ∙ ask-no (blocksRight gcr1 (bytes3 e)) WrongBlocks (fromSlots gcr1 (bytes3 e) Passed) (blocks-no gcr1 (bytes3 e) (n .result) (n .ensures) (c .if4 .taken)))
+
+wrong-slot-requires : tie.Need-wrong-slot-requires
+wrong-slot-requires c κs = search needs
+
+sub-if5 : tie.Need-sub-if5
+sub-if5 c = search needs
+
+mul-if5 : tie.Need-mul-if5
+mul-if5 c = search needs
+
+returns-5 : tie.Need-returns-5
+returns-5 c =
+    let e = c .before .before in
+    let w = c .before .wrong-slot in
+    sym (to-slots e ∙ each-found (slotsIn gcr1 (bytes4 e)) (λ k. not (slotRight gcr1 (bytes4 e) k)) WrongSlot (fromPositions gcr1 (bytes4 e) Passed) (w .result) (w .ensures) (c .if5 .taken))
+
+slice-aggregate-wrong-position : tie.Need-slice-aggregate-wrong-position
+slice-aggregate-wrong-position c = search needs
+
+wrong-position-requires : tie.Need-wrong-position-requires
+wrong-position-requires c κs =
+    let n = c .before .before .before .before in
+    (n .count .ensures, (omega (arith, c .before .before .before .if4 .left), few n))
+
+returns-6 : tie.Need-returns-6
+returns-6 c =
+    let w = c .before .before in
+    let e = w .before .before in
+    sym (to-positions e ∙ each-found (countIn (bytes5 e)) (wrongPosition (historyOf gcr1 (bytes5 e))) WrongPosition Passed (w .wrong-position .result) (event w) (omega (arith, e .before .before .before .count .ensures, c .if6 .taken)))
+
+returns-7 : tie.Need-returns-7
+returns-7 c =
+    let w = c .before .before in
+    let e = w .before .before in
+    sym (to-positions e ∙ each-past (countIn (bytes5 e)) (wrongPosition (historyOf gcr1 (bytes5 e))) WrongPosition Passed (w .wrong-position .result) (event w) (omega (arith, e .before .before .before .count .ensures, c .if6 .left)))
+
+pub ask-bytes-spec : {M : Type 1} → statement M
+ask-bytes-spec =
+    tie.close
+    (tie.spec
+    length-holds-requires
+    returns
+    wrong-block-requires
+    returns-2
+    header-holds-requires
+    returns-3
+    count-requires
+    add-if4
+    add-if4-2
+    returns-4
+    wrong-slot-requires
+    sub-if5
+    mul-if5
+    returns-5
+    slice-aggregate-wrong-position
+    wrong-position-requires
+    returns-6
+    returns-7)

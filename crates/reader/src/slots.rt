@@ -1,0 +1,129 @@
+// Question 7: every slot as laid out.
+use super::header;
+use record::layout;
+use rows::octets;
+ghost use mathlib.Core.Path.{_≡_};
+ghost use mathlib.Core.Bool.{not};
+ghost use Prim.Native.Nat.{_+_, _*_, _-_, _/_, _≤_, _<_};
+ghost use lib.ListN.{length};
+ghost use Rattle.rows.specs.Lowest.{lowest};
+ghost use Rattle.record.specs.Layout.{gcr1, countIn, slotAt};
+ghost use Rattle.record.specs.Slots.{placeRight, valueRight, timesRight, gapsRight, eventRight, tailRight, slotRight};
+ghost use Rattle.record.specs.Questions.{slotsIn};
+
+// Kind, site and state.
+pub fn place_holds(s: &[u8], at: usize) -> bool
+    requires { ⌜ 512 ≤ at ⌝ }
+    requires { ⌜ at + 64 ≤ length (now s) ⌝ }
+    ensures { λ r. ⌜ r ≡ placeRight (now (s .entry)) at ⌝ }
+{
+    if 1 < s[at] {
+        return false;
+    }
+    if s[6] <= s[at + 1] {
+        return false;
+    }
+    s[at + 3] <= 1
+}
+
+pub fn value_holds(s: &[u8], at: usize) -> bool
+    requires { ⌜ at + 64 ≤ length (now s) ⌝ }
+    ensures { λ r. ⌜ r ≡ valueRight (now (s .entry)) at ⌝ }
+{
+    if s[at + 8] == 0 {
+        if octets::u32_at(s, at + 4) != 0 {
+            return false;
+        }
+        return s[at] == 0;
+    }
+    if s[at + 8] != 1 {
+        return false;
+    }
+    if s[at] == 1 {
+        return true;
+    }
+    s[at + 3] == 0
+}
+
+pub fn times_hold(s: &[u8], at: usize) -> bool
+    requires { ⌜ at + 64 ≤ length (now s) ⌝ }
+    ensures { λ r. ⌜ r ≡ timesRight (now (s .entry)) at ⌝ }
+{
+    let returned = octets::u64_at(s, at + 24);
+    if s[at + 3] == 1 {
+        return returned == 0;
+    }
+    octets::u64_at(s, at + 16) <= returned
+}
+
+pub fn gaps_hold(s: &[u8], at: usize) -> bool
+    requires { ⌜ at + 64 ≤ length (now s) ⌝ }
+    ensures { λ r. ⌜ r ≡ gapsRight (now (s .entry)) at ⌝ }
+{
+    if s[at + 9] != 0 {
+        return false;
+    }
+    layout::is_zero(s, at + 12, 4)
+}
+
+// The slot of an event, its position and visible set aside.
+pub fn event_holds(s: &[u8], at: usize) -> bool
+    requires { ⌜ 512 ≤ at ⌝ }
+    requires { ⌜ at + 64 ≤ length (now s) ⌝ }
+    ensures { λ r. ⌜ r ≡ eventRight (now (s .entry)) at ⌝ }
+{
+    if !place_holds(s, at) {
+        return false;
+    }
+    if !value_holds(s, at) {
+        return false;
+    }
+    if !times_hold(s, at) {
+        return false;
+    }
+    gaps_hold(s, at)
+}
+
+// The bytes after the last slot of a block, where e is that slot.
+pub fn tail_holds(s: &[u8], e: usize) -> bool
+    requires { ⌜ 512 * (1 + e / 7) + 512 ≤ length (now s) ⌝ }
+    ensures { λ r. ⌜ r ≡ tailRight gcr1 (now (s .entry)) e ⌝ }
+{
+    if e % 7 != 6 {
+        return true;
+    }
+    layout::is_zero(s, 512 * (1 + e / 7) + 448, 60)
+}
+
+pub fn slot_holds(s: &[u8], n: usize, e: usize) -> bool
+    requires { ⌜ n ≡ countIn (now s) ⌝ }
+    requires { ⌜ 512 * (1 + e / 7) + 512 ≤ length (now s) ⌝ }
+    ensures { λ r. ⌜ r ≡ slotRight gcr1 (now (s .entry)) e ⌝ }
+{
+    let at = layout::slot_at(e);
+    if e < n {
+        if !event_holds(s, at) {
+            return false;
+        }
+    } else {
+        if !layout::is_zero(s, at, 64) {
+            return false;
+        }
+    }
+    tail_holds(s, e)
+}
+
+// The lowest slot that is not as laid out, or the number of slots.
+pub fn wrong_slot(s: &[u8], n: usize) -> usize
+    requires { ⌜ n ≡ countIn (now s) ⌝ }
+    requires { ⌜ 512 ≤ length (now s) ⌝ }
+    ensures { λ r. ⌜ r ≡ lowest (slotsIn gcr1 (now (s .entry))) (λ e. not (slotRight gcr1 (now (s .entry)) e)) ⌝ }
+{
+    let slots = 7 * (s.len() / 512 - 1);
+    for e in 0..slots {
+        if !slot_holds(s, n, e) {
+            return e;
+        }
+    }
+    slots
+}

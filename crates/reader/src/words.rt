@@ -1,0 +1,23 @@
+// A record's slots as 64-bit words: the reader loads them once, and judges read fields from words.
+use record::layout;
+use rows::octets;
+ghost use mathlib.Core.Path.{_≡_};
+ghost use mathlib.Core.List.{_++_};
+ghost use Prim.Native.Nat.{_+_, _*_, _/_, _≤_};
+ghost use lib.ListN.{length, drop};
+ghost use Rattle.record.specs.Layout.{gcr1};
+ghost use Rattle.record.specs.Words.{slotWords};
+
+// w words from byte `off` of each of the first n slots.
+pub fn load(s: &[u8], n: usize, off: usize, w: usize, out: &mut [u64])
+    requires { ⌜ 512 * (1 + (n + 6) / 7) ≤ length (now s) ⌝ }
+    requires { ⌜ off + 8 * w ≤ 64 ⌝ }
+    requires { ⌜ n * w ≤ length (now out) ⌝ }
+    ensures { λ _. ⌜ now (out .exit) ≡ slotWords gcr1 off w (now (s .entry)) n ++ drop (n * w) (now (out .entry)) ⌝ }
+{
+    for e in 0..n {
+        let at = e * w;
+        let end = at + w;
+        octets::load(&mut out[at..end], s, layout::slot_at(e) + off);
+    }
+}

@@ -1,0 +1,162 @@
+-- The whole list of calls, as a loop over a script goes through it: by what is left, and counted up from the first call. Assumes nothing.
+use mathlib.Core.Path.{_≡_, refl, sym, ap, _∙_}
+use mathlib.Core.Bool.{Bool, true, false, cond}
+use mathlib.Core.List.{List, [], _∷_, _++_, append-assoc, append-nil}
+use Prim.Native.Nat.{ℕ, zero, suc, _+_, _*_, _/_, _≤_}
+use native.Mathlib.Omega.{arith}
+use lib.Dec.{eqb}
+use lib.ListN.{length, length-append, replicate, length-replicate}
+use Rattle.record.proofs.StoresLaws.{Bytes}
+use Rattle.record.proofs.NumberBytes.{length-little}
+use Rattle.store.specs.Store.{Store, fresh}
+use Rattle.store.specs.Calls.{Call, put, get, deliver, malformed, callAt, callsFrom, callsOf}
+use Rattle.store.specs.Rules.{refusal, step, run, doneAnswer, answer, answers}
+use Rattle.store.specs.Rehearsal.{storeAfter}
+use Rattle.store.proofs.Invariant.{StoreInv}
+use Rattle.store.proofs.RunKeeps.{every-run}
+use Rattle.store.proofs.Sizes.{Limits, every-limits, Sizes, every-sizes, Values, every-values, calls-from-fit}
+
+-- ---- what is left
+
+pub calls-left : (k : ℕ) (s : List ℕ) (at : ℕ) → callsFrom (suc k) s at ≡ callAt s at ∷ callsFrom k s (at + 8)
+unfolding callsFrom
+calls-left k s at = refl
+
+pub run-left : (n : ℕ) (st : Store) (k : ℕ) (s : List ℕ) (at : ℕ)
+    → run n st (callsFrom (suc k) s at) ≡ run n (step n st (callAt s at)) (callsFrom k s (at + 8))
+unfolding run callsFrom
+run-left n st k s at = refl
+
+pub answers-left : (n : ℕ) (st : Store) (k : ℕ) (s : List ℕ) (at : ℕ)
+    → answers n st (callsFrom (suc k) s at) ≡ answer n st (callAt s at) ++ answers n (step n st (callAt s at)) (callsFrom k s (at + 8))
+unfolding answers callsFrom
+answers-left n st k s at = refl
+
+pub none-left : (n : ℕ) (st : Store) (s : List ℕ) (at : ℕ) → run n st (callsFrom zero s at) ≡ st
+unfolding run callsFrom
+none-left n st s at = refl
+
+pub no-answers-left : (n : ℕ) (st : Store) (s : List ℕ) (at : ℕ) → answers n st (callsFrom zero s at) ≡ []
+unfolding answers callsFrom
+no-answers-left n st s at = refl
+
+-- ---- counted up
+
+-- the store after the first k calls of a script, and their answers
+unfoldable pub storeUpTo : ℕ → ℕ → List ℕ → Store
+storeUpTo zero n s = fresh
+storeUpTo (suc k) n s = step n (storeUpTo k n s) (callAt s (8 * k))
+
+unfoldable pub answersUpTo : ℕ → ℕ → List ℕ → List ℕ
+answersUpTo zero n s = []
+answersUpTo (suc k) n s = answersUpTo k n s ++ answer n (storeUpTo k n s) (callAt s (8 * k))
+
+pub store-none : (n : ℕ) (s : List ℕ) → storeUpTo 0 n s ≡ fresh
+unfolding storeUpTo
+store-none n s = refl
+
+pub store-more : (k n : ℕ) (s : List ℕ) → storeUpTo (suc k) n s ≡ step n (storeUpTo k n s) (callAt s (8 * k))
+unfolding storeUpTo
+store-more k n s = refl
+
+pub answers-none : (n : ℕ) (s : List ℕ) → answersUpTo 0 n s ≡ []
+unfolding answersUpTo
+answers-none n s = refl
+
+pub answers-more : (k n : ℕ) (s : List ℕ) → answersUpTo (suc k) n s ≡ answersUpTo k n s ++ answer n (storeUpTo k n s) (callAt s (8 * k))
+unfolding answersUpTo
+answers-more k n s = refl
+
+-- after k calls, j more make what k + j make
+run-on : (j k n : ℕ) (s : List ℕ) → run n (storeUpTo k n s) (callsFrom j s (8 * k)) ≡ storeUpTo (k + j) n s
+run-on zero k n s = none-left n (storeUpTo k n s) s (8 * k) ∙ ap (λ (i : ℕ). storeUpTo i n s) (omega arith)
+run-on (suc j) k n s =
+    run-left n (storeUpTo k n s) j s (8 * k)
+    ∙ ap (λ (i : ℕ). run n (step n (storeUpTo k n s) (callAt s (8 * k))) (callsFrom j s i)) (omega arith)
+    ∙ ap (λ (st : Store). run n st (callsFrom j s (8 * suc k))) (sym (store-more k n s))
+    ∙ run-on j (suc k) n s
+    ∙ ap (λ (i : ℕ). storeUpTo i n s) (omega arith)
+
+answers-on : (j k n : ℕ) (s : List ℕ) → answersUpTo k n s ++ answers n (storeUpTo k n s) (callsFrom j s (8 * k)) ≡ answersUpTo (k + j) n s
+answers-on zero k n s =
+    ap (λ (l : List ℕ). answersUpTo k n s ++ l) (no-answers-left n (storeUpTo k n s) s (8 * k))
+    ∙ append-nil (answersUpTo k n s)
+    ∙ ap (λ (i : ℕ). answersUpTo i n s) (omega arith)
+answers-on (suc j) k n s =
+    let done : List ℕ = answersUpTo k n s in
+    let now : Store = storeUpTo k n s in
+    let c : Call = callAt s (8 * k) in
+    ap (λ (l : List ℕ). done ++ l) (answers-left n now j s (8 * k))
+    ∙ sym (append-assoc done (answer n now c) (answers n (step n now c) (callsFrom j s (8 * k + 8))))
+    ∙ ap (λ (i : ℕ). (done ++ answer n now c) ++ answers n (step n now c) (callsFrom j s i)) (omega arith)
+    ∙ ap (λ (st : Store). (done ++ answer n now c) ++ answers n st (callsFrom j s (8 * suc k))) (sym (store-more k n s))
+    ∙ ap (λ (l : List ℕ). l ++ answers n (storeUpTo (suc k) n s) (callsFrom j s (8 * suc k))) (sym (answers-more k n s))
+    ∙ answers-on j (suc k) n s
+    ∙ ap (λ (i : ℕ). answersUpTo i n s) (omega arith)
+
+-- the first k calls are a list of calls, so what every list has, they have
+pub store-up-to : (k n : ℕ) (s : List ℕ) → storeUpTo k n s ≡ run n fresh (callsFrom k s 0)
+unfolding storeUpTo
+store-up-to k n s = let z : k ≡ 0 + k = omega arith in ap (λ (i : ℕ). storeUpTo i n s) z ∙ sym (run-on k 0 n s)
+
+pub answers-up-to : (k n : ℕ) (s : List ℕ) → answersUpTo k n s ≡ answers n fresh (callsFrom k s 0)
+unfolding storeUpTo answersUpTo
+answers-up-to k n s = let z : k ≡ 0 + k = omega arith in ap (λ (i : ℕ). answersUpTo i n s) z ∙ sym (answers-on k 0 n s)
+
+pub up-to-keeps : (k n : ℕ) → n ≤ 8 → (s : List ℕ) → StoreInv n (storeUpTo k n s .event) (storeUpTo k n s)
+up-to-keeps k n n≤8 s = rw store-up-to (every-run n n≤8 (callsFrom k s 0))
+
+pub up-to-limits : (k n : ℕ) (s : List ℕ) → Limits (storeUpTo k n s)
+up-to-limits k n s = rw store-up-to (every-limits n (callsFrom k s 0))
+
+pub up-to-sizes : (k n : ℕ) → n ≤ 8 → (s : List ℕ) → Sizes (storeUpTo k n s)
+up-to-sizes k n n≤8 s = rw store-up-to (every-sizes n n≤8 (callsFrom k s 0))
+
+pub up-to-values : (k n : ℕ) → n ≤ 8 → (s : List ℕ) → Bytes s → Values (storeUpTo k n s)
+up-to-values k n n≤8 s bytes = rw store-up-to (every-values n n≤8 (callsFrom k s 0) (calls-from-fit s bytes k 0))
+
+-- and all of them are the script's
+pub store-whole : (n : ℕ) (s : List ℕ) → storeUpTo (length s / 8) n s ≡ storeAfter n s
+unfolding storeAfter callsOf
+store-whole n s = store-up-to (length s / 8) n s
+
+pub answers-whole : (n : ℕ) (s : List ℕ) → answersUpTo (length s / 8) n s ≡ answers n fresh (callsOf s)
+unfolding callsOf
+answers-whole n s = answers-up-to (length s / 8) n s
+
+-- ---- lengths
+
+done-length : (st : Store) (c : Call) → length (doneAnswer st c) ≡ 8
+unfolding doneAnswer
+done-length st (put s o v) =
+    simp (length-append, length-little, length-replicate)
+done-length st (get s o) = simp (length-append, length-little)
+done-length st (deliver w t) = refl
+done-length st malformed = refl
+
+pub answer-length : (n : ℕ) (st : Store) (c : Call) → length (answer n st c) ≡ 8
+unfolding answer
+answer-length n st c = go (eqb (refusal n st c) 0)
+  where
+    go : (t : Bool) → length (cond t (doneAnswer st c) (refusal n st c ∷ replicate 7 0)) ≡ 8
+    go true = done-length st c
+    go false = refl
+
+pub answers-length : (n : ℕ) (st : Store) (cs : List Call) → length (answers n st cs) ≡ 8 * length cs
+unfolding answers
+answers-length n st [] = refl
+answers-length n st (c ∷ cs) =
+    length-append (answer n st c) (answers n (step n st c) cs)
+    ∙ omega (arith, answer-length n st c, answers-length n (step n st c) cs)
+
+pub calls-length : (k : ℕ) (s : List ℕ) (at : ℕ) → length (callsFrom k s at) ≡ k
+unfolding callsFrom
+calls-length zero s at = refl
+calls-length (suc k) s at = ap suc (calls-length k s (at + 8))
+
+pub answers-up-to-length : (k n : ℕ) (s : List ℕ) → length (answersUpTo k n s) ≡ 8 * k
+unfolding answersUpTo
+answers-up-to-length zero n s = refl
+answers-up-to-length (suc k) n s =
+    length-append (answersUpTo k n s) (answer n (storeUpTo k n s) (callAt s (8 * k)))
+    ∙ omega (arith, answer-length n (storeUpTo k n s) (callAt s (8 * k)), answers-up-to-length k n s)

@@ -1,0 +1,7 @@
+-- The store and the third demand.
+pub mod Store
+pub mod Calls
+pub mod Rules
+pub mod Recorded
+pub mod Rehearsal
+pub mod Demand

@@ -1,0 +1,117 @@
+-- The store's rules: what refuses a call, what a call does that is not refused, and its answer; then a whole list of calls.
+use mathlib.Core.Bool.{Bool, true, false, not, cond, _&&_, _||_}
+use mathlib.Core.List.{List, [], _∷_, _++_}
+use Prim.Native.Nat.{ℕ, zero, suc, max}
+use lib.Dec.{leb, ltb, eqb}
+use lib.ListN.{replicate}
+use Rattle.record.specs.Encode.{littleBytes}
+use Rattle.consistency.specs.Reads.{Held, none, value}
+use Rattle.store.specs.Store.{upd, Cell, full, cellValue, merge, Site, Event, Store}
+use Rattle.store.specs.Calls.{Call, put, get, deliver, malformed}
+
+-- a question: its number where the answer is no
+abbrev pub ask : Bool → ℕ → ℕ → ℕ
+ask true number next = next
+ask false number next = number
+
+-- the first k counts reach the needs
+unfoldable pub reached : ℕ → (ℕ → ℕ) → (ℕ → ℕ) → Bool
+reached zero needs held = true
+reached (suc k) needs held = reached k needs held && leb (needs k) (held k)
+
+-- 0, or the number that refuses a call at n sites. There are eight counts; those of sites that aren't there stay 0
+unfoldable pub refusal : ℕ → Store → Call → ℕ
+refusal n st (put s o v) = ask (ltb s n) 32 (ask (leb o 31) 33 (ask (ltb (st .count) 256) 34 0))
+refusal n st (get s o) = ask (ltb s n) 32 (ask (leb o 31) 33 (ask (ltb (st .count) 256) 34 0))
+refusal n st (deliver w t) =
+    ask (ltb t n) 32
+    (ask (ltb w (st .count) && st .event w .isPut) 33
+    (ask (not (st .site t .known w)) 35
+    (ask (reached 8 (st .event w .needs) (st .site t .held)) 36 0)))
+refusal n st malformed = 31
+
+-- the event that a put or a get at s becomes: its stamp is the clock raised by 1, vis is the known set
+abbrev pub made : Store → ℕ → Bool → ℕ → Held → Event
+made st s isPut o shown = record {
+  site = s;
+  isPut = isPut;
+  object = o;
+  shown = shown;
+  stamp = suc (st .site s .clock);
+  sees = st .site s .known;
+  needs = st .site s .held;
+}
+
+-- site s, kept as a, after its put of v on o, which became event k
+abbrev pub afterPut : Site → ℕ → ℕ → ℕ → ℕ → Site
+afterPut a s k o v = record {
+  clock = suc (a .clock);
+  held = upd (a .held) s (suc (a .held s));
+  known = upd (a .known) k true;
+  cell = upd (a .cell) o (full v (suc (a .clock)) s);
+}
+
+-- a site, kept as a, after its get, which became event k
+abbrev pub afterGet : Site → ℕ → Site
+afterGet a k = record { clock = suc (a .clock); held = a .held; known = upd (a .known) k true; cell = a .cell }
+
+abbrev pub valueOr0 : Held → ℕ
+valueOr0 none = 0
+valueOr0 (value v) = v
+
+-- a site, kept as a, after the delivery of the put w, whose event is e
+abbrev pub afterDelivery : Site → ℕ → Event → Site
+afterDelivery a w e = record {
+  clock = max (a .clock) (e .stamp);
+  held = upd (a .held) (e .site) (suc (a .held (e .site)));
+  known = λ x. eqb x w || (e .sees x || a .known x);
+  cell = upd (a .cell) (e .object) (merge (a .cell (e .object)) (valueOr0 (e .shown)) (e .stamp) (e .site));
+}
+
+-- what a call does that is not refused
+unfoldable pub effect : Store → Call → Store
+effect st (put s o v) = record {
+  count = suc (st .count);
+  event = upd (st .event) (st .count) (made st s true o (value v));
+  site = upd (st .site) s (afterPut (st .site s) s (st .count) o v);
+}
+effect st (get s o) = record {
+  count = suc (st .count);
+  event = upd (st .event) (st .count) (made st s false o (cellValue (st .site s .cell o)));
+  site = upd (st .site) s (afterGet (st .site s) (st .count));
+}
+effect st (deliver w t) = record {
+  count = st .count;
+  event = st .event;
+  site = upd (st .site) t (afterDelivery (st .site t) w (st .event w));
+}
+effect st malformed = st
+
+-- a refused call changes nothing
+unfoldable pub step : ℕ → Store → Call → Store
+step n st c = cond (eqb (refusal n st c) 0) (effect st c) st
+
+unfoldable pub run : ℕ → Store → List Call → Store
+run n st [] = st
+run n st (c ∷ cs) = run n (step n st c) cs
+
+-- ---- answers
+
+abbrev pub isFound : Held → ℕ
+isFound none = 0
+isFound (value v) = 1
+
+-- 0; 1 where a get found a value; the event (16 bits); a get's value; unused parts 0
+unfoldable pub doneAnswer : Store → Call → List ℕ
+doneAnswer st (put s o v) = 0 ∷ 0 ∷ (littleBytes 2 (st .count) ++ replicate 4 0)
+doneAnswer st (get s o) =
+    0 ∷ isFound (cellValue (st .site s .cell o)) ∷ (littleBytes 2 (st .count) ++ littleBytes 4 (valueOr0 (cellValue (st .site s .cell o))))
+doneAnswer st (deliver w t) = replicate 8 0
+doneAnswer st malformed = replicate 8 0
+
+unfoldable pub answer : ℕ → Store → Call → List ℕ
+answer n st c = cond (eqb (refusal n st c) 0) (doneAnswer st c) (refusal n st c ∷ replicate 7 0)
+
+unfoldable pub answers : ℕ → Store → List Call → List ℕ
+answers n st [] = []
+answers n st (c ∷ cs) = answer n st c ++ answers n (step n st c) cs

@@ -1,0 +1,114 @@
+// A record written in place: zero bytes, block 0, slots, and the blocks' checks.
+use reader::blocks;
+use record::Slot;
+use record::layout;
+ghost use mathlib.Core.Path.{_≡_};
+ghost use mathlib.Core.List.{_∷_, _++_};
+ghost use Prim.Native.Nat.{_+_, _*_, _/_, _≤_, _<_};
+ghost use lib.ListN.{length, drop, replicate};
+ghost use lib.Seq.{sets};
+ghost use Rattle.rows.specs.Row.{has};
+ghost use Rattle.record.specs.Layout.{gcr1, slotAt};
+ghost use Rattle.record.specs.History.{History};
+ghost use Rattle.record.specs.Encode.{littleBytes, bit, setBytes, slotBytes, headerBytes, sealed, SlotOf};
+
+pub fn put_u16(s: &mut [u8], at: usize, x: u16)
+    requires { ⌜ at + 2 ≤ length (now s) ⌝ }
+    ensures { λ _. ⌜ now (s .exit) ≡ sets (now (s .entry)) at (littleBytes 2 x) ⌝ }
+{
+    s[at] = (x % 256) as u8;
+    s[at + 1] = (x / 256) as u8;
+}
+
+pub fn put_u32(s: &mut [u8], at: usize, x: u32)
+    requires { ⌜ at + 4 ≤ length (now s) ⌝ }
+    ensures { λ _. ⌜ now (s .exit) ≡ sets (now (s .entry)) at (littleBytes 4 x) ⌝ }
+{
+    put_u16(s, at, (x % 0x1_0000) as u16);
+    put_u16(s, at + 2, (x / 0x1_0000) as u16);
+}
+
+pub fn put_u64(s: &mut [u8], at: usize, x: u64)
+    requires { ⌜ at + 8 ≤ length (now s) ⌝ }
+    ensures { λ _. ⌜ now (s .exit) ≡ sets (now (s .entry)) at (littleBytes 8 x) ⌝ }
+{
+    put_u32(s, at, (x % 0x1_0000_0000) as u32);
+    put_u32(s, at + 4, (x / 0x1_0000_0000) as u32);
+}
+
+// The first k bytes become zero.
+pub fn clear(s: &mut [u8], k: usize)
+    requires { ⌜ k ≤ length (now s) ⌝ }
+    ensures { λ _. ⌜ now (s .exit) ≡ replicate k 0 ++ drop k (now (s .entry)) ⌝ }
+{
+    for i in 0..k {
+        s[i] = 0;
+    }
+}
+
+// Block 0 of n events.
+pub fn header(s: &mut [u8], n: usize, sites: u8)
+    requires { ⌜ (512 ≤ length (now s)) × (n < 65536) ⌝ }
+    ensures { λ _. ⌜ now (s .exit) ≡ sets (now (s .entry)) 0 (headerBytes gcr1 n sites) ⌝ }
+{
+    bytes::copy(&layout::LETTERS, s);
+    put_u16(s, 4, n as u16);
+    s[6] = sites;
+}
+
+// Bytes 0 to 7 of a slot: kind, site, object, state and value.
+fn first_word(x: Slot) -> u64
+    ensures { λ r. ⌜ littleBytes 8 r ≡ bit (x .write) ∷ x .site ∷ x .object ∷ bit (x .pending) ∷ littleBytes 4 (x .value) ⌝ }
+{
+    let kind = x.write as u64;
+    let state = x.pending as u64;
+    kind
+        + 0x100 * x.site as u64
+        + 0x1_0000 * x.object as u64
+        + 0x100_0000 * state
+        + 0x1_0000_0000 * x.value as u64
+}
+
+// Bytes 8 to 15: whether a value is present, and the position.
+fn second_word(x: Slot) -> u64
+    ensures { λ r. ⌜ littleBytes 8 r ≡ bit (x .present) ∷ 0 ∷ (littleBytes 2 (x .position) ++ replicate 4 0) ⌝ }
+{
+    x.present as u64 + 0x1_0000 * x.position as u64
+}
+
+// A visible set: its bytes are those of its four words.
+fn put_row(s: &mut [u8], at: usize, row: [u64; 4])
+    requires { ⌜ at + 32 ≤ length (now s) ⌝ }
+    ensures { λ _. ⌜ now (s .exit) ≡ sets (now (s .entry)) at (setBytes 32 (has row)) ⌝ }
+{
+    put_u64(s, at, row[0]);
+    put_u64(s, at + 8, row[1]);
+    put_u64(s, at + 16, row[2]);
+    put_u64(s, at + 24, row[3]);
+}
+
+// The slot of event e. Its bytes are written as eight words.
+pub fn put_slot(s: &mut [u8], e: usize, x: Slot)
+    requires { ⌜ slotAt gcr1 e + 64 ≤ length (now s) ⌝ }
+    ensures { λ _. ⌜ ((h : History) → SlotOf h e x → now (s .exit) ≡ sets (now (s .entry)) (slotAt gcr1 e) (slotBytes gcr1 h e)) ⌝ }
+{
+    let at = layout::slot_at(e);
+    put_u64(s, at, first_word(x));
+    put_u64(s, at + 8, second_word(x));
+    put_u64(s, at + 16, x.start);
+    put_u64(s, at + 24, x.returned);
+    let sees = x.sees;
+    put_row(s, at + 32, sees);
+}
+
+// The checks of the first k blocks.
+pub fn seal(s: &mut [u8], k: usize)
+    requires { ⌜ (512 * k ≤ length (now s)) × (k ≤ 65536) ⌝ }
+    ensures { λ _. ⌜ now (s .exit) ≡ sealed k (now (s .entry)) ⌝ }
+{
+    for i in 0..k {
+        let check = blocks::sums(s, i);
+        put_u16(s, 512 * i + 508, check.a as u16);
+        put_u16(s, 512 * i + 510, check.b as u16);
+    }
+}
