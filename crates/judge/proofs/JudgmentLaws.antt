@@ -1,13 +1,15 @@
 -- Judgments by their tests, and the host's number of each: a break is at two events, so every part of the number fits. Assumes nothing.
-use mathlib.Core.Path.{_≡_, refl, ap₂}
+use mathlib.Core.Path.{_≡_, refl, sym, ap, ap₂, _∙_}
 use mathlib.Core.Logic.{_≢_}
 use mathlib.Core.Bool.{Bool, true, false}
 use mathlib.Core.List.{List, [], _∷_, _++_}
-use Prim.Native.Nat.{ℕ, zero, suc, _+_, _*_, _^_, _<_, _≤_}
+use Prim.Native.Nat.{ℕ, zero, suc, _+_, _*_, _^_, _<_, _≤_, min}
 use native.Mathlib.Omega.{arith}
-use borrow.Author.Tests.{eq-eqb, ne-eqb, eqb-true, le-leb, lt-leb}
-use lib.Dec.{eqb, leb}
-use lib.ListN.{getD, replicate}
+use borrow.Author.Tests.{eq-eqb, ne-eqb, eqb-true, le-leb, lt-leb, ltb-true, ltb-false}
+use lib.Dec.{eqb, leb, ltb}
+use lib.ListN.{length, getD, take, drop, replicate, length-take, drop-of-length-le}
+use lib.Seq.{take-all}
+use Rattle.rows.proofs.Tests.{split}
 use Rattle.record.specs.Layout.{gcr1, countIn}
 use Rattle.record.specs.History.{History, historyOf, Agree}
 use Rattle.record.specs.Questions.{numberOf, placeOf, questions, reading}
@@ -16,7 +18,7 @@ use Rattle.record.specs.declared.Reading.the-variants.{Passed, ShortWork}
 use Rattle.record.proofs.QuestionsAnswered.{number-most, place-small, passed-count}
 use Rattle.consistency.specs.Predicates.{breaks, rule, numbered, verdict}
 use Rattle.consistency.specs.Models.{listOf, orElse, firstBroken}
-use Rattle.judge.specs.Judgments.{isNumber, pick, judgedList, judged, predicateJudgment, modelJudgment, packed, packedVerdict, packedVerdicts, verdictsOf}
+use Rattle.judge.specs.Judgments.{isNumber, pick, judgedList, judged, predicateJudgment, modelJudgment, packed, packedVerdict, packedVerdicts, verdictsOf, over, outAfter}
 use Rattle.judge.specs.Lists.{upToZero, Numbers}
 use Rattle.consistency.specs.declared.Verdict.{Verdict}
 use Rattle.consistency.specs.declared.Verdict.the-variants.{Met, Broken}
@@ -90,6 +92,32 @@ verdicts-refused r s f = rw (ne-eqb (numberOf r) 0 f)
 pub verdicts-judged : (r : Reading) (s l : List ℕ) → numberOf r ≡ 0 → l ≡ packedVerdicts 13 (historyOf gcr1 s) → l ≡ verdictsOf gcr1 r s
 unfolding verdictsOf
 verdicts-judged r s l z e = rw (eq-eqb (numberOf r) 0 z) e
+
+-- ---- a host's buffer
+
+-- the first n of vs are copied, for the lesser n of the two lengths
+pub over-front : (vs out : List ℕ) (n : ℕ) → n ≡ min (length vs) (length out) → take n vs ++ drop (length (take n vs)) out ≡ over vs out
+over-front vs out n e = split (ltb (length out) (length vs)) short long
+  where
+    short : ltb (length out) (length vs) ≡ true → take n vs ++ drop (length (take n vs)) out ≡ over vs out
+    short t =
+        let l = ltb-true (length out) (length vs) t in
+        let q : n ≡ length out = omega arith in
+        ap₂ _++_ (ap (λ (k : ℕ). take k vs) q) (drop-of-length-le out {i = length (take n vs)} (omega (arith, length-take n vs)) ∙ sym (drop-of-length-le out {i = length vs} (omega arith)))
+
+    long : ltb (length out) (length vs) ≡ false → take n vs ++ drop (length (take n vs)) out ≡ over vs out
+    long t =
+        let l = ltb-false (length out) (length vs) t in
+        let q : length (take n vs) ≡ length vs = omega (arith, length-take n vs) in
+        ap₂ _++_ (take-all n vs (omega arith) ∙ sym (take-all (length out) vs l)) (ap (λ (k : ℕ). drop k out) q)
+
+pub out-refused : (r : Reading) (s out : List ℕ) → numberOf r ≢ 0 → out ≡ outAfter gcr1 r s out
+unfolding outAfter
+out-refused r s out f = rw (ne-eqb (numberOf r) 0 f)
+
+pub out-judged : (r : Reading) (s out vs : List ℕ) → numberOf r ≡ 0 → vs ≡ verdictsOf gcr1 r s → over vs out ≡ outAfter gcr1 r s out
+unfolding verdictsOf outAfter
+out-judged r s out vs z e = rw (e, eq-eqb (numberOf r) 0 z)
 
 -- ---- the host's number of a judgment that code takes apart
 

@@ -3,7 +3,7 @@ use mathlib.Core.Bool.{Bool, true, false, cond, _&&_}
 use mathlib.Core.List.{List, [], _∷_, _++_}
 use Prim.Native.Nat.{ℕ, zero, suc, _+_, _*_}
 use lib.Dec.{eqb, leb}
-use lib.ListN.{replicate}
+use lib.ListN.{length, take, drop, replicate}
 use Rattle.record.specs.Layout.{Layout, workWords}
 use Rattle.record.specs.History.{History, historyOf}
 use Rattle.record.specs.Questions.{numberOf, placeOf, questions}
@@ -77,3 +77,11 @@ packedVerdicts (suc k) h = packedVerdicts k h ++ (packedVerdict (verdict (number
 -- the thirteen of a record that passes, else zeros
 unfoldable pub verdictsOf : Layout → Reading → List ℕ → List ℕ
 verdictsOf L r s = cond (eqb (numberOf r) 0) (packedVerdicts 13 (historyOf L s)) (replicate 13 0)
+
+-- the first of vs, as many as fit, over the front of out
+abbrev pub over : List ℕ → List ℕ → List ℕ
+over vs out = take (length out) vs ++ drop (length vs) out
+
+-- a host's buffer after all thirteen were judged; where the record is refused it stays
+unfoldable pub outAfter : Layout → Reading → List ℕ → List ℕ → List ℕ
+outAfter L r s out = cond (eqb (numberOf r) 0) (over (packedVerdicts 13 (historyOf L s)) out) out

@@ -4,7 +4,9 @@ use consistency::Outcome;
 ghost use mathlib.Core.Path.{_≡_};
 ghost use Prim.Native.Nat.{_^_, _<_};
 ghost use Rattle.record.specs.Layout.{gcr1};
-ghost use Rattle.judge.specs.Judgments.{predicateJudgment, modelJudgment, packed};
+ghost use Rattle.record.specs.Questions.{reading};
+ghost use Rattle.record.specs.Questions as Questions;
+ghost use Rattle.judge.specs.Judgments.{predicateJudgment, modelJudgment, packed, over, outAfter};
 
 // A judgment as a number: 0 met; 1,048,576 + 1,024 × a + b broken; 2,097,152 + 1,024 × number + place refused.
 pub fn packed_judgment(j: Judgment) -> u64
@@ -37,4 +39,32 @@ pub extern "C" fn gcr_judge_predicate(predicate: u32, s: &[u8]) -> u64
 {
     let mut work = [0u64; 1024];
     packed_judgment(super::judge_predicate(predicate as usize, s, &mut work))
+}
+
+// The first of v, as many as fit, go over the front of `out`.
+fn put_over(v: &[u64], out: &mut [u64])
+    ensures { λ _. ⌜ now (out .exit) ≡ over (now (v .entry)) (now (out .entry)) ⌝ }
+{
+    let mut n = v.len();
+    if out.len() < n {
+        n = out.len();
+    }
+    rows::copy(out, &v[0..n]);
+}
+
+// Judges all thirteen predicates: the answer is the reading's number, and the verdicts go over the front of `out`.
+#[no_mangle]
+pub extern "C" fn gcr_judge_all(s: &[u8], out: &mut [u64]) -> u64
+    ensures { λ r. ⌜ r ≡ Questions.packed (reading gcr1 1024 (now (s .entry))) ⌝ }
+    ensures { λ _. ⌜ now (out .exit) ≡ outAfter gcr1 (reading gcr1 1024 (now (s .entry))) (now (s .entry)) (now (out .entry)) ⌝ }
+{
+    let mut work = [0u64; 1024];
+    let all = super::judge_all(s, &mut work);
+    let reading = all.reading;
+    if record::number(reading) != 0 {
+        return packed_judgment(Judgment::Refused(reading));
+    }
+    let verdicts = all.verdicts;
+    put_over(&verdicts, out);
+    0
 }

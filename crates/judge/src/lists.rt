@@ -71,6 +71,8 @@ pub fn first_broken(list: [u8; 4], l: &[u64], v: &[u64], n: usize) -> Outcome
     let mut hbs = [0u64; 1024];
     let mut keys = [0u64; 1024];
     let mut writes = [0u64; 4];
+    let mut reads = [0u64; 4];
+    let mut every = [0u64; 4];
     prepared::prepare(
         l,
         v,
@@ -83,6 +85,8 @@ pub fn first_broken(list: [u8; 4], l: &[u64], v: &[u64], n: usize) -> Outcome
         &mut hbs,
         &mut keys,
         &mut writes,
+        &mut reads,
+        &mut every,
     );
     for k in 0..4 {
         let number = list[k];
@@ -103,6 +107,8 @@ pub fn first_broken(list: [u8; 4], l: &[u64], v: &[u64], n: usize) -> Outcome
             &hbs,
             &keys,
             &writes,
+            &reads,
+            &every,
         );
         if let Verdict::Broken(a, b) = found {
             return Outcome::BrokenAt(number as usize, a, b);

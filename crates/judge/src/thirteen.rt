@@ -32,6 +32,8 @@ pub fn verdicts(l: &[u64], v: &[u64], n: usize) -> [u64; 13]
     let mut hbs = [0u64; 1024];
     let mut keys = [0u64; 1024];
     let mut writes = [0u64; 4];
+    let mut reads = [0u64; 4];
+    let mut every = [0u64; 4];
     prepared::prepare(
         l,
         v,
@@ -44,6 +46,8 @@ pub fn verdicts(l: &[u64], v: &[u64], n: usize) -> [u64; 13]
         &mut hbs,
         &mut keys,
         &mut writes,
+        &mut reads,
+        &mut every,
     );
     let mut answers = [0u64; 13];
     for k in 0..13 {
@@ -61,6 +65,8 @@ pub fn verdicts(l: &[u64], v: &[u64], n: usize) -> [u64; 13]
             &hbs,
             &keys,
             &writes,
+            &reads,
+            &every,
         );
         answers[k] = pack(found);
     }

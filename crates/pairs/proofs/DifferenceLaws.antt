@@ -1,24 +1,21 @@
 -- Laws of rows that tell two relations apart: what exactly one of two rows has, a row cut to one object, and the events for which two relations
 -- differ anywhere. Assumes nothing.
 use mathlib.Core.Path.{_≡_, refl, sym, ap, ap₂, _∙_, subst}
-use mathlib.Core.Logic.{_≢_}
-use mathlib.Core.Bool.{Bool, true, false, not, _&&_, _||_, or-false, and-false, Bool·beq}
+use mathlib.Core.Bool.{Bool, true, false, not, _&&_, _||_, and-false, Bool·beq}
 use mathlib.Core.List.{List, _++_}
-use Prim.Native.Nat.{ℕ, _+_, _*_, _/_, _%_, _^_, _≤_, _<_}
+use Prim.Native.Nat.{ℕ, _+_, _*_, _^_, _≤_, _<_}
 use native.Mathlib.Numerals.{add-one}
 use native.Mathlib.Omega.{arith}
-use borrow.Author.Tests.{ltb-true, ltb-false}
 use lib.Dec.{eqb, ltb}
 use lib.Bits.{bitOr}
-use lib.ListN.{length, getD, set, drop, replicate, length-set}
-use lib.Seq.{getD-set-same, getD-set-other}
+use lib.ListN.{length, getD, drop, replicate}
 use Rattle.rows.specs.Lowest.{some}
 use Rattle.rows.specs.Row.{bitOf, has, orRow, andRow, rowAt, Row}
 use Rattle.rows.specs.Relation.{Rel, Table}
 use Rattle.rows.proofs.Tests.{split, and-right}
-use Rattle.rows.proofs.Digits.{bit-or, bit-minus}
+use Rattle.rows.proofs.Digits.{bit-or}
 use Rattle.rows.proofs.LowestLaws.{some-more, some-none, none-some}
-use Rattle.rows.proofs.RowLaws.{lacking, has-past, length-and, row-empty, row-has, row-same, row-or, row-and}
+use Rattle.rows.proofs.RowLaws.{lacking, only-word, has-past, length-and, row-empty, row-has, row-same, row-or, row-and}
 use Rattle.rows.proofs.TableLaws.{row-room, length-row, row-copied}
 use Rattle.record.specs.History.{History, vis}
 use Rattle.record.specs.Words.{objectIn, historyFrom}
@@ -38,55 +35,13 @@ differ-parts true false = refl
 differ-parts false true = refl
 differ-parts false false = refl
 
--- the first i words of d have what they had in d₀, and what exactly one of a and b has
-pub record Joining (a b d₀ : List ℕ) (i : ℕ) (d : List ℕ) : Type 0 where
-  pub size : length d ≡ length d₀
-  pub done : (x : ℕ) → x < 64 * i → has d x ≡ has d₀ x || differ (has a x) (has b x)
-  pub kept : (x : ℕ) → 64 * i ≤ x → has d x ≡ has d₀ x
+pub differ-word : (a b : List ℕ) (i : ℕ) → getD a i 0 < 2 ^ 64 → getD b i 0 < 2 ^ 64 → (k : ℕ) → k < 64
+    → differ (has a (i * 64 + k)) (has b (i * 64 + k)) ≡ bitOf (bitOr (lacking a b i) (lacking b a i)) k
+differ-word a b i p q k h =
+    sym (bit-or (lacking a b i) (lacking b a i) k ∙ sym (ap₂ _||_ (only-word a b i q k h) (only-word b a i p k h)) ∙ differ-parts (has a (i * 64 + k)) (has b (i * 64 + k)))
 
-module _ (a b d₀ : List ℕ) where
-  pub joining-none : Joining a b d₀ 0 d₀
-  joining-none = record { size = refl; done = λ x h. absurd (omega arith); kept = λ x h. refl }
-
-  module _ (i : ℕ) (d : List ℕ) (j : Joining a b d₀ i d) where
-    pub joining-all : length a ≡ length d₀ → length b ≡ length d₀ → length d₀ ≤ i → (x : ℕ) → has d x ≡ has d₀ x || differ (has a x) (has b x)
-    joining-all p q h x = split (ltb x (64 * i)) (λ t. j .done x (ltb-true x (64 * i) t)) past
-      where
-        past : ltb x (64 * i) ≡ false → has d x ≡ has d₀ x || differ (has a x) (has b x)
-        past t =
-            let far : 64 * i ≤ x = ltb-false x (64 * i) t in
-            j .kept x far ∙ sym (or-false (has d₀ x))
-            ∙ ap₂ (λ (u v : Bool). has d₀ x || differ u v) (sym (has-past a x (omega arith))) (sym (has-past b x (omega arith)))
-
-    module _ (d' : List ℕ) (within : i < length d₀) (fits-a : getD a i 0 < 2 ^ 64) (fits-b : getD b i 0 < 2 ^ 64)
-        (stored : d' ≡ set d i (bitOr (getD d i 0) (bitOr (lacking a b i) (lacking b a i)))) where
-      here : (x : ℕ) → x / 64 ≡ i → has d' x ≡ has d x || differ (has a x) (has b x)
-      unfolding has
-      here x q =
-          let k : ℕ = x % 64 in
-          rw (q, stored)
-          (ap (λ (y : ℕ). bitOf y k) (getD-set-same d i (bitOr (getD d i 0) (bitOr (lacking a b i) (lacking b a i))) 0 (omega (arith, j .size)))
-          ∙ bit-or (getD d i 0) (bitOr (lacking a b i) (lacking b a i)) k
-          ∙ ap (λ (t : Bool). bitOf (getD d i 0) k || t)
-          (bit-or (lacking a b i) (lacking b a i) k
-          ∙ ap₂ _||_ (bit-minus 64 (getD a i 0) (getD b i 0) k (omega arith) fits-b) (bit-minus 64 (getD b i 0) (getD a i 0) k (omega arith) fits-a)
-          ∙ differ-parts (bitOf (getD a i 0) k) (bitOf (getD b i 0) k)))
-
-      elsewhere : (x : ℕ) → x / 64 ≢ i → has d' x ≡ has d x
-      unfolding has
-      elsewhere x ne = ap (λ (y : ℕ). bitOf y (x % 64))
-          (ap (λ (r : List ℕ). getD r (x / 64) 0) stored ∙ getD-set-other d i (x / 64) (bitOr (getD d i 0) (bitOr (lacking a b i) (lacking b a i))) 0 ne)
-
-      pub joining-more : Joining a b d₀ (i + 1) d'
-      joining-more = record {
-        size = ap length stored ∙ length-set d i (bitOr (getD d i 0) (bitOr (lacking a b i) (lacking b a i))) ∙ j .size;
-        done = λ x h. split (ltb x (64 * i))
-            (λ t. let l : x < 64 * i = ltb-true x (64 * i) t in elsewhere x (λ q. omega arith) ∙ j .done x l)
-            (λ t.
-            let l : 64 * i ≤ x = ltb-false x (64 * i) t in
-            here x (omega arith) ∙ ap (λ (u : Bool). u || differ (has a x) (has b x)) (j .kept x l));
-        kept = λ x h. elsewhere x (λ q. omega arith) ∙ j .kept x (omega arith);
-      }
+pub differ-past : (a b : List ℕ) (x : ℕ) → 64 * length a ≤ x → 64 * length b ≤ x → differ (has a x) (has b x) ≡ false
+differ-past a b x p q = ap₂ differ (has-past a x p) (has-past b x q)
 
 -- ---- row b of a table g is copied over l, which gives m, and is cut to the row of b's object
 

@@ -1,51 +1,112 @@
--- Laws of inclusions between tables of rows: what a column of the two tables says, and that tables which hold relations speak of those. Assumes nothing.
+-- Laws of inclusions between tables of rows: the row of the events that begin a breaking pair tells the first pair, and tables which hold relations speak of
+-- those. Assumes nothing.
 use mathlib.Core.Path.{_≡_, refl, sym, ap, ap₂, _∙_}
-use mathlib.Core.Bool.{Bool, true, false, not, _&&_, and-false}
-use mathlib.Core.List.{List, _++_}
-use Prim.Native.Nat.{ℕ, _+_, _*_, _≤_}
+use mathlib.Core.Bool.{Bool, true, false, not, _&&_, _||_, or-false, and-false}
+use mathlib.Core.List.{List}
+use Prim.Native.Nat.{ℕ, suc, _+_, _<_, _≤_}
 use native.Mathlib.Omega.{arith}
-use lib.ListN.{length, drop}
-use Rattle.rows.specs.Lowest.{lowest}
-use Rattle.rows.specs.Row.{has, andRow, onlyFirst, rowAt, Row}
+use lib.ListN.{replicate}
+use Rattle.rows.specs.Lowest.{lowest, some}
+use Rattle.rows.specs.Row.{has, rowAt, Row}
 use Rattle.rows.specs.Relation.{Rel, related, Table}
-use Rattle.rows.proofs.RowLaws.{has-and, length-and, row-has}
-use Rattle.rows.proofs.TableLaws.{length-row}
+use Rattle.rows.proofs.Tests.{and-both, and-left}
+use Rattle.rows.proofs.RowLaws.{has-cleared, row-has}
+use Rattle.rows.proofs.LowestLaws.{lowest-low, same-lowest, some-at, some-none, none-some, some-more}
+use Rattle.consistency.specs.FirstPair.{first}
 use Rattle.consistency.specs.Relations.{from, to}
 use Rattle.consistency.specs.Predicates.{outside}
-use Rattle.consistency.proofs.FirstPairLaws.{Alike}
-use Rattle.tables.proofs.SliceLaws.{sliceAt, slice-row, length-slice, copy-over}
-use Rattle.pairs.proofs.BestPair.{Column, lowest-column}
+use Rattle.consistency.specs.declared.Verdict.the-variants.{Met, Broken}
+use Rattle.consistency.proofs.FirstPairLaws.{Alike, first-at, first-none}
+use Rattle.tables.proofs.SliceLaws.{sliceAt, slice-row}
+use Rattle.pairs.specs.Searches.{lacks}
 
--- the pairs of q, from a member of starts to one of ends, that r lacks, as rows of w words have them
-abbrev pub lacks : ℕ → List ℕ → List ℕ → List ℕ → List ℕ → Rel
-lacks w q starts ends r = outside (from (has starts) (to (has ends) (related q w))) (related r w)
+-- the row h has the events from which f has a pair to one of n
+module _ (n m : ℕ) (f : Rel) (h : ℕ → Bool) (e : (x : ℕ) → h x ≡ some n (f x)) (wide : n ≤ m) (a : ℕ) (l : a ≡ lowest m h) where
+  below-none : (x y : ℕ) → x < a → y < n → f x y ≡ false
+  below-none x y i j = some-none n (f x) (sym (e x) ∙ lowest-low m h .below x (omega arith)) y j
 
-module _ (w : ℕ) (q starts ends r : List ℕ) (b : ℕ) where
-  -- b ends no pair
-  pub lacks-none : has ends b ≡ false → (a : ℕ) → lacks w q starts ends r a b ≡ false
-  lacks-none e a = rw (e, and-false (has starts a))
+  -- its lowest is past all events
+  pub row-met : n ≤ a → first n f ≡ Met
+  row-met past = first-none n f (λ x y i j. below-none x y (omega (arith, i)) j)
 
-  -- the row of those that start a pair to b
-  lacks-only : has ends b ≡ true → length (rowAt q w b) ≤ length starts → (a : ℕ) → onlyFirst (andRow (rowAt q w b) starts) (rowAt r w b) a ≡ lacks w q starts ends r a b
-  lacks-only e h a =
-      ap (λ (t : Bool). t && not (has (rowAt r w b) a)) (has-and (rowAt q w b) starts a h ∙ swap (has (rowAt q w b) a) (has starts a) (has ends b) e)
+  -- some event ends a pair that its lowest begins
+  pub row-any : a < n → (lowest n (f a) < n) × (f a (lowest n (f a)) ≡ true)
+  row-any i = some-at n (f a) (sym (e a) ∙ ap h l ∙ lowest-low m h .at (omega arith))
+
+  -- b is the lowest of those
+  pub row-broken : a < n → (b : ℕ) → b ≡ lowest n (f a) → first n f ≡ Broken a b
+  row-broken i b q =
+      let w = row-any i in
+      first-at n f a b (record {
+        left = i;
+        right = omega (arith, w .0);
+        holds = ap (f a) q ∙ w .1;
+        least-a = below-none;
+        least-b = λ y j. lowest-low n (f a) .below y (omega arith);
+      })
+
+module _ (w : ℕ) (q starts ends r : List ℕ) where
+  -- a cleared row, before the first
+  pub collected-none : (k : ℕ) (l : List ℕ) → l ≡ replicate k 0 → (a : ℕ) → has l a ≡ some 0 (lacks w q starts ends r a)
+  collected-none k l e a = ap (λ (m : List ℕ). has m a) e ∙ has-cleared k a ∙ sym (none-some 0 (lacks w q starts ends r a) (λ j h. absurd (omega arith)))
+
+  -- one row more, of an event that may end a pair
+  pub collected-more : (b : ℕ) (l m : List ℕ) → ((a : ℕ) → has l a ≡ some b (lacks w q starts ends r a)) → has ends b ≡ true
+      → ((a : ℕ) → has m a ≡ has l a || (has (sliceAt q w b) a && (has starts a && not (has (sliceAt r w b) a))))
+      → (a : ℕ) → has m a ≡ some (b + 1) (lacks w q starts ends r a)
+  collected-more b l m i e j a =
+      let one : b + 1 ≡ suc b = omega arith in
+      j a
+      ∙ ap₂ _||_ (i a) (ap₂ (λ (x y : List ℕ). has x a && (has starts a && not (has y a))) (slice-row q w b) (slice-row r w b) ∙ turned (related q w a b) (has starts a) (has ends b) (not (related r w a b)) e)
+      ∙ sym (some-more b (lacks w q starts ends r a))
+      ∙ ap (λ (k : ℕ). some k (lacks w q starts ends r a)) (sym one)
     where
-      swap : (s t u : Bool) → u ≡ true → s && t ≡ t && (u && s)
-      swap true true u f = sym (ap (λ (x : Bool). x && true) f)
-      swap true false u f = refl
-      swap false true u f = sym (and-false u)
-      swap false false u f = refl
+      turned : (x s t y : Bool) → t ≡ true → x && (s && y) ≡ (s && (t && x)) && y
+      turned true true t y f = sym (ap (λ (u : Bool). (u && true) && y) f)
+      turned true false t y f = refl
+      turned false true t y f = sym (ap (λ (u : Bool). u && y) (and-false t))
+      turned false false t y f = refl
 
-  -- row b of q is copied over l, which gives m, of which the members of starts stay, which gives k: a is the lowest of those that row b of r lacks
-  pub lacks-column : (n : ℕ) (l m k : List ℕ) (t : Bool) (a : ℕ) → n ≤ 64 * w → length l ≡ w → length starts ≡ w → b * w + w ≤ length q → t ≡ has ends b → t ≡ true
-      → m ≡ sliceAt q w b ++ drop (length (sliceAt q w b)) l → k ≡ andRow m starts → a ≡ lowest (64 * length k) (onlyFirst k (sliceAt r w b))
-      → Column n (lacks w q starts ends r) b a
-  lacks-column n l m k t a wide el es room e u em ek ea =
-      let row : m ≡ rowAt q w b = em ∙ copy-over (sliceAt q w b) l (length-slice q w b room ∙ sym el) ∙ slice-row q w b in
-      let kept : k ≡ andRow (rowAt q w b) starts = ek ∙ ap (λ (x : List ℕ). andRow x starts) row in
-      let size : length k ≡ w = ap length kept ∙ length-and (rowAt q w b) starts ∙ length-row q w b room in
-      lowest-column n (64 * length k) (lacks w q starts ends r) b (onlyFirst k (sliceAt r w b)) a (omega arith) ea
-      (λ x. ap₂ (λ (y z : List ℕ). onlyFirst y z x) kept (slice-row r w b) ∙ lacks-only (sym e ∙ u) (omega (arith, length-row q w b room)) x)
+  -- or of another
+  pub collected-skip : (b : ℕ) (l : List ℕ) → ((a : ℕ) → has l a ≡ some b (lacks w q starts ends r a)) → has ends b ≡ false → (a : ℕ) → has l a ≡ some (b + 1) (lacks w q starts ends r a)
+  collected-skip b l i e a =
+      let one : b + 1 ≡ suc b = omega arith in
+      i a
+      ∙ sym (or-false (some b (lacks w q starts ends r a)))
+      ∙ ap (λ (t : Bool). some b (lacks w q starts ends r a) || t) (sym (none (has starts a) (has ends b) (related q w a b) (not (related r w a b)) e))
+      ∙ sym (some-more b (lacks w q starts ends r a))
+      ∙ ap (λ (k : ℕ). some k (lacks w q starts ends r a)) (sym one)
+    where
+      none : (s t x y : Bool) → t ≡ false → (s && (t && x)) && y ≡ false
+      none s t x y f = rw (f, and-false s)
+
+  -- what begins a pair is in starts, so that its lowest end is found without asking; v is the width as the code has it
+  pub lowest-end : (n a v b : ℕ) → v ≡ w → b ≡ lowest n (outside (to (has ends) (related q v)) (related r v) a) → lacks w q starts ends r a (lowest n (lacks w q starts ends r a)) ≡ true
+      → b ≡ lowest n (lacks w q starts ends r a)
+  lowest-end n a v b same f e =
+      let c = lowest n (lacks w q starts ends r a) in
+      let s : has starts a ≡ true = and-left (has starts a) (has ends c && related q w a c) (and-left (has starts a && (has ends c && related q w a c)) (not (related r w a c)) e) in
+      f
+      ∙ ap (λ (k : ℕ). lowest n (outside (to (has ends) (related q k)) (related r k) a)) same
+      ∙ same-lowest n _ (lacks w q starts ends r a) (λ k h. sym (ap (λ (t : Bool). (t && (has ends k && related q w a k)) && not (related r w a k)) s))
+
+-- b ends a pair from a that r lacks, as the code asks
+module _ (w : ℕ) (q ends r : List ℕ) (a b : ℕ) where
+  ended : outside (to (has ends) (related q w)) (related r w) a b ≡ (has ends b && has (sliceAt q w b) a) && not (has (sliceAt r w b) a)
+  ended = sym (ap₂ (λ (x y : List ℕ). (has ends b && has x a) && not (has y a)) (slice-row q w b) (slice-row r w b))
+
+  pub end-hit : {s t u : Bool} → s ≡ has ends b → t ≡ has (sliceAt q w b) a → u ≡ has (sliceAt r w b) a → s ≡ true → t ≡ true → not u ≡ true
+      → outside (to (has ends) (related q w)) (related r w) a b ≡ true
+  end-hit {s} {t} {u} es et eu hs ht hu = ended ∙ sym (ap₂ (λ (x y : Bool). x && not y) (ap₂ _&&_ es et) eu) ∙ and-both (s && t) (not u) (and-both s t hs ht) hu
+
+  pub end-none : {s : Bool} → s ≡ has ends b → s ≡ false → outside (to (has ends) (related q w)) (related r w) a b ≡ false
+  end-none es hs = ap (λ (x : Bool). (x && related q w a b) && not (related r w a b)) (sym es ∙ hs)
+
+  pub end-before : {t : Bool} → t ≡ has (sliceAt q w b) a → t ≡ false → outside (to (has ends) (related q w)) (related r w) a b ≡ false
+  end-before et ht = ended ∙ ap (λ (x : Bool). (has ends b && x) && not (has (sliceAt r w b) a)) (sym et ∙ ht) ∙ ap (λ (x : Bool). x && not (has (sliceAt r w b) a)) (and-false (has ends b))
+
+  pub end-held : {u : Bool} → u ≡ has (sliceAt r w b) a → not u ≡ false → outside (to (has ends) (related q w)) (related r w) a b ≡ false
+  end-held eu hu = ended ∙ ap (λ (x : Bool). (has ends b && has (sliceAt q w b) a) && x) (ap not (sym eu) ∙ hu) ∙ and-false (has ends b && has (sliceAt q w b) a)
 
 -- tables and rows that hold relations and sets lack what those lack
 pub lacks-held : (n w : ℕ) (q starts ends r : List ℕ) (x y : Rel) (f g : ℕ → Bool) → Table n w x q → Table n w y r → Row n f starts → Row n g ends

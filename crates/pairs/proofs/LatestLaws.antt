@@ -11,12 +11,12 @@ use borrow.Author.Tests.{ltb-true, ltb-false, eqb-true, eq-eqb}
 use lib.Dec.{eqb, ltb}
 use lib.Count.{leadingZeros, leading-top}
 use lib.ListN.{length, getD, drop}
-use Rattle.rows.specs.Lowest.{lowest}
+use Rattle.rows.specs.Lowest.{lowest, highest}
 use Rattle.rows.specs.Row.{digit, bitOf, has, erase, andRow, onlyFirst, rowAt, Row}
 use Rattle.rows.specs.Relation.{Table}
 use Rattle.rows.proofs.Tests.{split, tell, never, and-right}
 use Rattle.rows.proofs.Digits.{digit-zero, digit-high, bit-one, bit-of-zero}
-use Rattle.rows.proofs.LowestLaws.{lowest-low}
+use Rattle.rows.proofs.LowestLaws.{lowest-low, highest-at, highest-past}
 use Rattle.rows.proofs.RowLaws.{lacking, only-word, only-none, only-some, has-past, has-erase, length-erase, length-and, row-has, row-in, row-same, row-and}
 use Rattle.rows.proofs.TableLaws.{row-room, length-row, row-copied}
 use Rattle.record.specs.History.{History, vis}
@@ -25,7 +25,7 @@ use Rattle.consistency.specs.Relations.{ob, ar}
 use Rattle.consistency.specs.Reads.{candidate, lastWrite}
 use Rattle.consistency.specs.Holds.{Distinct}
 use Rattle.tables.specs.Tables.{Given, fieldsOf, keyIn, KeyRows, Placed}
-use Rattle.pairs.specs.Searches.{Picked, Latest, LastBelow}
+use Rattle.pairs.specs.Searches.{Picked, Member, Latest, LastBelow}
 use Rattle.consistency.specs.declared.Last.{Last}
 use Rattle.consistency.specs.declared.Last.the-variants.{Nothing, At}
 use Rattle.tables.proofs.SliceLaws.{sliceAt, slice-row}
@@ -78,18 +78,31 @@ pub record Following (w : ℕ) (position : ℕ → ℕ) (s₀ s : List ℕ) (x :
   pub left : (y : ℕ) → has s y ≡ true → has s₀ y ≡ true
   pub passed : (y : ℕ) → has s₀ y ≡ true → has s y ≡ false → position y ≤ position x
 
--- x is the lowest member of s, or past n where there is none
-module _ (n w : ℕ) (position : ℕ → ℕ) (s : List ℕ) (x : ℕ) (size : length s ≡ w) (wide : n ≤ 64 * w) (least : x ≡ lowest (64 * length s) (has s)) where
-  pub following-start : x < n → Following w position s s x
-  following-start h = record {
-    wide = size;
-    member = ap (has s) least ∙ lowest-low (64 * length s) (has s) .at (omega arith);
-    left = λ y e. e;
-    passed = λ y e f. absurd (tell (has s y) e f);
-  }
+-- the highest member of s, or past n where there is none
+module _ (n : ℕ) (s : List ℕ) (x : ℕ) (wide : n ≤ 64 * length s) (inside : (y : ℕ) → has s y ≡ true → y < n) (most : x ≡ highest (64 * length s) (has s)) where
+  pub highest-none : n ≤ x → (y : ℕ) → has s y ≡ false
+  highest-none h y = split (ltb x (64 * length s))
+      (λ t. absurd (omega (arith, inside x (highest-at (64 * length s) (has s) x most (ltb-true x (64 * length s) t)))))
+      (λ t. never (has s y) (λ e. tell (has s y) e (highest-past (64 * length s) (has s) x most (ltb-false x (64 * length s) t) y (omega (arith, inside y e)))))
 
-  pub latest-none : ((y : ℕ) → has s y ≡ true → y < n) → n ≤ x → Latest position s Nothing
-  latest-none inside h y = never (has s y) (λ e. tell (has s y) e (lowest-low (64 * length s) (has s) .below y (omega (arith, inside y e))))
+  pub highest-member : x < n → has s x ≡ true
+  highest-member h = highest-at (64 * length s) (has s) x most (omega arith)
+
+  -- then the lowest is a member too
+  pub lowest-member : x < n → (y : ℕ) → y ≡ lowest (64 * length s) (has s) → has s y ≡ true
+  lowest-member h y e =
+      let low = lowest-low (64 * length s) (has s) in
+      ap (has s) e ∙ low .at (split (ltb (lowest (64 * length s) (has s)) (64 * length s)) (λ t. ltb-true _ _ t)
+      (λ t. absurd (tell (has s x) (highest-member h) (low .below x (omega (arith, ltb-false (lowest (64 * length s) (has s)) (64 * length s) t))))))
+
+-- the search starts at a member
+pub following-start : (n w : ℕ) (position : ℕ → ℕ) (s : List ℕ) (x : ℕ) → length s ≡ w → Member n s x → x < n → Following w position s s x
+following-start n w position s x size m h = record {
+  wide = size;
+  member = m .member h;
+  left = λ y e. e;
+  passed = λ y e f. absurd (tell (has s y) e f);
+}
 
 -- x is taken out of s, which gives s', and y is picked of those of s' that are not before x
 module _ (n w : ℕ) (l ars s₀ s s' : List ℕ) (x y : ℕ) (places : Placed n l) (table : Table n w (ar (fieldsOf l)) ars) (wide : n ≤ 64 * w)

@@ -1,7 +1,6 @@
 -- Laws that functions' proofs cite.
 pub mod EventLaws
 pub mod OrderLaws
-pub mod BestPair
 pub mod InclusionLaws
 pub mod DifferenceLaws
 pub mod LatestLaws

@@ -6,12 +6,20 @@ use Prim.Native.Nat.{ℕ, _*_, _<_, _≤_}
 use lib.ListN.{length}
 use Rattle.rows.specs.Lowest.{some}
 use Rattle.rows.specs.Row.{has, onlyFirst, Row}
-use Rattle.rows.specs.Relation.{Rel}
+use Rattle.rows.specs.Relation.{Rel, related}
 use Rattle.record.specs.History.{History, vis}
-use Rattle.consistency.specs.Relations.{ob, ar, both}
-use Rattle.consistency.specs.Predicates.{differ, misfit}
+use Rattle.consistency.specs.Relations.{ob, ar, from, to, both}
+use Rattle.consistency.specs.Predicates.{outside, differ, misfit}
 use Rattle.consistency.specs.declared.Last.{Last}
 use Rattle.consistency.specs.declared.Last.the-variants.{Nothing, At}
+
+-- the pairs of q, from a member of starts to one of ends, that r lacks, as rows of w words have them
+abbrev pub lacks : ℕ → List ℕ → List ℕ → List ℕ → List ℕ → Rel
+lacks w q starts ends r = outside (from (has starts) (to (has ends) (related q w))) (related r w)
+
+-- with `whole` all of n events are in ends
+abbrev pub Whole : Bool → ℕ → List ℕ → Type 0
+Whole whole n ends = whole ≡ true → (b : ℕ) → b < n → has ends b ≡ true
 
 -- the pairs of q, all of them or only those on one object
 abbrev pub cutTo : Bool → History → Rel → Rel
@@ -31,6 +39,11 @@ pub record Compared (n k : ℕ) (q r : Rel) (differing visible : List ℕ) : Typ
 abbrev pub LastBelow : ℕ → Last → Type 0
 LastBelow n Nothing = Unit
 LastBelow n (At w) = w < n
+
+-- x is a member of s, whose members are below n, or past n where there is none
+pub record Member (n : ℕ) (s : List ℕ) (x : ℕ) : Type 0 where
+  pub member : x < n → has s x ≡ true
+  pub none : n ≤ x → (y : ℕ) → has s y ≡ false
 
 -- x is a member of a that b lacks, or past the row where there is none
 pub record Picked (a b : List ℕ) (x : ℕ) : Type 0 where

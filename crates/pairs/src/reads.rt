@@ -13,7 +13,7 @@ ghost use Rattle.consistency.specs.FirstPair.{first};
 ghost use Rattle.consistency.specs.Relations.{ar};
 ghost use Rattle.consistency.specs.Reads.{lastWrite, leftBy, held, sameHeld, lastOr, wrong};
 ghost use Rattle.tables.specs.Tables.{Given, fieldsOf, keyIn, KeyRows, Room, Placed};
-ghost use Rattle.pairs.specs.Searches.{Picked, Latest, LastBelow};
+ghost use Rattle.pairs.specs.Searches.{Picked, Member, Latest, LastBelow};
 
 // A member of `a` that `b` lacks, or the first number past the row where there is none. The search starts at the end, where later events mostly stand.
 pub fn pick_difference(a: &[u64], b: &[u64]) -> usize
@@ -31,13 +31,32 @@ pub fn pick_difference(a: &[u64], b: &[u64]) -> usize
     a.len() * 64
 }
 
-// The last in ar of the events in `seen`: from one of them on to one that is later, as long as there is any.
+// A member of `seen` that likely is the last in ar: the highest, or the lowest where that is later. Past n where there is none.
+pub fn likely_last(n: usize, w: usize, ars: &[u64], seen: &[u64]) -> usize
+    requires { ⌜ Room n w (now ars) × (n ≤ 64 * w) × (64 * w < 2 ^ 64) ⌝ }
+    requires { ⌜ (length (now seen) ≡ w) × ((x : ℕ) → has (now seen) x ≡ true → x < n) ⌝ }
+    ensures { λ r. ⌜ Member n (now (seen .entry)) r ⌝ }
+{
+    let high = rows::highest(seen);
+    if n <= high {
+        return high;
+    }
+    let low = rows::lowest(seen);
+    let at = low * w;
+    let end = at + w;
+    if rows::test(&ars[at..end], high) {
+        return low;
+    }
+    high
+}
+
+// The last in ar of the events in `seen`: from one that likely is it on to one that is later, as long as there is any.
 pub fn last_of(l: &[u64], n: usize, w: usize, ars: &[u64], seen: &mut [u64]) -> Last
     requires { ⌜ Placed n (now l) × Table n w (ar (fieldsOf (now l))) (now ars) × Room n w (now ars) ⌝ }
     requires { ⌜ (n ≤ 64 * w) × (64 * w < 2 ^ 64) × (length (now seen) ≡ w) × ((x : ℕ) → has (now seen) x ≡ true → x < n) ⌝ }
     ensures { λ r. ⌜ Latest (positionIn (now (l .entry))) (now (seen .entry)) r ⌝ }
 {
-    let mut x = rows::lowest(seen);
+    let mut x = likely_last(n, w, ars, seen);
     if n <= x {
         return Last::Nothing;
     }

@@ -59,7 +59,9 @@ pub fn ask(table: &[u64], n: usize) -> Reading
     if set < n {
         return Reading::WrongSet(set);
     }
-    let ring = reach::lowest_on_ring(table, n, &mut found, &mut done);
+    let mut settled = [0u64; 4];
+    let mut path = [0u64; 256];
+    let ring = reach::lowest_on_ring(table, n, &mut found, &mut done, &mut settled, &mut path);
     if ring < n {
         return Reading::OnRing(ring);
     }

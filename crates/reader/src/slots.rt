@@ -4,7 +4,7 @@ use record::layout;
 use rows::octets;
 ghost use mathlib.Core.Path.{_≡_};
 ghost use mathlib.Core.Bool.{not};
-ghost use Prim.Native.Nat.{_+_, _*_, _-_, _/_, _≤_, _<_};
+ghost use Prim.Native.Nat.{ℕ, _+_, _*_, _-_, _/_, _≤_, _<_};
 ghost use lib.ListN.{length};
 ghost use Rattle.rows.specs.Lowest.{lowest};
 ghost use Rattle.record.specs.Layout.{gcr1, countIn, slotAt};
@@ -84,23 +84,24 @@ pub fn event_holds(s: &[u8], at: usize) -> bool
     gaps_hold(s, at)
 }
 
-// The bytes after the last slot of a block, where e is that slot.
-pub fn tail_holds(s: &[u8], e: usize) -> bool
-    requires { ⌜ 512 * (1 + e / 7) + 512 ≤ length (now s) ⌝ }
-    ensures { λ r. ⌜ r ≡ tailRight gcr1 (now (s .entry)) e ⌝ }
+// The bytes after the last slot of a block, where the slot at `at` is that one.
+pub fn tail_holds(s: &[u8], at: usize) -> bool
+    requires { ⌜ at + 128 ≤ length (now s) ⌝ }
+    ensures { λ r. ⌜ ((e : ℕ) → at ≡ slotAt gcr1 e → r ≡ tailRight gcr1 (now (s .entry)) e) ⌝ }
 {
-    if e % 7 != 6 {
+    if at % 512 != 384 {
         return true;
     }
-    layout::is_zero(s, 512 * (1 + e / 7) + 448, 60)
+    layout::is_zero(s, at + 64, 60)
 }
 
-pub fn slot_holds(s: &[u8], n: usize, e: usize) -> bool
+// Slot e, which starts at `at`.
+pub fn slot_holds(s: &[u8], n: usize, e: usize, at: usize) -> bool
     requires { ⌜ n ≡ countIn (now s) ⌝ }
+    requires { ⌜ at ≡ slotAt gcr1 e ⌝ }
     requires { ⌜ 512 * (1 + e / 7) + 512 ≤ length (now s) ⌝ }
     ensures { λ r. ⌜ r ≡ slotRight gcr1 (now (s .entry)) e ⌝ }
 {
-    let at = layout::slot_at(e);
     if e < n {
         if !event_holds(s, at) {
             return false;
@@ -110,7 +111,7 @@ pub fn slot_holds(s: &[u8], n: usize, e: usize) -> bool
             return false;
         }
     }
-    tail_holds(s, e)
+    tail_holds(s, at)
 }
 
 // The lowest slot that is not as laid out, or the number of slots.
@@ -120,10 +121,12 @@ pub fn wrong_slot(s: &[u8], n: usize) -> usize
     ensures { λ r. ⌜ r ≡ lowest (slotsIn gcr1 (now (s .entry))) (λ e. not (slotRight gcr1 (now (s .entry)) e)) ⌝ }
 {
     let slots = 7 * (s.len() / 512 - 1);
+    let mut at: usize = 512;
     for e in 0..slots {
-        if !slot_holds(s, n, e) {
+        if !slot_holds(s, n, e, at) {
             return e;
         }
+        at = layout::next_slot(at);
     }
     slots
 }

@@ -15,9 +15,11 @@ pub fn load(s: &[u8], n: usize, off: usize, w: usize, out: &mut [u64])
     requires { ⌜ n * w ≤ length (now out) ⌝ }
     ensures { λ _. ⌜ now (out .exit) ≡ slotWords gcr1 off w (now (s .entry)) n ++ drop (n * w) (now (out .entry)) ⌝ }
 {
+    let mut slot: usize = 512;
     for e in 0..n {
         let at = e * w;
         let end = at + w;
-        octets::load(&mut out[at..end], s, layout::slot_at(e) + off);
+        octets::load(&mut out[at..end], s, slot + off);
+        slot = layout::next_slot(slot);
     }
 }

@@ -5,7 +5,7 @@ use Prim.Native.Nat.{ℕ}
 use lib.ListN.{replicate}
 use Rattle.rows.specs.Row.{digit, bitOf}
 use Rattle.rows.specs.Octets.{little, hasByte}
-use Rattle.rows.specs.Lowest.{search, lowest, some}
+use Rattle.rows.specs.Lowest.{searchFrom, lowest, some}
 use Rattle.rows.specs.Relation.{via, reaches}
 use Rattle.record.specs.Layout.{gcr1, zeros, same}
 use Rattle.record.specs.Blocks.{sumA, sumB, blockRight}
@@ -17,7 +17,7 @@ use Rattle.record.specs.declared.Reading.the-variants.{Passed, OnRing}
 
 -- the questions as one function: to unfold it is to unfold all that they ask
 unfoldable pub reader : List ℕ → Reading
-unfolding sumA sumB little digit bitOf hasByte search lowest some via reaches zeros same blockRight historyOf vis placeRight valueRight timesRight gapsRight eventRight tailRight slotRight lengthRight headerRight blocksRight wrongPosition wrongSet onRing byteQuestions setQuestions questions
+unfolding sumA sumB little digit bitOf hasByte searchFrom lowest some via reaches zeros same blockRight historyOf vis placeRight valueRight timesRight gapsRight eventRight tailRight slotRight lengthRight headerRight blocksRight wrongPosition wrongSet onRing byteQuestions setQuestions questions
 reader s = questions gcr1 s
 
 -- k zero bytes before the rest

@@ -1,35 +1,41 @@
 -- Laws of bytes that are zero, and of the four letters that begin a record. Assumes nothing.
-use mathlib.Core.Path.{_≡_, refl, ap}
-use mathlib.Core.Bool.{Bool, true, false, _&&_}
+use mathlib.Core.Path.{_≡_, ap, sym, _∙_}
+use mathlib.Core.Bool.{Bool, _&&_, and-true, and-assoc}
 use mathlib.Core.List.{List, [], _∷_}
-use Prim.Native.Nat.{ℕ, suc, _+_, _-_, _<_, _≤_}
+use Prim.Native.Nat.{ℕ, zero, suc, _+_, _-_, _<_, _≤_}
 use native.Mathlib.Nat.{sub-zero, add-zero}
 use native.Mathlib.Omega.{arith}
+use borrow.Author.Tests.{ne-eqb}
+use lib.Bits.{bitOr, or-zero-l, or-add-and, and-le-r}
 use lib.Dec.{eqb}
 use lib.ListN.{length, take}
 use Rattle.record.specs.Layout.{byte, zeros, same}
 
--- ---- a loop's turn: i bytes are passed, and k - i are left
+-- ---- a loop's turn: `all` is the bytes passed, put together, and k - i are left
 
-pub zeros-start : (k : ℕ) (s : List ℕ) (at : ℕ) → zeros k s at ≡ zeros (k - 0) s (at + 0)
+pub zeros-start : (k : ℕ) (s : List ℕ) (at : ℕ) → zeros k s at ≡ eqb 0 0 && zeros (k - 0) s (at + 0)
 zeros-start k s at = rw (sub-zero, add-zero)
 
-pub zeros-more : (k : ℕ) (s : List ℕ) (at i : ℕ) → i < k → zeros (k - i) s (at + i) ≡ eqb (byte s (at + i)) 0 && zeros (k - (i + 1)) s (at + (i + 1))
+-- numbers put together are 0 where both are
+or-none : (a b : ℕ) → eqb (bitOr a b) 0 ≡ eqb a 0 && eqb b 0
+or-none zero b = ap (λ (x : ℕ). eqb x 0) (or-zero-l b)
+or-none (suc a) b =
+    ne-eqb (bitOr (suc a) b) 0 (λ e. omega (arith, or-add-and (suc a) b, and-le-r (suc a) b))
+    ∙ ap (λ (t : Bool). t && eqb b 0) (sym (ne-eqb (suc a) 0 (λ e. omega arith)))
+
+pub zeros-more : (k : ℕ) (s : List ℕ) (at i all : ℕ) → i < k
+    → eqb all 0 && zeros (k - i) s (at + i) ≡ eqb (bitOr all (byte s (at + i))) 0 && zeros (k - (i + 1)) s (at + (i + 1))
 unfolding zeros
-zeros-more k s at i h =
+zeros-more k s at i all h =
     let left : k - i ≡ suc (k - (i + 1)) = omega arith in
     let next : at + i + 1 ≡ at + (i + 1) = omega arith in
-    rw (left, next)
+    rw (left, next, or-none, and-assoc)
 
-pub zeros-end : (k : ℕ) (s : List ℕ) (at i : ℕ) → k ≤ i → zeros (k - i) s (at + i) ≡ true
+pub zeros-end : (k : ℕ) (s : List ℕ) (at i all : ℕ) → k ≤ i → eqb all 0 && zeros (k - i) s (at + i) ≡ eqb all 0
 unfolding zeros
-zeros-end k s at i h = let none : k - i ≡ 0 = omega arith in rw none
+zeros-end k s at i all h = let none : k - i ≡ 0 = omega arith in rw (none, and-true)
 
 -- ---- the letters
-
-and-true : (b : Bool) → b && true ≡ b
-and-true true = refl
-and-true false = refl
 
 -- four bytes compared with four letters, one after the other
 pub same-four : (s : List ℕ) (a b c d : ℕ) → 4 ≤ length s

@@ -1,6 +1,6 @@
 // Where things stand in a record of edition `GCR1`.
 ghost use mathlib.Core.Path.{_≡_};
-ghost use Prim.Native.Nat.{_+_, _≤_, _<_, _^_};
+ghost use Prim.Native.Nat.{ℕ, _+_, _≤_, _<_, _^_};
 ghost use lib.ListN.{length};
 ghost use Rattle.record.specs.Layout.{gcr1, slotAt, zeros};
 
@@ -13,15 +13,27 @@ pub fn slot_at(e: usize) -> usize
     512 * (1 + e / 7) + 64 * (e % 7)
 }
 
+// Where the slot after the one at `at` starts: 64 bytes on, or in the next block where those reach to this one's end.
+pub fn next_slot(at: usize) -> usize
+    requires { ⌜ at + 128 < 2 ^ 64 ⌝ }
+    ensures { λ r. ⌜ ((e : ℕ) → at ≡ slotAt gcr1 e → r ≡ slotAt gcr1 (e + 1)) ⌝ }
+{
+    let next = at + 64;
+    let block = (at + 128) / 512 * 512;
+    if next < block {
+        return block;
+    }
+    next
+}
+
 // Whether the k bytes from `at` on are zero.
 pub fn is_zero(s: &[u8], at: usize, k: usize) -> bool
     requires { ⌜ at + k ≤ length (now s) ⌝ }
     ensures { λ r. ⌜ r ≡ zeros k (now (s .entry)) at ⌝ }
 {
+    let mut all = 0;
     for i in 0..k {
-        if s[at + i] != 0 {
-            return false;
-        }
+        all |= s[at + i];
     }
-    true
+    all == 0
 }

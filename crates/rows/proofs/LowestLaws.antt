@@ -6,7 +6,7 @@ use native.Mathlib.Omega.{arith}
 use native.Mathlib.Nat.{le-refl}
 use lib.Dec.{ltb, leb}
 use borrow.Author.Tests.{ltb-true, ltb-false, lt-ltb, le-ltb, leb-true, leb-false}
-use Rattle.rows.specs.Lowest.{search, lowest, some, searchDown, highest}
+use Rattle.rows.specs.Lowest.{searchFrom, lowest, some, searchDown, highest}
 use Rattle.rows.proofs.Tests.{split, tell, same-test, or-elim, or-left, or-right, and-left, and-right}
 
 -- ---- what is known of the lowest, and that it is the only such number
@@ -23,12 +23,12 @@ record Run (f : ℕ → Bool) (k m r : ℕ) : Type 0 where
   below : (j : ℕ) → k ≤ j → j < r → f j ≡ false
   at : r < k + m → f r ≡ true
 
-search-run : (f : ℕ → Bool) (m k : ℕ) → Run f k m (search f k m)
-unfolding search
+search-run : (f : ℕ → Bool) (m k : ℕ) → Run f k m (searchFrom f k m)
+unfolding searchFrom
 search-run f zero k = record { from = le-refl k; within = omega arith; below = λ j h l. absurd (omega arith); at = λ l. absurd (omega arith) }
 search-run f (suc m) k = go (search-run f m (suc k)) (f k) refl
   where
-    go : Run f (suc k) m (search f (suc k) m) → (t : Bool) → f k ≡ t → Run f k (suc m) (cond t k (search f (suc k) m))
+    go : Run f (suc k) m (searchFrom f (suc k) m) → (t : Bool) → f k ≡ t → Run f k (suc m) (cond t k (searchFrom f (suc k) m))
     go r true e = record { from = le-refl k; within = omega arith; below = λ j h l. absurd (omega arith); at = λ l. e }
     go r false e = record {
       from = omega (arith, r .from);
@@ -75,32 +75,32 @@ same-lowest n f g e =
 
 -- ---- a loop's turn: i numbers are passed, and n - i are left
 
-pub search-start : (n : ℕ) (f : ℕ → Bool) → lowest n f ≡ search f 0 (n - 0)
+pub search-start : (n : ℕ) (f : ℕ → Bool) → lowest n f ≡ searchFrom f 0 (n - 0)
 unfolding lowest
-search-start n f = let z : n ≡ n - 0 = omega arith in ap (search f 0) z
+search-start n f = let z : n ≡ n - 0 = omega arith in ap (searchFrom f 0) z
 
-search-suc : (f : ℕ → Bool) (i m j n : ℕ) → n ≡ suc m → j ≡ suc i → f i ≡ false → search f i n ≡ search f j m
-unfolding search
+search-suc : (f : ℕ → Bool) (i m j n : ℕ) → n ≡ suc m → j ≡ suc i → f i ≡ false → searchFrom f i n ≡ searchFrom f j m
+unfolding searchFrom
 search-suc f i m j n p q e = rw (p, q, e)
 
-search-at : (f : ℕ → Bool) (i m n : ℕ) → n ≡ suc m → f i ≡ true → search f i n ≡ i
-unfolding search
+search-at : (f : ℕ → Bool) (i m n : ℕ) → n ≡ suc m → f i ≡ true → searchFrom f i n ≡ i
+unfolding searchFrom
 search-at f i m n p e = rw (p, e)
 
-pub search-more : (n : ℕ) (f : ℕ → Bool) (i : ℕ) → i < n → f i ≡ false → search f i (n - i) ≡ search f (i + 1) (n - (i + 1))
+pub search-more : (n : ℕ) (f : ℕ → Bool) (i : ℕ) → i < n → f i ≡ false → searchFrom f i (n - i) ≡ searchFrom f (i + 1) (n - (i + 1))
 search-more n f i h e = search-suc f i (n - (i + 1)) (i + 1) (n - i) (omega arith) (omega arith) e
 
-pub search-hit : (n : ℕ) (f : ℕ → Bool) (i : ℕ) → i < n → f i ≡ true → search f i (n - i) ≡ i
+pub search-hit : (n : ℕ) (f : ℕ → Bool) (i : ℕ) → i < n → f i ≡ true → searchFrom f i (n - i) ≡ i
 search-hit n f i h e = search-at f i (n - (i + 1)) (n - i) (omega arith) e
 
-pub search-end : (n : ℕ) (f : ℕ → Bool) (i : ℕ) → n ≤ i → search f i (n - i) ≡ i
-unfolding search
+pub search-end : (n : ℕ) (f : ℕ → Bool) (i : ℕ) → n ≤ i → searchFrom f i (n - i) ≡ i
+unfolding searchFrom
 search-end n f i h = let z : n - i ≡ 0 = omega arith in rw z
 
 -- the same as a loop's invariant
 pub record Searched (n : ℕ) (f : ℕ → Bool) (i : ℕ) : Type 0 where
   pub within : i ≤ n
-  pub left : lowest n f ≡ search f i (n - i)
+  pub left : lowest n f ≡ searchFrom f i (n - i)
 
 pub searched-start : (n : ℕ) (f : ℕ → Bool) → Searched n f 0
 searched-start n f = record { within = omega arith; left = search-start n f }
@@ -191,17 +191,16 @@ module _ (m n : ℕ) (f g : ℕ → Bool) (wide : n ≤ m) (cut : (x : ℕ) → 
 -- what is known of the highest of the numbers below k
 record Down (f : ℕ → Bool) (n k r : ℕ) : Type 0 where
   at : r < n → f r ≡ true
-  above : (j : ℕ) → r < j → j < k → f j ≡ false
   none : n ≤ r → (j : ℕ) → j < k → f j ≡ false
 
 search-down : (f : ℕ → Bool) (n k : ℕ) → k ≤ n → Down f n k (searchDown f n k)
 unfolding searchDown
-search-down f n zero h = record { at = λ l. absurd (omega arith); above = λ j p q. absurd (omega arith); none = λ p j q. absurd (omega arith) }
+search-down f n zero h = record { at = λ l. absurd (omega arith); none = λ p j q. absurd (omega arith) }
 search-down f n (suc k) h = go (search-down f n k (omega arith)) (f k) refl
   where
     go : Down f n k (searchDown f n k) → (t : Bool) → f k ≡ t → Down f n (suc k) (cond t k (searchDown f n k))
-    go r true e = record { at = λ l. e; above = λ j p q. absurd (omega arith); none = λ p j q. absurd (omega arith) }
-    go r false e = record { at = r .at; above = λ j p. below j (r .above j p); none = λ p j. below j (r .none p j) }
+    go r true e = record { at = λ l. e; none = λ p j q. absurd (omega arith) }
+    go r false e = record { at = r .at; none = λ p j. below j (r .none p j) }
       where
         below : (j : ℕ) → (j < k → f j ≡ false) → j < suc k → f j ≡ false
         below j g q = split (ltb j k) (λ t. g (ltb-true j k t)) (λ t. let i : j ≡ k = omega (arith, ltb-false j k t) in rw i e)
@@ -213,9 +212,6 @@ module _ (n : ℕ) (f : ℕ → Bool) (r : ℕ) (is : r ≡ highest n f) where
 
   pub highest-at : r < n → f r ≡ true
   highest-at = down .at
-
-  pub highest-above : (j : ℕ) → r < j → j < n → f j ≡ false
-  highest-above = down .above
 
   pub highest-past : n ≤ r → (j : ℕ) → j < n → f j ≡ false
   highest-past = down .none

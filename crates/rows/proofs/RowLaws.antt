@@ -96,6 +96,9 @@ pub has-within : (l : List ℕ) (b : ℕ) → has l b ≡ true → b < 64 * leng
 has-within l b e = split (ltb b (64 * length l)) (λ t. ltb-true b (64 * length l) t)
     (λ t. absurd (tell (has l b) e (has-past l b (ltb-false b (64 * length l) t))))
 
+pub none-within : (l : List ℕ) → ((b : ℕ) → b < 64 * length l → has l b ≡ false) → (b : ℕ) → has l b ≡ false
+none-within l none b = split (ltb b (64 * length l)) (λ t. none b (ltb-true b (64 * length l) t)) (λ t. has-past l b (ltb-false b (64 * length l) t))
+
 replicate-zero : (n i : ℕ) → getD {A = ℕ} (replicate n 0) i 0 ≡ 0
 replicate-zero zero i = refl
 replicate-zero (suc n) zero = refl
@@ -173,9 +176,6 @@ length-or l m = ap length (or-merge l m) ∙ length-merge bitOr l m
 pub length-and : (l m : List ℕ) → length (andRow l m) ≡ length l
 length-and l m = ap length (and-merge l m) ∙ length-merge bitAnd l m
 
-pub length-minus : (l m : List ℕ) → length (minusRow l m) ≡ length l
-length-minus l m = ap length (minus-merge l m) ∙ length-merge andNot l m
-
 pub getD-or : (l m : List ℕ) (i : ℕ) → length m ≤ length l → getD (orRow l m) i 0 ≡ bitOr (getD l i 0) (getD m i 0)
 getD-or l m i h = ap (λ (r : List ℕ). getD r i 0) (or-merge l m) ∙ elim (decLt i (length m)) [
   | yes k ↦ getD-merge bitOr l m i (omega arith) k
@@ -236,18 +236,6 @@ count-insert l b h e =
 pub count-le : (l : List ℕ) → ((i : ℕ) → getD l i 0 < 2 ^ 64) → countRow l ≤ 64 * length l
 count-le [] w = omega arith
 count-le (x ∷ l) w = omega (arith, ones-le 64 x (w 0), count-le l (λ i. w (suc i)))
-
-count-suc : (l : List ℕ) (i : ℕ) → i < length l → countRow (take (suc i) l) ≡ countRow (take i l) + ones (getD l i 0)
-count-suc [] i h = absurd (not-suc-le-zero h)
-count-suc (x ∷ l) zero h = omega arith
-count-suc (x ∷ l) (suc i) h = omega (arith, count-suc l i (le-of-suc-le-suc h))
-
--- a loop over the words: one more, all
-pub count-more : (l : List ℕ) (i : ℕ) → i < length l → countRow (take (i + 1) l) ≡ countRow (take i l) + ones (getD l i 0)
-count-more l i h = rw add-one (count-suc l i h)
-
-pub count-all : (l : List ℕ) (i : ℕ) → length l ≤ i → countRow (take i l) ≡ countRow l
-count-all l i h = ap countRow (take-all i l h)
 
 -- ---- the lowest number at which f holds, by a loop over words: x is f's word i, and f holds nowhere before it
 
@@ -323,6 +311,10 @@ pub only-lowest : (l m : List ℕ) (n x : ℕ) → x ≡ lowest n (onlyFirst l m
 only-lowest l m n x e h =
     let k : lowest n (onlyFirst l m) < n = omega arith in
     only-some l m x (ap (onlyFirst l m) e ∙ lowest-low n (onlyFirst l m) .at k)
+
+-- and what l has below that
+pub only-below : (l m : List ℕ) (n x : ℕ) → x ≡ lowest n (onlyFirst l m) → (y : ℕ) → y < x → has l y ≡ true → has m y ≡ true
+only-below l m n x e y h t = only-none l m y (lowest-low n (onlyFirst l m) .below y (omega arith)) t
 
 -- l lies within m
 pub subset-has : (l m : List ℕ) → not (some (64 * length l) (onlyFirst l m)) ≡ true → (x : ℕ) → has l x ≡ true → has m x ≡ true

@@ -4,14 +4,14 @@ use Prim.Native.Nat.{ℕ, zero, suc}
 use lib.Dec.{ltb}
 
 -- the lowest of the m numbers from k on at which f holds, or the number after them
-unfoldable pub search : (ℕ → Bool) → ℕ → ℕ → ℕ
-search f k zero = k
-search f k (suc m) = cond (f k) k (search f (suc k) m)
+unfoldable pub searchFrom : (ℕ → Bool) → ℕ → ℕ → ℕ
+searchFrom f k zero = k
+searchFrom f k (suc m) = cond (f k) k (searchFrom f (suc k) m)
 
 -- the lowest number below n at which f holds, or n
 unfoldable pub lowest : ℕ → (ℕ → Bool) → ℕ
-unfolding search
-lowest n f = search f 0 n
+unfolding searchFrom
+lowest n f = searchFrom f 0 n
 
 -- f holds somewhere below n
 unfoldable pub some : ℕ → (ℕ → Bool) → Bool

@@ -49,7 +49,7 @@ minusRow (x ∷ l) (y ∷ m) = bitAnd x ((2 ^ 64 - 1) - y) ∷ minusRow l m
 abbrev pub orPart : List ℕ → ℕ → List ℕ → List ℕ
 orPart l at m = take at l ++ (orRow (take (length m) (drop at l)) m ++ drop (length m) (drop at l))
 
--- how many members a row has
+-- how many members a row has: its count of ones
 abbrev pub countRow : List ℕ → ℕ
 countRow [] = 0
 countRow (x ∷ l) = ones x + countRow l

@@ -3,12 +3,12 @@ pub mod octets;
 pub mod reach;
 
 ghost use mathlib.Core.Path.{_≡_};
-ghost use mathlib.Core.Bool.{not};
+ghost use mathlib.Core.Bool.{not, _&&_, _||_};
 ghost use mathlib.Core.List.{_++_};
-ghost use Prim.Native.Nat.{_+_, _*_, _/_, _^_, _<_, _≤_};
+ghost use Prim.Native.Nat.{ℕ, _+_, _*_, _/_, _^_, _<_, _≤_};
 ghost use lib.ListN.{length, take, drop, replicate};
 ghost use Rattle.rows.specs.Lowest.{lowest, highest, some};
-ghost use Rattle.rows.specs.Row.{has, insert, erase, orRow, andRow, minusRow, orPart, countRow, onlyFirst};
+ghost use Rattle.rows.specs.Row.{has, insert, erase, orRow, andRow, minusRow, orPart, onlyFirst};
 
 pub fn test(row: &[u64], b: usize) -> bool
     requires { ⌜ b / 64 < length (now row) ⌝ }
@@ -75,6 +75,17 @@ pub fn subtract(dst: &mut [u64], src: &[u64])
 {
     for i in 0..src.len() {
         dst[i] &= !src[i];
+    }
+}
+
+// What both q and s have and r lacks joins `dst`.
+pub fn join_outside(dst: &mut [u64], q: &[u64], s: &[u64], r: &[u64])
+    requires { ⌜ (length (now q) ≡ length (now dst)) × (length (now s) ≡ length (now dst)) × (length (now r) ≡ length (now dst)) ⌝ }
+    ensures { λ _. ⌜ length (now (dst .exit)) ≡ length (now (dst .entry)) ⌝ }
+    ensures { λ _. ⌜ ((x : ℕ) → has (now (dst .exit)) x ≡ has (now (dst .entry)) x || (has (now (q .entry)) x && (has (now (s .entry)) x && not (has (now (r .entry)) x)))) ⌝ }
+{
+    for i in 0..dst.len() {
+        dst[i] |= q[i] & (s[i] & !r[i]);
     }
 }
 
@@ -148,15 +159,4 @@ pub fn is_subset(a: &[u64], b: &[u64]) -> bool
     ensures { λ r. ⌜ r ≡ not (some (64 * length (now (a .entry))) (onlyFirst (now (a .entry)) (now (b .entry)))) ⌝ }
 {
     64 * a.len() <= lowest_difference(a, b)
-}
-
-pub fn count(row: &[u64]) -> usize
-    requires { ⌜ 64 * length (now row) < 2 ^ 64 ⌝ }
-    ensures { λ r. ⌜ r ≡ countRow (now (row .entry)) ⌝ }
-{
-    let mut n: usize = 0;
-    for i in 0..row.len() {
-        n += u64::count_ones(row[i]) as usize;
-    }
-    n
 }

@@ -1,7 +1,7 @@
 // What is reached in a relation held as a table of rows: row b has the events with a step to b. Rows are as wide as `found`.
 ghost use mathlib.Core.Path.{_≡_};
-ghost use mathlib.Core.Bool.{true, false, _&&_, _||_};
-ghost use Prim.Native.Nat.{ℕ, _*_, _/_, _<_, _≤_};
+ghost use mathlib.Core.Bool.{true, false, not, _&&_, _||_};
+ghost use Prim.Native.Nat.{ℕ, _+_, _*_, _/_, _^_, _<_, _≤_};
 ghost use lib.Dec.{eqb};
 ghost use lib.ListN.{length};
 ghost use Rattle.rows.specs.Lowest.{lowest, some};
@@ -30,57 +30,87 @@ pub fn reaching(table: &[u64], n: usize, b: usize, found: &mut [u64], done: &mut
     }
 }
 
-// Once through the events in rising order: whoever's row has settled events only is settled. Whether all are now.
-fn settle(table: &[u64], n: usize, settled: &mut [u64]) -> bool
+// Settles b after the unsettled events that lead to it: `path` has the events that wait for one of their row. Whether b is settled now:
+// a ring on the way ends the walk, since without one each event is put on the path once and taken off it once.
+fn settle_from(table: &[u64], n: usize, b: usize, settled: &mut [u64], path: &mut [u64]) -> bool
     requires { ⌜ Graph (now table) n (length (now settled)) ⌝ }
     requires { ⌜ Settled (now table) n (now settled) ⌝ }
+    requires { ⌜ (b < n) × (n ≤ length (now path)) ⌝ }
     ensures { λ _. ⌜ Settled (now (table .entry)) n (now (settled .exit)) ⌝ }
-    ensures { λ r. ⌜ (r ≡ true → (b : ℕ) → b < n → has (now (settled .exit)) b ≡ true) ⌝ }
+    ensures { λ _. ⌜ ((x : ℕ) → has (now (settled .entry)) x ≡ true → has (now (settled .exit)) x ≡ true) ⌝ }
+    ensures { λ r. ⌜ (r ≡ true → has (now (settled .exit)) b ≡ true) ⌝ }
 {
     let w = settled.len();
-    let mut all = true;
+    let mut e = b;
+    let mut depth: usize = 0;
+    for _ in 0..2 * n {
+        let at = e * w;
+        let end = at + w;
+        let x = super::lowest_difference(&table[at..end], settled);
+        if x < n {
+            if depth == n {
+                return false;
+            }
+            path[depth] = e as u64;
+            depth += 1;
+            e = x;
+        } else {
+            super::set(settled, e);
+            if depth == 0 {
+                return super::test(settled, b);
+            }
+            depth -= 1;
+            e = path[depth] as usize;
+        }
+    }
+    false
+}
+
+// True only where no event reaches itself. `settled` comes to have events on no ring.
+fn is_plainly_ringless(table: &[u64], n: usize, settled: &mut [u64], path: &mut [u64]) -> bool
+    requires { ⌜ Graph (now table) n (length (now settled)) ⌝ }
+    requires { ⌜ n ≤ length (now path) ⌝ }
+    ensures { λ _. ⌜ Settled (now (table .entry)) n (now (settled .exit)) ⌝ }
+    ensures { λ r. ⌜ (r ≡ true → (a : ℕ) → a < n → has (now (settled .exit)) a ≡ true) ⌝ }
+{
+    let w = settled.len();
+    super::clear(settled);
     for b in 0..n {
         let at = b * w;
         let end = at + w;
         if super::is_subset(&table[at..end], settled) {
             super::set(settled, b);
         } else {
-            all = false;
+            if !settle_from(table, n, b, settled, path) {
+                return false;
+            }
         }
     }
-    all
-}
-
-// True only where no event reaches itself: quick on records in which most events come after what they see.
-fn is_plainly_ringless(table: &[u64], n: usize, settled: &mut [u64]) -> bool
-    requires { ⌜ Graph (now table) n (length (now settled)) ⌝ }
-    ensures { λ r. ⌜ (r ≡ true → (a : ℕ) → a < n → reaches n (related (now (table .entry)) (length (now (settled .entry)))) a a ≡ false) ⌝ }
-{
-    super::clear(settled);
-    loop {
-        let before = super::count(settled);
-        if settle(table, n, settled) {
-            return true;
-        }
-        if super::count(settled) <= before {
-            return false;
-        }
-    }
+    true
 }
 
 // The lowest event that reaches itself, or n.
-pub fn lowest_on_ring(table: &[u64], n: usize, found: &mut [u64], done: &mut [u64]) -> usize
+pub fn lowest_on_ring(
+    table: &[u64],
+    n: usize,
+    found: &mut [u64],
+    done: &mut [u64],
+    settled: &mut [u64],
+    path: &mut [u64],
+) -> usize
     requires { ⌜ Graph (now table) n (length (now found)) ⌝ }
-    requires { ⌜ length (now done) ≡ length (now found) ⌝ }
+    requires { ⌜ (length (now done) ≡ length (now found)) × (length (now settled) ≡ length (now found)) × (n ≤ length (now path)) ⌝ }
     ensures { λ r. ⌜ r ≡ lowest n (λ a. reaches n (related (now (table .entry)) (length (now (found .entry)))) a a) ⌝ }
 {
-    if is_plainly_ringless(table, n, done) {
+    if is_plainly_ringless(table, n, settled, path) {
         return n;
     }
     for a in 0..n {
-        reaching(table, n, a, found, done);
-        if super::test(found, a) {
-            return a;
+        if !super::test(settled, a) {
+            reaching(table, n, a, found, done);
+            if super::test(found, a) {
+                return a;
+            }
         }
     }
     n
@@ -117,26 +147,48 @@ pub fn close(table: &mut [u64], n: usize, row: &mut [u64])
     }
 }
 
-// The rows of the members of `rest` join `row`. The highest goes first: the rows of what its row has are in that, so those members go too.
-fn gather(table: &[u64], n: usize, rest: &mut [u64], row: &mut [u64])
+// Row a joins `row`, and a leaves `rest` with the members of row a.
+fn take_row(table: &[u64], a: usize, rest: &mut [u64], row: &mut [u64])
+    requires { ⌜ a * length (now row) + length (now row) ≤ length (now table) ⌝ }
+    requires { ⌜ (length (now rest) ≡ length (now row)) × (a / 64 < length (now row)) ⌝ }
+    ensures { λ _. ⌜ ((x : ℕ) → has (now (row .exit)) x ≡ has (now (row .entry)) x || related (now (table .entry)) (length (now (row .entry))) x a) ⌝ }
+    ensures { λ _. ⌜ ((x : ℕ) → has (now (rest .exit)) x ≡ (not (eqb a x) && has (now (rest .entry)) x) && not (related (now (table .entry)) (length (now (row .entry))) x a)) ⌝ }
+{
+    let at = a * row.len();
+    let end = at + row.len();
+    super::union_at(row, table, at);
+    super::remove(rest, a);
+    super::subtract(rest, &table[at..end]);
+}
+
+// The lowest or the highest member, or the first number past the row where there is none.
+fn end_of(row: &[u64], is_rising: bool) -> usize
+    requires { ⌜ 64 * length (now row) < 2 ^ 64 ⌝ }
+    ensures { λ r. ⌜ (r < 64 * length (now (row .entry)) → has (now (row .entry)) r ≡ true) ⌝ }
+    ensures { λ r. ⌜ (64 * length (now (row .entry)) ≤ r → (x : ℕ) → has (now (row .entry)) x ≡ false) ⌝ }
+{
+    if is_rising {
+        return super::lowest(row);
+    }
+    super::highest(row)
+}
+
+// The rows of the members of `rest` join `row`. With each member go those of its row, whose rows are in that: few are left if a late one goes
+// first, the lowest where all have numbers above b, as in a record numbered against time, and else the highest.
+fn gather(table: &[u64], n: usize, b: usize, rest: &mut [u64], row: &mut [u64])
     requires { ⌜ Room (now table) n (length (now row)) ⌝ }
     requires { ⌜ length (now rest) ≡ length (now row) ⌝ }
     requires { ⌜ Nested (now table) n (length (now row)) (now rest) ⌝ }
     ensures { λ _. ⌜ ((x : ℕ) → has (now (row .exit)) x ≡ has (now (row .entry)) x || some n (λ a. has (now (rest .entry)) a && related (now (table .entry)) (length (now (row .entry))) x a)) ⌝ }
 {
-    let w = row.len();
-    let mut left = n;
+    let past = 64 * row.len();
+    let is_rising = b < super::lowest(rest);
     loop {
-        let a = super::highest(rest);
-        if left <= a {
+        let a = end_of(rest, is_rising);
+        if past <= a {
             return;
         }
-        let at = a * w;
-        let end = at + w;
-        super::union_at(row, table, at);
-        super::remove(rest, a);
-        super::subtract(rest, &table[at..end]);
-        left = a;
+        take_row(table, a, rest, row);
     }
 }
 
@@ -153,11 +205,11 @@ fn close_row(table: &mut [u64], n: usize, b: usize, rest: &mut [u64], row: &mut 
     let end = at + w;
     super::copy(rest, &table[at..end]);
     super::clear(row);
-    gather(table, n, rest, row);
+    gather(table, n, b, rest, row);
     super::union_into(table, at, row);
 }
 
-// Closes row b if it has settled events only. Whether b is settled now.
+// Closes row b if it has settled events only, and settles b. The lowest of the others, or the first number past the row.
 fn settle_row(
     table: &mut [u64],
     n: usize,
@@ -165,77 +217,92 @@ fn settle_row(
     settled: &mut [u64],
     rest: &mut [u64],
     row: &mut [u64],
-) -> bool
+) -> usize
     requires { ⌜ Room (now table) n (length (now row)) ⌝ }
     requires { ⌜ (length (now settled) ≡ length (now row)) × (length (now rest) ≡ length (now row)) ⌝ }
     requires { ⌜ b < n ⌝ }
     requires { ⌜ Closed n (length (now row)) (now table) (now table) (now settled) ⌝ }
     ensures { λ _. ⌜ Closed n (length (now (row .entry))) (now (table .entry)) (now (table .exit)) (now (settled .exit)) ⌝ }
     ensures { λ _. ⌜ ((x : ℕ) → has (now (settled .entry)) x ≡ true → has (now (settled .exit)) x ≡ true) ⌝ }
-    ensures { λ r. ⌜ (r ≡ true → has (now (settled .exit)) b ≡ true) ⌝ }
 {
-    if super::test(settled, b) {
-        return true;
-    }
     let w = row.len();
+    let past = 64 * w;
+    if super::test(settled, b) {
+        return past;
+    }
     let at = b * w;
     let end = at + w;
-    if super::is_subset(&table[at..end], settled) {
-        close_row(table, n, b, rest, row);
-        super::set(settled, b);
-        return true;
+    let x = super::lowest_difference(&table[at..end], settled);
+    if x < past {
+        return x;
+    }
+    close_row(table, n, b, rest, row);
+    super::set(settled, b);
+    past
+}
+
+// `settle_from`, closing each row that it settles.
+fn close_from(
+    table: &mut [u64],
+    n: usize,
+    b: usize,
+    settled: &mut [u64],
+    rest: &mut [u64],
+    row: &mut [u64],
+    path: &mut [u64],
+) -> bool
+    requires { ⌜ Room (now table) n (length (now row)) ⌝ }
+    requires { ⌜ (length (now settled) ≡ length (now row)) × (length (now rest) ≡ length (now row)) × (n ≤ length (now path)) ⌝ }
+    requires { ⌜ b < n ⌝ }
+    requires { ⌜ Closed n (length (now row)) (now table) (now table) (now settled) ⌝ }
+    ensures { λ _. ⌜ Closed n (length (now (row .entry))) (now (table .entry)) (now (table .exit)) (now (settled .exit)) ⌝ }
+    ensures { λ _. ⌜ ((x : ℕ) → has (now (settled .entry)) x ≡ true → has (now (settled .exit)) x ≡ true) ⌝ }
+    ensures { λ r. ⌜ (r ≡ true → has (now (settled .exit)) b ≡ true) ⌝ }
+{
+    let mut e = b;
+    let mut depth: usize = 0;
+    for _ in 0..2 * n {
+        let x = settle_row(table, n, e, settled, rest, row);
+        if x < n {
+            if depth == n {
+                return false;
+            }
+            path[depth] = e as u64;
+            depth += 1;
+            e = x;
+        } else {
+            if depth == 0 {
+                return super::test(settled, b);
+            }
+            depth -= 1;
+            e = path[depth] as usize;
+        }
     }
     false
 }
 
-// Once through the events in rising order. Whether all are settled now.
-fn settle_rows(
-    table: &mut [u64],
-    n: usize,
-    settled: &mut [u64],
-    rest: &mut [u64],
-    row: &mut [u64],
-) -> bool
-    requires { ⌜ Room (now table) n (length (now row)) ⌝ }
-    requires { ⌜ (length (now settled) ≡ length (now row)) × (length (now rest) ≡ length (now row)) ⌝ }
-    requires { ⌜ Closed n (length (now row)) (now table) (now table) (now settled) ⌝ }
-    ensures { λ _. ⌜ Closed n (length (now (row .entry))) (now (table .entry)) (now (table .exit)) (now (settled .exit)) ⌝ }
-    ensures { λ _. ⌜ ((x : ℕ) → has (now (settled .entry)) x ≡ true → has (now (settled .exit)) x ≡ true) ⌝ }
-    ensures { λ r. ⌜ (r ≡ true → (b : ℕ) → b < n → has (now (settled .exit)) b ≡ true) ⌝ }
-{
-    let mut all = true;
-    for b in 0..n {
-        if !settle_row(table, n, b, settled, rest, row) {
-            all = false;
-        }
-    }
-    all
-}
-
-// Closes the rows of the events on no ring that no ring leads to, as long as a pass finds one. Whether those are all.
+// Closes the rows of the events on no ring that no ring leads to, up to the first that a ring leads to. Whether those are all.
 fn close_settled(
     table: &mut [u64],
     n: usize,
     settled: &mut [u64],
     rest: &mut [u64],
     row: &mut [u64],
+    path: &mut [u64],
 ) -> bool
     requires { ⌜ Room (now table) n (length (now row)) ⌝ }
-    requires { ⌜ (length (now settled) ≡ length (now row)) × (length (now rest) ≡ length (now row)) ⌝ }
+    requires { ⌜ (length (now settled) ≡ length (now row)) × (length (now rest) ≡ length (now row)) × (n ≤ length (now path)) ⌝ }
     ensures { λ t. ⌜ ((r : Rel) → Table n (length (now (row .entry))) r (now (table .entry)) → t ≡ true → Table n (length (now (row .entry))) (reaches n r) (now (table .exit))) ⌝ }
     ensures { λ _. ⌜ Between n (related (now (table .entry)) (length (now (row .entry)))) (related (now (table .exit)) (length (now (row .entry)))) ⌝ }
     ensures { λ _. ⌜ length (now (table .exit)) ≡ length (now (table .entry)) ⌝ }
 {
     super::clear(settled);
-    loop {
-        let before = super::count(settled);
-        if settle_rows(table, n, settled, rest, row) {
-            return true;
-        }
-        if super::count(settled) <= before {
+    for b in 0..n {
+        if !close_from(table, n, b, settled, rest, row, path) {
             return false;
         }
     }
+    true
 }
 
 // `close`, quick on tables without rings.
@@ -245,13 +312,14 @@ pub fn close_fast(
     settled: &mut [u64],
     rest: &mut [u64],
     row: &mut [u64],
+    path: &mut [u64],
 )
     requires { ⌜ Room (now table) n (length (now row)) ⌝ }
-    requires { ⌜ (length (now settled) ≡ length (now row)) × (length (now rest) ≡ length (now row)) ⌝ }
+    requires { ⌜ (length (now settled) ≡ length (now row)) × (length (now rest) ≡ length (now row)) × (n ≤ length (now path)) ⌝ }
     ensures { λ _. ⌜ ((r : Rel) → Table n (length (now (row .entry))) r (now (table .entry)) → Table n (length (now (row .entry))) (reaches n r) (now (table .exit))) ⌝ }
     ensures { λ _. ⌜ length (now (table .exit)) ≡ length (now (table .entry)) ⌝ }
 {
-    if !close_settled(table, n, settled, rest, row) {
+    if !close_settled(table, n, settled, rest, row, path) {
         close(table, n, row);
     }
 }

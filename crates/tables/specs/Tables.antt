@@ -70,8 +70,8 @@ pub record Timed (n w : ℕ) (l v rbs sos ars middles : List ℕ) : Type 0 where
   pub ars-hold : Table n w (ar (historyFrom n w l v)) ars
   pub middles-hold : Table n w (through (historyFrom n w l v) (read (historyFrom n w l v)) (vis (historyFrom n w l v)) (so (historyFrom n w l v))) middles
 
--- all that predicates are judged from: those, so cut to one object, hb, the events of each object, and the writes
-pub record Prepared (n w : ℕ) (l v rbs sos ars objects middles hbs keys writes : List ℕ) : Type 0 where
+-- all that predicates are judged from: those, so cut to one object, hb, the events of each object, and those of each kind
+pub record Prepared (n w : ℕ) (l v rbs sos ars objects middles hbs keys writes reads every : List ℕ) : Type 0 where
   pub rooms : Room n w rbs × Room n w sos × Room n w ars × Room n w objects × Room n w middles × Room n w hbs
   pub timed : Timed n w l v rbs sos ars middles
   pub objects-hold : Table n w (both (so (historyFrom n w l v)) (ob (historyFrom n w l v))) objects
@@ -80,3 +80,7 @@ pub record Prepared (n w : ℕ) (l v rbs sos ars objects middles hbs keys writes
   pub keys-room : 256 * w ≤ length keys
   pub writes-hold : Row n (isWriteIn l) writes
   pub writes-long : length writes ≡ w
+  pub reads-hold : Row n (ofKind Reads l) reads
+  pub reads-long : length reads ≡ w
+  pub every-hold : Row n (ofKind Every l) every
+  pub every-long : length every ≡ w

@@ -19,7 +19,7 @@ pub fn join(n: usize, w: usize, q: &[u64], r: &[u64], out: &mut [u64])
     }
 }
 
-// One or more steps of so or vis; the last three are room for a row each.
+// One or more steps of so or vis; the last four are room, for a row each and for n events.
 pub fn fill_hb(
     n: usize,
     sos: &[u64],
@@ -28,13 +28,14 @@ pub fn fill_hb(
     settled: &mut [u64],
     rest: &mut [u64],
     row: &mut [u64],
+    path: &mut [u64],
 )
-    requires { ⌜ (n ≤ 64 * length (now row)) × (64 * length (now row) < 2 ^ 64) × (length (now settled) ≡ length (now row)) × (length (now rest) ≡ length (now row)) ⌝ }
+    requires { ⌜ (n ≤ 64 * length (now row)) × (64 * length (now row) < 2 ^ 64) × (length (now settled) ≡ length (now row)) × (length (now rest) ≡ length (now row)) × (n ≤ length (now path)) ⌝ }
     requires { ⌜ Room n (length (now row)) (now sos) × Room n (length (now row)) (now v) × Room n (length (now row)) (now hbs) ⌝ }
     ensures { λ _. ⌜ ((x y : Rel) → Table n (length (now (row .entry))) x (now (sos .entry)) → Table n (length (now (row .entry))) y (now (v .entry)) → Table n (length (now (row .entry))) (reaches n (joined x y)) (now (hbs .exit))) ⌝ }
     ensures { λ _. ⌜ length (now (hbs .exit)) ≡ length (now (hbs .entry)) ⌝ }
 {
     let w = row.len();
     join(n, w, sos, v, hbs);
-    rows::reach::close_fast(hbs, n, settled, rest, row);
+    rows::reach::close_fast(hbs, n, settled, rest, row, path);
 }

@@ -1,4 +1,4 @@
--- `judge_all` meets its contract: the reader's answer, and verdicts of words that have the events of the record's bytes. Assumes nothing.
+-- `judge::judge_all` meets its contract: the reader's answer, and verdicts of words that have the events of the record's bytes. Assumes nothing.
 use mathlib.Core.Path.{_≡_, sym, ap, _∙_}
 use mathlib.Core.List.{List}
 use Prim.Native.Nat.{ℕ}

@@ -1,4 +1,4 @@
--- `judge_list` meets its contract: the reader's answer, or the outcome of the list where no question got a no. Assumes nothing.
+-- `judge::judge_list` meets its contract: the reader's answer, or the outcome of the list where no question got a no. Assumes nothing.
 use mathlib.Core.Path.{_≡_, sym, _∙_}
 use mathlib.Core.List.{List}
 use Prim.Native.Nat.{ℕ}

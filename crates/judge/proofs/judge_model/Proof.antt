@@ -1,4 +1,4 @@
--- `judge_model` meets its contract, one question after the other. Assumes nothing.
+-- `judge::judge_model` meets its contract, one question after the other. Assumes nothing.
 use mathlib.Core.Path.{refl, ap, _∙_}
 use mathlib.Core.List.{List}
 use Prim.Native.Nat.{ℕ}

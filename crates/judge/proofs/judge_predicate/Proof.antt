@@ -1,4 +1,4 @@
--- `judge_predicate` meets its contract, one question after the other; the list is the predicate alone. Assumes nothing.
+-- `judge::judge_predicate` meets its contract, one question after the other; the list is the predicate alone. Assumes nothing.
 use mathlib.Core.Path.{refl, ap, _∙_}
 use mathlib.Core.List.{List, [], _∷_}
 use Prim.Native.Nat.{ℕ}

@@ -1,4 +1,4 @@
--- `outcome_of` meets its contract: the list is judged on words that have the events of the record's bytes. Assumes nothing.
+-- `judge::outcome_of` meets its contract: the list is judged on words that have the events of the record's bytes. Assumes nothing.
 use mathlib.Core.Path.{sym, _∙_}
 use mathlib.Core.List.{List}
 use Prim.Native.Nat.{ℕ}

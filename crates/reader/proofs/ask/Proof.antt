@@ -1,4 +1,4 @@
--- `record::ask` meets its contract: the visible sets are loaded over zeros once questions 3 to 8 got a yes, and cleared where 9 or 10 does not. Assumes nothing.
+-- `reader::ask` meets its contract: the visible sets are loaded over zeros once questions 3 to 8 got a yes, and cleared where 9 or 10 does not. Assumes nothing.
 use mathlib.Core.Path.{_≡_, refl, sym, ap₂, _∙_}
 use mathlib.Core.List.{List, _++_}
 use Prim.Native.Nat.{ℕ, _*_, _≤_}

@@ -1,4 +1,4 @@
--- `record::ask_bytes` meets its contract: each search or test answers one question, and those before it got a yes. Assumes nothing.
+-- `reader::ask_bytes` meets its contract: each search or test answers one question, and those before it got a yes. Assumes nothing.
 use mathlib.Core.Path.{_≡_, sym, _∙_, subst}
 use mathlib.Core.Bool.{true, not}
 use mathlib.Core.List.{List}

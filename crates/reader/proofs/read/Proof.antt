@@ -1,4 +1,4 @@
--- `record::read` meets its contract: question 1, and then the others. Assumes nothing.
+-- `reader::read` meets its contract: question 1, and then the others. Assumes nothing.
 use mathlib.Core.Path.{refl, sym, _∙_}
 use borrow.Author.Needs.{needs}
 use lib.ListN.{length}

@@ -1,4 +1,4 @@
--- `write_verdicts` ends and reads within its array. Assumes nothing.
+-- `verdict::write_verdicts` ends and reads within its array. Assumes nothing.
 use Prim.Native.Nat.{_-_}
 use borrow.Author.Needs.{needs}
 use Rattle.verdict.proofs.write_verdicts.Statement.{statement}

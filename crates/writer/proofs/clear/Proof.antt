@@ -1,4 +1,4 @@
--- `write::clear` meets its contract. The loop's invariant: the first i bytes are zero, and the rest as they were. Assumes nothing.
+-- `writer::clear` meets its contract. The loop's invariant: the first i bytes are zero, and the rest as they were. Assumes nothing.
 use mathlib.Core.Path.{_≡_, refl, _∙_, ap}
 use mathlib.Core.List.{_++_}
 use Prim.Native.Nat.{_+_, _-_, _≤_}

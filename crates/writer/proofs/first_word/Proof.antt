@@ -1,4 +1,4 @@
--- `write::first_word` meets its contract: each part is below what the next is multiplied by. Assumes nothing.
+-- `writer::first_word` meets its contract: each part is below what the next is multiplied by. Assumes nothing.
 use native.Mathlib.Omega.{arith}
 use borrow.Author.Needs.{needs}
 use Rattle.record.specs.Encode.{bit}

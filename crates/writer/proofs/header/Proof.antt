@@ -1,4 +1,4 @@
--- `write::header` meets its contract: the letters, the count and the sites stand one after the other. Assumes nothing.
+-- `writer::header` meets its contract: the letters, the count and the sites stand one after the other. Assumes nothing.
 use mathlib.Core.Path.{refl, _∙_}
 use native.Mathlib.Omega.{arith}
 use lib.ListN.{length-set}

@@ -1,4 +1,4 @@
--- `write::put_row` meets its contract: four words, one after the other. Assumes nothing.
+-- `writer::put_row` meets its contract: four words, one after the other. Assumes nothing.
 use borrow.Author.Needs.{needs}
 use Rattle.record.proofs.WordBytes.{row-stored}
 use Rattle.writer.proofs.put_row.Statement.{statement}

@@ -1,4 +1,4 @@
--- `write::put_slot` meets its contract: eight words, one after the other. Assumes nothing.
+-- `writer::put_slot` meets its contract: eight words, one after the other. Assumes nothing.
 use mathlib.Core.Path.{_∙_, ap}
 use Prim.Native.Nat.{ℕ}
 use lib.Seq.{sets}

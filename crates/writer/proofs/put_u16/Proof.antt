@@ -1,4 +1,4 @@
--- `write::put_u16` meets its contract: the upper byte is below 256 as it is. Assumes nothing.
+-- `writer::put_u16` meets its contract: the upper byte is below 256 as it is. Assumes nothing.
 use mathlib.Core.Path.{_≡_}
 use Prim.Native.Nat.{_/_, _%_}
 use native.Mathlib.Numerals.{add-one}

@@ -1,4 +1,4 @@
--- `write::put_u32` meets its contract: two halves of two bytes. Assumes nothing.
+-- `writer::put_u32` meets its contract: two halves of two bytes. Assumes nothing.
 use borrow.Author.Needs.{needs}
 use Rattle.record.proofs.WordBytes.{halves-stored}
 use Rattle.writer.proofs.put_u32.Statement.{statement}

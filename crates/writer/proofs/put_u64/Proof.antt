@@ -1,4 +1,4 @@
--- `write::put_u64` meets its contract: two halves of four bytes. Assumes nothing.
+-- `writer::put_u64` meets its contract: two halves of four bytes. Assumes nothing.
 use borrow.Author.Needs.{needs}
 use Rattle.record.proofs.WordBytes.{halves-stored}
 use Rattle.writer.proofs.put_u64.Statement.{statement}

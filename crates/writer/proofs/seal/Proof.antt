@@ -1,4 +1,4 @@
--- `write::seal` meets its contract. The loop's invariant: the checks of the first i blocks are written. Assumes nothing.
+-- `writer::seal` meets its contract. The loop's invariant: the checks of the first i blocks are written. Assumes nothing.
 use mathlib.Core.Path.{_∙_, ap, _≡_}
 use Prim.Native.Nat.{_-_, _≤_}
 use native.Mathlib.Omega.{arith}

@@ -1,4 +1,4 @@
--- `host::gcr_judge_model` meets its contract: the parts of a judgment fit into a host's number. Assumes nothing.
+-- `judge::host::gcr_judge_model` meets its contract: the parts of a judgment fit into a host's number. Assumes nothing.
 use mathlib.Core.Path.{ap, _∙_}
 use borrow.Author.Needs.{needs}
 use Rattle.record.specs.Layout.{gcr1}

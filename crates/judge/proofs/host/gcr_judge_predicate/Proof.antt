@@ -1,4 +1,4 @@
--- `host::gcr_judge_predicate` meets its contract, as `gcr_judge_model` does. Assumes nothing.
+-- `judge::host::gcr_judge_predicate` meets its contract, as `gcr_judge_model` does. Assumes nothing.
 use mathlib.Core.Path.{ap, _∙_}
 use borrow.Author.Needs.{needs}
 use Rattle.record.specs.Layout.{gcr1}

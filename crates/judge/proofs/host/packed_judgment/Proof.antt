@@ -1,4 +1,4 @@
--- `host::packed_judgment` meets its contract, by the case of the judgment. Assumes nothing.
+-- `judge::host::packed_judgment` meets its contract, by the case of the judgment. Assumes nothing.
 use mathlib.Core.Path.{_≡_, sym, ap₂, _∙_}
 use Prim.Native.Nat.{_+_, _*_}
 use native.Mathlib.Omega.{arith}

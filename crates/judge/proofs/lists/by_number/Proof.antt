@@ -1,4 +1,4 @@
--- `lists::by_number` meets its contract. In the last arm the number is none of 1 to 12, so it is 13. Assumes nothing.
+-- `judge::lists::by_number` meets its contract. In the last arm the number is none of 1 to 12, so it is 13. Assumes nothing.
 use Prim.Native.Nat.{_≤_}
 use native.Mathlib.Nat.{le-antisymm}
 use Rattle.consistency.specs.Predicates.{numbered}

@@ -1,4 +1,4 @@
--- `lists::first_broken` meets its contract. The invariant: the outcome of the list is that of what is left of it. Assumes nothing.
+-- `judge::lists::first_broken` meets its contract. The invariant: the outcome of the list is that of what is left of it. Assumes nothing.
 use mathlib.Core.Path.{_≡_, sym, _∙_}
 use Prim.Native.Nat.{_-_, _≤_}
 use native.Mathlib.Omega.{arith}
@@ -14,11 +14,11 @@ use Rattle.judge.proofs.lists.first_broken.Statement.{statement}
 use Rattle.judge.proofs.lists.first_broken.Tie as tie
 
 abbrev Inv-loop : tie.InvT-loop
-Inv-loop l v n list rbs sos ars objects middles hbs keys writes k₀ k =
+Inv-loop l v n list rbs sos ars objects middles hbs keys writes reads every k₀ k =
     (k ≤ 4) × (firstBroken (upToZero list) (historyFrom n 4 l v) ≡ firstBroken (upToZero (drop k list)) (historyFrom n 4 l v))
 
 abbrev μ-loop : tie.MeasureT-loop
-μ-loop l v n list rbs sos ars objects middles hbs keys writes k₀ k = 4 - k
+μ-loop l v n list rbs sos ars objects middles hbs keys writes reads every k₀ k = 4 - k
 
 abbrev history : tie.Start Inv-loop μ-loop → History
 history s = historyFrom (s .args .n) 4 (s .args .l .now) (s .args .v .now)
@@ -47,10 +47,16 @@ slice-aggregate-prepare-7 c = search needs
 slice-aggregate-prepare-8 : tie.Need-slice-aggregate-prepare-8 Inv-loop μ-loop
 slice-aggregate-prepare-8 c = search needs
 
+slice-aggregate-prepare-9 : tie.Need-slice-aggregate-prepare-9 Inv-loop μ-loop
+slice-aggregate-prepare-9 c = search needs
+
+slice-aggregate-prepare-10 : tie.Need-slice-aggregate-prepare-10 Inv-loop μ-loop
+slice-aggregate-prepare-10 c = search needs
+
 prepare-requires : tie.Need-prepare-requires Inv-loop μ-loop
 prepare-requires c κs =
-    let s = c .before .before .before .before .before .before .before .before .before .before in
-    (s .pre .0, (rooms-of (s .args .n) (s .args .l .now) (s .args .v .now) (s .pre .0), (search needs, search needs, search needs)))
+    let s = c .before .before .before .before .before .before .before .before .before .before .before .before in
+    (s .pre .0, (rooms-of (s .args .n) (s .args .l .now) (s .args .v .now) (s .pre .0), (search needs, search needs, search needs, search needs, search needs)))
 
 loop-holds : tie.Need-loop-holds Inv-loop μ-loop
 loop-holds c = search needs
@@ -60,12 +66,12 @@ array-read-number c = search needs
 
 returns : tie.Need-returns Inv-loop μ-loop
 returns c =
-    let s = c .before .before .before .before .before .before .before .before .before .before .before .before .before .before .before .before .before .before .before .before .before .before in
+    let s = c .before .before .before .before .before .before .before .before .before .before .before .before .before .before .before .before .before .before .before .before .before .before .before .before .before .before in
     let l = c .before .before .loop in
     sym (l .inv .1 ∙ left-end (history s) (s .args .t1) (l .k) (c .if1 .taken))
 
 by-number-requires : tie.Need-by-number-requires Inv-loop μ-loop
-by-number-requires c κs = (omega arith, c .before .before .before .before .before .before .before .before .before .before .before .before .before .before .before .before .before .before .before .before .before .before .pre .1 .small (c .before .before .loop .k))
+by-number-requires c κs = (omega arith, c .before .before .before .before .before .before .before .before .before .before .before .before .before .before .before .before .before .before .before .before .before .before .before .before .before .before .pre .1 .small (c .before .before .loop .k))
 
 slice-aggregate-judge : tie.Need-slice-aggregate-judge Inv-loop μ-loop
 slice-aggregate-judge c = search needs
@@ -91,23 +97,29 @@ slice-aggregate-judge-7 c = search needs
 slice-aggregate-judge-8 : tie.Need-slice-aggregate-judge-8 Inv-loop μ-loop
 slice-aggregate-judge-8 c = search needs
 
+slice-aggregate-judge-9 : tie.Need-slice-aggregate-judge-9 Inv-loop μ-loop
+slice-aggregate-judge-9 c = search needs
+
+slice-aggregate-judge-10 : tie.Need-slice-aggregate-judge-10 Inv-loop μ-loop
+slice-aggregate-judge-10 c = search needs
+
 judge-requires : tie.Need-judge-requires Inv-loop μ-loop
-judge-requires c κs = (c .before .before .before .before .before .before .before .before .before .before .before .before .before .before .before .before .before .before .before .before .before .before .before .before .before .before .before .before .before .before .before .pre .0, c .before .before .before .before .before .before .before .before .before .before .before .before .before .before .before .before .before .before .before .before .prepare .ensures)
+judge-requires c κs = (c .before .before .before .before .before .before .before .before .before .before .before .before .before .before .before .before .before .before .before .before .before .before .before .before .before .before .before .before .before .before .before .before .before .before .before .before .before .pre .0, c .before .before .before .before .before .before .before .before .before .before .before .before .before .before .before .before .before .before .before .before .before .before .before .before .prepare .ensures)
 
 enum-known-found : tie.Need-enum-known-found Inv-loop μ-loop
 enum-known-found c = search needs
 
-cast-t57 : tie.Need-cast-t57 Inv-loop μ-loop
-cast-t57 c = omega (arith, c .before .before .before .before .before .before .before .before .before .before .before .before .before .before .before .before .before .before .before .before .before .before .before .before .before .before .before .before .before .before .before .before .before .before .before .pre .1 .small (c .before .before .before .before .before .before .before .before .before .before .before .before .before .before .before .loop .k))
+cast-t67 : tie.Need-cast-t67 Inv-loop μ-loop
+cast-t67 c = omega (arith, c .before .before .before .before .before .before .before .before .before .before .before .before .before .before .before .before .before .before .before .before .before .before .before .before .before .before .before .before .before .before .before .before .before .before .before .before .before .before .before .before .before .pre .1 .small (c .before .before .before .before .before .before .before .before .before .before .before .before .before .before .before .before .before .loop .k))
 
 returns-2 : tie.Need-returns-2 Inv-loop μ-loop
 returns-2 c =
-    let s = c .before .before .before .before .before .before .before .before .before .before .before .before .before .before .before .before .before .before .before .before .before .before .before .before .before .before .before .before .before .before .before .before .before .before .before in
-    let l = c .before .before .before .before .before .before .before .before .before .before .before .before .before .before .before .loop in
-    let b = c .before .before .before .before .before .before .before .before .before .before .before .before .by-number in
+    let s = c .before .before .before .before .before .before .before .before .before .before .before .before .before .before .before .before .before .before .before .before .before .before .before .before .before .before .before .before .before .before .before .before .before .before .before .before .before .before .before .before .before in
+    let l = c .before .before .before .before .before .before .before .before .before .before .before .before .before .before .before .before .before .loop in
+    let b = c .before .before .before .before .before .before .before .before .before .before .before .before .before .before .by-number in
     let j = c .before .before .before .judge in
     let f = c .before .found .given in
-    left-broken (history s) (s .args .t1) (l .k) (c .before .before .before .before .before .before .before .before .before .before .before .before .before .if1 .left) (b .result) (j .result) (b .ensures) (j .ensures) _ (l .inv .1) (f .0 .0) (f .0 .1 .0) (f .1)
+    left-broken (history s) (s .args .t1) (l .k) (c .before .before .before .before .before .before .before .before .before .before .before .before .before .before .before .if1 .left) (b .result) (j .result) (b .ensures) (j .ensures) _ (l .inv .1) (f .0 .0) (f .0 .1 .0) (f .1)
 
 enum-told : tie.Need-enum-told Inv-loop μ-loop
 enum-told c = search needs
@@ -120,15 +132,15 @@ loop-less c = search needs
 
 loop-again : tie.Need-loop-again Inv-loop μ-loop
 loop-again c =
-    let s = c .before .before .before .before .before .before .before .before .before .before .before .before .before .before .before .before .before .before .before .before .before .before .before .before .before .before .before .before .before .before .before .before .before .before in
-    let l = c .before .before .before .before .before .before .before .before .before .before .before .before .before .before .loop in
-    let b = c .before .before .before .before .before .before .before .before .before .before .before .by-number in
+    let s = c .before .before .before .before .before .before .before .before .before .before .before .before .before .before .before .before .before .before .before .before .before .before .before .before .before .before .before .before .before .before .before .before .before .before .before .before .before .before .before .before in
+    let l = c .before .before .before .before .before .before .before .before .before .before .before .before .before .before .before .before .loop in
+    let b = c .before .before .before .before .before .before .before .before .before .before .before .before .before .by-number in
     let j = c .before .before .judge in
-    (omega (arith, c .before .before .before .before .before .before .before .before .before .before .before .before .before .loop-test .taken), left-met (history s) (s .args .t1) (l .k) (c .before .before .before .before .before .before .before .before .before .before .before .before .if1 .left) (b .result) (j .result) (b .ensures) (j .ensures) _ (l .inv .1) (c .enum-told .given .1))
+    (omega (arith, c .before .before .before .before .before .before .before .before .before .before .before .before .before .before .before .loop-test .taken), left-met (history s) (s .args .t1) (l .k) (c .before .before .before .before .before .before .before .before .before .before .before .before .before .before .if1 .left) (b .result) (j .result) (b .ensures) (j .ensures) _ (l .inv .1) (c .enum-told .given .1))
 
 returns-3 : tie.Need-returns-3 Inv-loop μ-loop
 returns-3 c =
-    let s = c .before .before .before .before .before .before .before .before .before .before .before .before .before .before .before .before .before .before .before .before .before in
+    let s = c .before .before .before .before .before .before .before .before .before .before .before .before .before .before .before .before .before .before .before .before .before .before .before .before .before in
     let l = c .before .loop in
     sym (l .inv .1 ∙ left-past (history s) (s .args .t1) (l .k) (s .pre .1) (omega arith))
 
@@ -146,6 +158,8 @@ first-broken-spec =
     slice-aggregate-prepare-6
     slice-aggregate-prepare-7
     slice-aggregate-prepare-8
+    slice-aggregate-prepare-9
+    slice-aggregate-prepare-10
     prepare-requires
     loop-holds
     array-read-number
@@ -159,9 +173,11 @@ first-broken-spec =
     slice-aggregate-judge-6
     slice-aggregate-judge-7
     slice-aggregate-judge-8
+    slice-aggregate-judge-9
+    slice-aggregate-judge-10
     judge-requires
     enum-known-found
-    cast-t57
+    cast-t67
     returns-2
     enum-told
     add-k

@@ -1,4 +1,4 @@
--- `lists::of_model` meets its contract: two tests of the whole table, which compute, say of each row that it is the model's list. Assumes nothing.
+-- `judge::lists::of_model` meets its contract: two tests of the whole table, which compute, say of each row that it is the model's list. Assumes nothing.
 use mathlib.Core.Path.{refl}
 use mathlib.Core.List.{List, [], _∷_}
 use Prim.Native.Nat.{ℕ}

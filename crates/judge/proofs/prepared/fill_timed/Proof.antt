@@ -1,4 +1,4 @@
--- `prepared::fill_timed` meets its contract. Assumes nothing.
+-- `judge::prepared::fill_timed` meets its contract. Assumes nothing.
 use mathlib.Core.Path.{refl}
 use Rattle.judge.proofs.PreparedLaws.{timed-of}
 use borrow.Author.Needs.{needs}

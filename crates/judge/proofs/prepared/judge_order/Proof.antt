@@ -1,4 +1,4 @@
--- `prepared::judge_order` meets its contract. Assumes nothing.
+-- `judge::prepared::judge_order` meets its contract. Assumes nothing.
 use borrow.Author.Needs.{needs}
 use Rattle.judge.proofs.prepared.judge_order.Statement.{statement}
 use Rattle.judge.proofs.prepared.judge_order.Tie as tie

@@ -1,4 +1,4 @@
--- `prepared::judge_values` meets its contract. Assumes nothing.
+-- `judge::prepared::judge_values` meets its contract. Assumes nothing.
 use borrow.Author.Needs.{needs}
 use Rattle.judge.proofs.prepared.judge_values.Statement.{statement}
 use Rattle.judge.proofs.prepared.judge_values.Tie as tie

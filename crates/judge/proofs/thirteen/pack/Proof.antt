@@ -1,4 +1,4 @@
--- `thirteen::pack` meets its contract, by the case of the verdict. Assumes nothing.
+-- `judge::thirteen::pack` meets its contract, by the case of the verdict. Assumes nothing.
 use native.Mathlib.Omega.{arith}
 use borrow.Author.Needs.{needs}
 use Rattle.judge.proofs.thirteen.pack.Statement.{statement}

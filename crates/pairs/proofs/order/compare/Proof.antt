@@ -1,4 +1,4 @@
--- `order::compare` meets its contract. The invariant: the two rows say of each event what the events passed say. Assumes nothing.
+-- `pairs::order::compare` meets its contract. The invariant: the two rows say of each event what the events passed say. Assumes nothing.
 use mathlib.Core.Path.{_≡_, ap, _∙_}
 use Prim.Native.Nat.{ℕ, _-_, _≤_}
 use native.Mathlib.Omega.{arith}

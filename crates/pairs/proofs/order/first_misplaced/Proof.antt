@@ -1,4 +1,4 @@
--- `order::first_misplaced` meets its contract. The invariants: no pair with a lower first event, and none of this one with a lower second event, is
+-- `pairs::order::first_misplaced` meets its contract. The invariants: no pair with a lower first event, and none of this one with a lower second event, is
 -- misplaced. Assumes nothing.
 use mathlib.Core.Path.{_≡_, sym}
 use mathlib.Core.Bool.{Bool, true, false, not, Bool·beq}

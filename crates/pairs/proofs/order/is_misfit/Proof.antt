@@ -1,4 +1,4 @@
--- `order::is_misfit` meets its contract, by the tests on the way. Assumes nothing.
+-- `pairs::order::is_misfit` meets its contract, by the tests on the way. Assumes nothing.
 use mathlib.Core.Path.{sym, _∙_}
 use mathlib.Core.Bool.{Bool·not-not}
 use borrow.Author.Needs.{needs}

@@ -1,4 +1,4 @@
--- `order::is_placed` meets its contract, by the tests on the way. Assumes nothing.
+-- `pairs::order::is_placed` meets its contract, by the tests on the way. Assumes nothing.
 use mathlib.Core.Path.{_≡_, _∙_}
 use borrow.Author.Needs.{needs}
 use Rattle.record.specs.History.{History}

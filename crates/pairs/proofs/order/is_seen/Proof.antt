@@ -1,4 +1,4 @@
--- `order::is_seen` meets its contract, by the tests on the way. Assumes nothing.
+-- `pairs::order::is_seen` meets its contract, by the tests on the way. Assumes nothing.
 use mathlib.Core.Path.{_≡_, _∙_}
 use Prim.Native.Nat.{_+_, _*_, _≤_}
 use native.Mathlib.Omega.{arith}

@@ -1,4 +1,4 @@
--- `order::take_row` meets its contract, by whether the row is cut. Assumes nothing.
+-- `pairs::order::take_row` meets its contract, by whether the row is cut. Assumes nothing.
 use Prim.Native.Nat.{_+_, _*_, _≤_}
 use native.Mathlib.Omega.{arith}
 use borrow.Author.Needs.{needs}

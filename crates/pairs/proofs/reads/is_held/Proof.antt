@@ -1,4 +1,4 @@
--- `reads::is_held` meets its contract, by the case of the last write. Assumes nothing.
+-- `pairs::reads::is_held` meets its contract, by the case of the last write. Assumes nothing.
 use mathlib.Core.Path.{subst}
 use native.Mathlib.Omega.{arith}
 use borrow.Author.Needs.{needs}

@@ -1,4 +1,4 @@
--- `reads::last_of` meets its contract. The invariant: an event that is no longer in `seen` is not later than x. The measure is what is left of the
+-- `pairs::reads::last_of` meets its contract. The invariant: an event that is no longer in `seen` is not later than x. The measure is what is left of the
 -- positions. Assumes nothing.
 use mathlib.Core.Path.{_≡_, _∙_}
 use Prim.Native.Nat.{_+_, _*_, _-_, _≤_, _<_}
@@ -8,7 +8,7 @@ use lib.ListN.{length}
 use Rattle.rows.proofs.TableLaws.{row-room}
 use Rattle.record.specs.Words.{positionIn}
 use Rattle.tables.proofs.SliceLaws.{length-slice}
-use Rattle.pairs.proofs.LatestLaws.{Following, following-start, latest-none, latest-found, following-more}
+use Rattle.pairs.proofs.LatestLaws.{Following, following-start, latest-found, following-more}
 use Rattle.pairs.proofs.reads.last_of.Statement.{statement}
 use Rattle.pairs.proofs.reads.last_of.Tie as tie
 
@@ -27,8 +27,8 @@ room c =
     let s = c .before .before .before .before .before .before .before in
     row-room (s .args .n) (s .args .w) (c .loop .x) (length (s .args .ars .now)) (below c) (s .pre .0 .2)
 
-lowest-requires : tie.Need-lowest-requires Inv-loop μ-loop
-lowest-requires c κs = search needs
+likely-last-requires : tie.Need-likely-last-requires Inv-loop μ-loop
+likely-last-requires c κs = search needs
 
 same-length : tie.Need-same-length Inv-loop μ-loop
 same-length c = search needs
@@ -36,14 +36,14 @@ same-length c = search needs
 returns : tie.Need-returns Inv-loop μ-loop
 returns c =
     let s = c .before .before .before .before .before .before in
-    let f = c .before .lowest in
-    latest-none (s .args .n) (s .args .w) (positionIn (s .args .l .now)) (s .args .seen .now) (f .result) (s .pre .1 .2) (s .pre .1 .0) (f .ensures) (s .pre .1 .3) (c .if1 .taken)
+    let f = c .before .likely-last in
+    f .ensures .none (c .if1 .taken)
 
 loop-holds : tie.Need-loop-holds Inv-loop μ-loop
 loop-holds c =
     let s = c .before .before .before .before .before .before in
-    let f = c .before .lowest in
-    following-start (s .args .n) (s .args .w) (positionIn (s .args .l .now)) (s .args .seen .now) (f .result) (s .pre .1 .2) (s .pre .1 .0) (f .ensures) (c .if1 .left)
+    let f = c .before .likely-last in
+    following-start (s .args .n) (s .args .w) (positionIn (s .args .l .now)) (s .args .seen .now) (f .result) (s .pre .1 .2) (f .ensures) (c .if1 .left)
 
 remove-requires : tie.Need-remove-requires Inv-loop μ-loop
 remove-requires c κs =
@@ -109,7 +109,7 @@ last-of-spec =
     (tie.spec
     Inv-loop
     μ-loop
-    lowest-requires
+    likely-last-requires
     same-length
     returns
     loop-holds

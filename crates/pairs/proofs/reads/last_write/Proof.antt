@@ -1,4 +1,4 @@
--- `reads::last_write` meets its contract: `seen` has the candidates. Assumes nothing.
+-- `pairs::reads::last_write` meets its contract: `seen` has the candidates. Assumes nothing.
 use mathlib.Core.Path.{_≡_}
 use Prim.Native.Nat.{_+_, _*_, _≤_}
 use native.Mathlib.Omega.{arith}

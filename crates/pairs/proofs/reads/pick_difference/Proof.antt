@@ -1,4 +1,4 @@
--- `reads::pick_difference` meets its contract. The invariant: the words passed have no such member. Assumes nothing.
+-- `pairs::reads::pick_difference` meets its contract. The invariant: the words passed have no such member. Assumes nothing.
 use mathlib.Core.Path.{_≡_, refl}
 use mathlib.Core.Bool.{false}
 use Prim.Native.Nat.{ℕ, _*_, _-_, _^_, _≤_, _<_}

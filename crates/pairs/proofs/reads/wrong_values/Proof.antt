@@ -1,4 +1,4 @@
--- `reads::wrong_values` meets its contract. The invariant: no event passed is a wrong read. Assumes nothing.
+-- `pairs::reads::wrong_values` meets its contract. The invariant: no event passed is a wrong read. Assumes nothing.
 use mathlib.Core.Path.{_≡_, ap, _∙_}
 use mathlib.Core.Bool.{true, false}
 use mathlib.Core.Logic.{⊎-elim}

@@ -1,4 +1,4 @@
--- `blocks::block_holds` meets its contract: A is compared before B. Assumes nothing.
+-- `reader::blocks::block_holds` meets its contract: A is compared before B. Assumes nothing.
 use borrow.Author.Needs.{needs}
 use Rattle.rows.proofs.Tests.{tests}
 use Rattle.record.specs.Blocks.{blockRight}

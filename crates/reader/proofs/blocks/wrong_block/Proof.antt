@@ -1,4 +1,4 @@
--- `blocks::wrong_block` meets its contract. The loop's invariant: the blocks below k are right. Assumes nothing.
+-- `reader::blocks::wrong_block` meets its contract. The loop's invariant: the blocks below k are right. Assumes nothing.
 use mathlib.Core.Bool.{not}
 use Prim.Native.Nat.{_-_}
 use borrow.Author.Needs.{needs}

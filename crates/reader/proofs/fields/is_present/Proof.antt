@@ -1,4 +1,4 @@
--- `fields::is_present` meets its contract. Assumes nothing.
+-- `reader::fields::is_present` meets its contract. Assumes nothing.
 use borrow.Author.Needs.{needs}
 use Rattle.record.specs.History.{historyOf}
 use Rattle.reader.proofs.fields.is_present.Statement.{statement}

@@ -1,4 +1,4 @@
--- `fields::position` meets its contract. Assumes nothing.
+-- `reader::fields::position` meets its contract. Assumes nothing.
 use borrow.Author.Needs.{needs}
 use Rattle.record.specs.History.{historyOf}
 use Rattle.reader.proofs.fields.position.Statement.{statement}

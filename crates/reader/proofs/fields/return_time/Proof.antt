@@ -1,4 +1,4 @@
--- `fields::return_time` meets its contract. Assumes nothing.
+-- `reader::fields::return_time` meets its contract. Assumes nothing.
 use borrow.Author.Needs.{needs}
 use Rattle.record.specs.History.{historyOf}
 use Rattle.reader.proofs.fields.return_time.Statement.{statement}

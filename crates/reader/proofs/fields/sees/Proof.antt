@@ -1,4 +1,4 @@
--- `fields::sees` meets its contract: a visible set has no event from 256 on. Assumes nothing.
+-- `reader::fields::sees` meets its contract: a visible set has no event from 256 on. Assumes nothing.
 use borrow.Author.Needs.{needs}
 use borrow.Author.Tests.{lt-ltb, le-ltb}
 use Rattle.record.specs.History.{historyOf}

@@ -1,4 +1,4 @@
--- `fields::site` meets its contract. Assumes nothing.
+-- `reader::fields::site` meets its contract. Assumes nothing.
 use borrow.Author.Needs.{needs}
 use Rattle.record.specs.History.{historyOf}
 use Rattle.reader.proofs.fields.site.Statement.{statement}

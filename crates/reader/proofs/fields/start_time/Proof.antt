@@ -1,4 +1,4 @@
--- `fields::start_time` meets its contract. Assumes nothing.
+-- `reader::fields::start_time` meets its contract. Assumes nothing.
 use borrow.Author.Needs.{needs}
 use Rattle.record.specs.History.{historyOf}
 use Rattle.reader.proofs.fields.start_time.Statement.{statement}

@@ -1,4 +1,4 @@
--- `fields::value` meets its contract. Assumes nothing.
+-- `reader::fields::value` meets its contract. Assumes nothing.
 use borrow.Author.Needs.{needs}
 use Rattle.record.specs.History.{historyOf}
 use Rattle.reader.proofs.fields.value.Statement.{statement}

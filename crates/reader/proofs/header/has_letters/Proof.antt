@@ -1,4 +1,4 @@
--- `header::has_letters` meets its contract: four letters, one after the other. Assumes nothing.
+-- `reader::header::has_letters` meets its contract: four letters, one after the other. Assumes nothing.
 use native.Mathlib.Omega.{arith}
 use borrow.Author.Needs.{needs}
 use borrow.Author.Tests.{eq-eqb}

@@ -1,4 +1,4 @@
--- `header::header_holds` meets its contract: the code asks what `headerRight` asks, in its order. Assumes nothing.
+-- `reader::header::header_holds` meets its contract: the code asks what `headerRight` asks, in its order. Assumes nothing.
 use borrow.Author.Needs.{needs}
 use Rattle.rows.proofs.Tests.{tests, told-false, told-true}
 use Rattle.record.specs.Questions.{headerRight}

@@ -1,4 +1,4 @@
--- `header::length_holds` meets its contract: the code asks what `lengthRight` asks, in its order. Assumes nothing.
+-- `reader::header::length_holds` meets its contract: the code asks what `lengthRight` asks, in its order. Assumes nothing.
 use Rattle.rows.proofs.Tests.{tests}
 use Rattle.record.specs.Questions.{lengthRight}
 use Rattle.reader.proofs.header.length_holds.Statement.{statement}

@@ -1,4 +1,4 @@
--- `header::sites` meets its contract: a byte fits. Assumes nothing.
+-- `reader::header::sites` meets its contract: a byte fits. Assumes nothing.
 use native.Mathlib.Omega.{arith}
 use borrow.Author.Needs.{needs}
 use Rattle.reader.proofs.header.sites.Statement.{statement}

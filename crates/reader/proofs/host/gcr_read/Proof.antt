@@ -1,4 +1,4 @@
--- `record::host::gcr_read` meets its contract: an answer's number and place are small enough to be packed. Assumes nothing.
+-- `reader::host::gcr_read` meets its contract: an answer's number and place are small enough to be packed. Assumes nothing.
 use mathlib.Core.Path.{_≡_, sym, ap, ap₂, _∙_}
 use Prim.Native.Nat.{_+_, _*_, _≤_}
 use native.Mathlib.Omega.{arith}

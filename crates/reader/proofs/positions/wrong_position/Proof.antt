@@ -1,11 +1,12 @@
--- `record::positions::wrong_position` meets its contract: no position passed is wrong, and the row has those positions. Assumes nothing.
-use mathlib.Core.Path.{_≡_, refl, sym, _∙_}
-use Prim.Native.Nat.{_-_}
+-- `reader::positions::wrong_position` meets its contract: no position passed is wrong, the row has those positions, and slot e starts at `at`. Assumes nothing.
+use mathlib.Core.Path.{_≡_, refl, sym, ap, _∙_}
+use Prim.Native.Nat.{ℕ, _+_, _-_}
 use native.Mathlib.Omega.{arith}
 use borrow.Author.Needs.{needs}
 use lib.ListN.{length}
+use Rattle.rows.specs.Octets.{little}
 use Rattle.rows.proofs.LowestLaws.{Searched, searched-start, searched-more, searched-hit, searched-end}
-use Rattle.record.specs.Layout.{gcr1}
+use Rattle.record.specs.Layout.{gcr1, slotAt}
 use Rattle.record.specs.History.{historyOf}
 use Rattle.record.specs.Questions.{wrongPosition}
 use Rattle.record.proofs.PositionLaws.{taken-none, position-large, position-taken, position-free, taken-more, Taken}
@@ -13,10 +14,15 @@ use Rattle.reader.proofs.positions.wrong_position.Statement.{statement}
 use Rattle.reader.proofs.positions.wrong_position.Tie as tie
 
 abbrev Inv-loop : tie.InvT-loop
-Inv-loop s n taken₀ e₀ taken e = Searched n (wrongPosition (historyOf gcr1 s)) e × (length taken ≡ length taken₀) × Taken (historyOf gcr1 s) e taken
+Inv-loop s n taken₀ at₀ e₀ taken at e = Searched n (wrongPosition (historyOf gcr1 s)) e × (length taken ≡ length taken₀) × Taken (historyOf gcr1 s) e taken × (at ≡ slotAt gcr1 e)
 
 abbrev μ-loop : tie.MeasureT-loop
-μ-loop s n taken₀ e₀ taken e = n - e
+μ-loop s n taken₀ at₀ e₀ taken at e = n - e
+
+-- what was read is the position of event e
+read : (c : tie.After-u16-at Inv-loop μ-loop) → c .u16-at .result ≡ historyOf gcr1 (c .before .before .before .before .before .before .before .before .before .args .s .now) .position (c .before .before .loop .e)
+unfolding historyOf
+read c = c .u16-at .ensures ∙ ap (λ (x : ℕ). little 2 (c .before .before .before .before .before .before .before .before .before .args .s .now) (x + 10)) (c .before .before .loop .inv .3)
 
 clear-requires : tie.Need-clear-requires Inv-loop μ-loop
 clear-requires c κs = search needs
@@ -24,10 +30,16 @@ clear-requires c κs = search needs
 loop-holds : tie.Need-loop-holds Inv-loop μ-loop
 loop-holds c =
     let s = c .before .before .before .before .before .before in
-    (searched-start _ _, refl, taken-none (historyOf gcr1 (s .args .s .now)) (length (s .args .taken .now)) (c .before .before .clear .last .0) (c .before .before .clear .ensures))
+    (searched-start _ _, refl, taken-none (historyOf gcr1 (s .args .s .now)) (length (s .args .taken .now)) (c .before .before .clear .last .0) (c .before .before .clear .ensures), refl)
 
-position-requires : tie.Need-position-requires Inv-loop μ-loop
-position-requires c κs = search needs
+add-u16-at : tie.Need-add-u16-at Inv-loop μ-loop
+add-u16-at c = search needs
+
+u16-at-requires : tie.Need-u16-at-requires Inv-loop μ-loop
+u16-at-requires c κs = search needs
+
+cast-p : tie.Need-cast-p Inv-loop μ-loop
+cast-p c = search needs
 
 same-length : tie.Need-same-length Inv-loop μ-loop
 same-length c = search needs
@@ -36,7 +48,7 @@ returns : tie.Need-returns Inv-loop μ-loop
 unfolding historyOf
 returns c =
     let l = c .before .before .before in
-    (searched-hit (l .loop .inv .0) (c .before .before .loop-test .taken) (position-large (historyOf gcr1 _) (l .loop .e) (c .before .position .result) (l .loop .taken) (l .loop .inv .2) (c .before .position .ensures) (omega arith)), search needs)
+    (searched-hit (l .loop .inv .0) (c .before .before .loop-test .taken) (position-large (historyOf gcr1 _) (l .loop .e) (c .before .u16-at .result) (l .loop .taken) (l .loop .inv .2) (read (c .before)) (omega arith)), search needs)
 
 test-requires : tie.Need-test-requires Inv-loop μ-loop
 test-requires c κs = search needs
@@ -48,10 +60,13 @@ returns-2 : tie.Need-returns-2 Inv-loop μ-loop
 returns-2 c =
     let l = c .before .before .before .before .before .before in
     let p = c .before .before .before .before in
-    (searched-hit (l .loop .inv .0) (p .before .loop-test .taken) (position-taken (historyOf gcr1 _) (l .loop .e) (p .position .result) (l .loop .taken) (l .loop .inv .2) (p .position .ensures) (sym (c .before .test .ensures) ∙ c .if2 .taken)), search needs)
+    (searched-hit (l .loop .inv .0) (p .before .loop-test .taken) (position-taken (historyOf gcr1 _) (l .loop .e) (p .u16-at .result) (l .loop .taken) (l .loop .inv .2) (read p) (sym (c .before .test .ensures) ∙ c .if2 .taken)), search needs)
 
 set-requires : tie.Need-set-requires Inv-loop μ-loop
 set-requires c κs = search needs
+
+next-slot-requires : tie.Need-next-slot-requires Inv-loop μ-loop
+next-slot-requires c κs = search needs
 
 add-e : tie.Need-add-e Inv-loop μ-loop
 add-e c = search needs
@@ -62,12 +77,14 @@ loop-less c = search needs
 loop-again : tie.Need-loop-again Inv-loop μ-loop
 unfolding historyOf
 loop-again c =
-    let l = c .before .before .before .before .before .before .before .before .before .before in
-    let p = c .before .before .before .before .before .before .before .before in
+    let d = c .before in
+    let l = d .before .before .before .before .before .before .before .before .before .before in
+    let p = d .before .before .before .before .before .before .before .before in
     let h = historyOf gcr1 (l .before .before .before .before .before .before .before .args .s .now) in (
-      searched-more (l .loop .inv .0) (p .before .loop-test .taken) (position-free h (l .loop .e) (p .position .result) (l .loop .taken) (l .loop .inv .2) (p .position .ensures) (omega arith) (sym (c .before .before .before .before .before .test .ensures) ∙ c .before .before .before .before .if2 .left)),
+      searched-more (l .loop .inv .0) (p .before .loop-test .taken) (position-free h (l .loop .e) (p .u16-at .result) (l .loop .taken) (l .loop .inv .2) (read p) (omega arith) (sym (d .before .before .before .before .before .test .ensures) ∙ d .before .before .before .before .if2 .left)),
       search needs,
-      taken-more h (l .loop .e) (p .position .result) (l .loop .taken) (l .loop .inv .2) (p .position .ensures) (c .before .before .set .last .0) (c .before .before .set .ensures) (search needs),
+      taken-more h (l .loop .e) (p .u16-at .result) (l .loop .taken) (l .loop .inv .2) (read p) (d .before .before .set .last .0) (d .before .before .set .ensures) (search needs),
+      c .next-slot .ensures (l .loop .e) (l .loop .inv .3),
     )
 
 same-length-3 : tie.Need-same-length-3 Inv-loop μ-loop
@@ -84,13 +101,16 @@ wrong-position-spec =
     μ-loop
     clear-requires
     loop-holds
-    position-requires
+    add-u16-at
+    u16-at-requires
+    cast-p
     same-length
     returns
     test-requires
     same-length-2
     returns-2
     set-requires
+    next-slot-requires
     add-e
     loop-less
     loop-again

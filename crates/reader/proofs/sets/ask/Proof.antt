@@ -1,4 +1,4 @@
--- `record::sets::ask` meets its contract: rings are looked for once question 9 got a yes, which keeps the rows below n. Assumes nothing.
+-- `reader::sets::ask` meets its contract: rings are looked for once question 9 got a yes, which keeps the rows below n. Assumes nothing.
 use mathlib.Core.Path.{_≡_, sym, _∙_, subst}
 use mathlib.Core.Bool.{false}
 use Prim.Native.Nat.{ℕ, _<_}
@@ -17,7 +17,7 @@ use Rattle.reader.proofs.sets.ask.Tie as tie
 
 -- the places on the way, by name
 abbrev sets-asked : tie.After-lowest-on-ring → tie.Else1
-sets-asked c = c .before .before .before
+sets-asked c = c .before .before .before .before .before
 
 abbrev start : tie.Else1 → tie.Start
 start c = c .before .before .before .before .before
@@ -65,22 +65,28 @@ slice-aggregate-lowest-on-ring c = search needs
 slice-aggregate-lowest-on-ring-2 : tie.Need-slice-aggregate-lowest-on-ring-2
 slice-aggregate-lowest-on-ring-2 c = search needs
 
+slice-aggregate-lowest-on-ring-3 : tie.Need-slice-aggregate-lowest-on-ring-3
+slice-aggregate-lowest-on-ring-3 c = search needs
+
+slice-aggregate-lowest-on-ring-4 : tie.Need-slice-aggregate-lowest-on-ring-4
+slice-aggregate-lowest-on-ring-4 c = search needs
+
 lowest-on-ring-requires : tie.Need-lowest-on-ring-requires
 lowest-on-ring-requires c κs =
-    let e = c .before .before in
+    let e = c .before .before .before .before in
     let a = start e .args in
-    (rw (width e) (sets-graph (a .table .now) (a .n) 4 (omega arith) (omega arith) (omega arith) (no-wrong-set e)), sym (width e))
+    (rw (width e) (sets-graph (a .table .now) (a .n) 4 (omega arith) (omega arith) (omega arith) (no-wrong-set e)), (sym (width e), sym (width e), search needs))
 
 returns-2 : tie.Need-returns-2
 returns-2 c =
-    let r = c .before .before .before in
+    let r = c .before .before .before .before .before in
     let e = sets-asked r in
     let n = start e .args .n in
     sym (to-rings e ∙ each-found n (onRing n (vis (start e))) OnRing Passed (r .lowest-on-ring .result) (ring r) (c .if2 .taken))
 
 returns-3 : tie.Need-returns-3
 returns-3 c =
-    let r = c .before .before .before in
+    let r = c .before .before .before .before .before in
     let e = sets-asked r in
     let n = start e .args .n in
     sym (to-rings e ∙ each-past n (onRing n (vis (start e))) OnRing Passed (r .lowest-on-ring .result) (ring r) (c .if2 .left))
@@ -94,6 +100,8 @@ ask-spec =
     returns
     slice-aggregate-lowest-on-ring
     slice-aggregate-lowest-on-ring-2
+    slice-aggregate-lowest-on-ring-3
+    slice-aggregate-lowest-on-ring-4
     lowest-on-ring-requires
     returns-2
     returns-3)

@@ -1,4 +1,4 @@
--- `record::sets::fill_below` meets its contract: the row has the numbers passed. Assumes nothing.
+-- `reader::sets::fill_below` meets its contract: the row has the numbers passed. Assumes nothing.
 use mathlib.Core.Path.{_≡_, refl}
 use mathlib.Core.Bool.{true}
 use Prim.Native.Nat.{_≤_, _-_}

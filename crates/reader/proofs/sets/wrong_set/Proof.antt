@@ -1,4 +1,4 @@
--- `record::sets::wrong_set` meets its contract: no row passed has an event from n on, or its own. Assumes nothing.
+-- `reader::sets::wrong_set` meets its contract: no row passed has an event from n on, or its own. Assumes nothing.
 use mathlib.Core.Path.{sym, _∙_}
 use Prim.Native.Nat.{_+_, _*_, _-_, _≤_}
 use native.Mathlib.Nat.{add-sub-cancel-left}

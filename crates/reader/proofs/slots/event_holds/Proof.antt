@@ -1,4 +1,4 @@
--- `slots::event_holds` meets its contract: the code asks what `eventRight` asks, in its order. Assumes nothing.
+-- `reader::slots::event_holds` meets its contract: the code asks what `eventRight` asks, in its order. Assumes nothing.
 use borrow.Author.Needs.{needs}
 use Rattle.rows.proofs.Tests.{told-false, told-true}
 use Rattle.record.specs.Slots.{eventRight}

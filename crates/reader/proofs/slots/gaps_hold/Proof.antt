@@ -1,4 +1,4 @@
--- `slots::gaps_hold` meets its contract: the code asks what `gapsRight` asks, in its order. Assumes nothing.
+-- `reader::slots::gaps_hold` meets its contract: the code asks what `gapsRight` asks, in its order. Assumes nothing.
 use borrow.Author.Needs.{needs}
 use Rattle.rows.proofs.Tests.{tests}
 use Rattle.record.specs.Slots.{gapsRight}

@@ -1,4 +1,4 @@
--- `slots::slot_holds` meets its contract: below n an event, from n on zero, and then the tail. Assumes nothing.
+-- `reader::slots::slot_holds` meets its contract: below n an event, from n on zero, and then the tail. Assumes nothing.
 use mathlib.Core.Logic.{⊎-elim}
 use borrow.Author.Needs.{needs}
 use Rattle.rows.proofs.Tests.{told-false, told-true}
@@ -7,44 +7,38 @@ use Rattle.record.proofs.SlotLaws.{slot-below, slot-from}
 use Rattle.reader.proofs.slots.slot_holds.Statement.{statement}
 use Rattle.reader.proofs.slots.slot_holds.Tie as tie
 
-slot-at-requires : tie.Need-slot-at-requires
-slot-at-requires c κs = search needs
-
 event-holds-requires : tie.Need-event-holds-requires
 event-holds-requires c κs = search needs
 
 returns : tie.Need-returns
 returns c =
-    let p = c .before .before .before in
-    let a = p .before .before in
-    rw (slot-below gcr1 _ _ _ _ (a .pre .0) (p .slot-at .ensures) (c .before .before .if1 .taken), told-false (c .before .event-holds .ensures) (c .if2 .taken))
+    let a = c .before .before .before .before in
+    rw (slot-below gcr1 _ _ _ _ (a .pre .0) (a .pre .1 .0) (c .before .before .if1 .taken), told-false (c .before .event-holds .ensures) (c .if2 .taken))
 
 is-zero-requires : tie.Need-is-zero-requires
 is-zero-requires c κs = search needs
 
 returns-2 : tie.Need-returns-2
 returns-2 c =
-    let p = c .before .before .before in
-    let a = p .before .before in
-    rw (slot-from gcr1 _ _ _ _ (a .pre .0) (p .slot-at .ensures) (c .before .before .if1 .left), told-false (c .before .is-zero .ensures) (c .if3 .taken))
+    let a = c .before .before .before .before in
+    rw (slot-from gcr1 _ _ _ _ (a .pre .0) (a .pre .1 .0) (c .before .before .if1 .left), told-false (c .before .is-zero .ensures) (c .if3 .taken))
 
 tail-holds-requires : tie.Need-tail-holds-requires
 tail-holds-requires c κs = search needs
 
 returns-3 : tie.Need-returns-3
 returns-3 c =
-    let p = c .before .before in
-    let a = p .before .before in
+    let a = c .before .before .before in
+    let tail = c .tail-holds .ensures (a .args .e) (a .pre .1 .0) in
     ⊎-elim
-    (λ w. rw (slot-below gcr1 _ _ _ _ (a .pre .0) (p .slot-at .ensures) (w .0 .taken), told-true (w .1 .ensures) (w .2 .left)) (c .tail-holds .ensures))
-    (λ w. rw (slot-from gcr1 _ _ _ _ (a .pre .0) (p .slot-at .ensures) (w .0 .left), told-true (w .1 .ensures) (w .2 .left)) (c .tail-holds .ensures))
+    (λ w. rw (slot-below gcr1 _ _ _ _ (a .pre .0) (a .pre .1 .0) (w .0 .taken), told-true (w .1 .ensures) (w .2 .left)) tail)
+    (λ w. rw (slot-from gcr1 _ _ _ _ (a .pre .0) (a .pre .1 .0) (w .0 .left), told-true (w .1 .ensures) (w .2 .left)) tail)
     (c .before .if1 .came)
 
 pub slot-holds-spec : {M : Type 1} → statement M
 slot-holds-spec =
     tie.close
     (tie.spec
-    slot-at-requires
     event-holds-requires
     returns
     is-zero-requires

@@ -1,4 +1,4 @@
--- `slots::times_hold` meets its contract: a pending event returns at 0, another not before its start. Assumes nothing.
+-- `reader::slots::times_hold` meets its contract: a pending event returns at 0, another not before its start. Assumes nothing.
 use borrow.Author.Needs.{needs}
 use Rattle.rows.proofs.Tests.{tests}
 use Rattle.record.specs.Slots.{timesRight}

@@ -1,4 +1,4 @@
--- `slots::value_holds` meets its contract: the code asks what `valueRight` asks, in its order. Assumes nothing.
+-- `reader::slots::value_holds` meets its contract: the code asks what `valueRight` asks, in its order. Assumes nothing.
 use borrow.Author.Needs.{needs}
 use Rattle.rows.proofs.Tests.{tests}
 use Rattle.record.specs.Slots.{valueRight}

@@ -1,18 +1,19 @@
--- `slots::wrong_slot` meets its contract. The loop's invariant: the slots below e are right. Assumes nothing.
+-- `reader::slots::wrong_slot` meets its contract. The loop's invariant: the slots below e are right, and slot e starts at `at`. Assumes nothing.
+use mathlib.Core.Path.{_≡_, refl}
 use mathlib.Core.Bool.{not}
 use Prim.Native.Nat.{_-_}
 use borrow.Author.Needs.{needs}
 use Rattle.rows.proofs.LowestLaws.{Searched, searched-start, searched-more, searched-hit, searched-end}
-use Rattle.record.specs.Layout.{gcr1}
+use Rattle.record.specs.Layout.{gcr1, slotAt}
 use Rattle.record.specs.Slots.{slotRight}
 use Rattle.reader.proofs.slots.wrong_slot.Statement.{statement}
 use Rattle.reader.proofs.slots.wrong_slot.Tie as tie
 
 abbrev Inv-loop : tie.InvT-loop
-Inv-loop s n slots e₀ e = Searched slots (λ b. not (slotRight gcr1 s b)) e
+Inv-loop s n slots at₀ e₀ at e = Searched slots (λ b. not (slotRight gcr1 s b)) e × (at ≡ slotAt gcr1 e)
 
 abbrev μ-loop : tie.MeasureT-loop
-μ-loop s n slots e₀ e = slots - e
+μ-loop s n slots at₀ e₀ at e = slots - e
 
 sub-slots : tie.Need-sub-slots Inv-loop μ-loop
 sub-slots c = search needs
@@ -21,7 +22,7 @@ mul-slots : tie.Need-mul-slots Inv-loop μ-loop
 mul-slots c = search needs
 
 loop-holds : tie.Need-loop-holds Inv-loop μ-loop
-loop-holds c = searched-start _ _
+loop-holds c = (searched-start _ _, refl)
 
 slot-holds-requires : tie.Need-slot-holds-requires Inv-loop μ-loop
 slot-holds-requires c κs = search needs
@@ -29,7 +30,10 @@ slot-holds-requires c κs = search needs
 returns : tie.Need-returns Inv-loop μ-loop
 returns c =
     let l = c .before .before .before in
-    searched-hit (l .loop .inv) (c .before .before .loop-test .taken) (rw (c .before .slot-holds .ensures) at (c .if1 .taken))
+    searched-hit (l .loop .inv .0) (c .before .before .loop-test .taken) (rw (c .before .slot-holds .ensures) at (c .if1 .taken))
+
+next-slot-requires : tie.Need-next-slot-requires Inv-loop μ-loop
+next-slot-requires c κs = search needs
 
 add-e : tie.Need-add-e Inv-loop μ-loop
 add-e c = search needs
@@ -39,11 +43,11 @@ loop-less c = search needs
 
 loop-again : tie.Need-loop-again Inv-loop μ-loop
 loop-again c =
-    let l = c .before .before .before in
-    searched-more (l .loop .inv) (c .before .before .loop-test .taken) (rw (c .before .slot-holds .ensures) at (c .if1 .left))
+    let l = c .before .before .before .before in
+    (searched-more (l .loop .inv .0) (c .before .before .before .loop-test .taken) (rw (c .before .before .slot-holds .ensures) at (c .before .if1 .left)), c .next-slot .ensures (l .loop .e) (l .loop .inv .1))
 
 returns-2 : tie.Need-returns-2 Inv-loop μ-loop
-returns-2 c = searched-end (c .before .loop .inv) (c .loop-test .left)
+returns-2 c = searched-end (c .before .loop .inv .0) (c .loop-test .left)
 
 pub wrong-slot-spec : {M : Type 1} → statement M
 wrong-slot-spec =
@@ -56,6 +60,7 @@ wrong-slot-spec =
     loop-holds
     slot-holds-requires
     returns
+    next-slot-requires
     add-e
     loop-less
     loop-again

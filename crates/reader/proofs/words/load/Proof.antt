@@ -1,4 +1,4 @@
--- `record::words::load` meets its contract: the words of the first e events are loaded, and the rest of the slice is as it was. Assumes nothing.
+-- `reader::words::load` meets its contract: the words of the first e events are loaded, the rest of the slice is as it was, and slot e starts at `slot`. Assumes nothing.
 use mathlib.Core.Path.{_≡_, refl, ap₂, _∙_}
 use mathlib.Core.List.{_++_}
 use Prim.Native.Nat.{_+_, _*_, _-_, _≤_}
@@ -8,17 +8,17 @@ use borrow.Author.Needs.{needs}
 use lib.ListN.{length, drop}
 use Rattle.rows.specs.Octets.{words}
 use Rattle.rows.proofs.TableLaws.{row-room, length-row}
-use Rattle.record.specs.Layout.{gcr1}
+use Rattle.record.specs.Layout.{gcr1, slotAt}
 use Rattle.record.specs.Words.{slotWords}
 use Rattle.record.proofs.SlotWords.{slot-words-none, slot-words-put}
 use Rattle.reader.proofs.words.load.Statement.{statement}
 use Rattle.reader.proofs.words.load.Tie as tie
 
 abbrev Inv-loop : tie.InvT-loop
-Inv-loop s n off w out₀ e₀ out e = (e ≤ n) × (length out ≡ length out₀) × (out ≡ slotWords gcr1 off w s e ++ drop (e * w) out₀)
+Inv-loop s n off w out₀ slot₀ e₀ out slot e = (e ≤ n) × (length out ≡ length out₀) × (out ≡ slotWords gcr1 off w s e ++ drop (e * w) out₀) × (slot ≡ slotAt gcr1 e)
 
 abbrev μ-loop : tie.MeasureT-loop
-μ-loop s n off w out₀ e₀ out e = n - e
+μ-loop s n off w out₀ slot₀ e₀ out slot e = n - e
 
 -- the words of event e stand in the slice
 room : (c : tie.In-loop Inv-loop μ-loop) → c .before .loop .e * c .before .before .before .before .args .w + c .before .before .before .before .args .w ≤ length (c .before .loop .out)
@@ -27,7 +27,7 @@ room c =
     row-room (s .args .n) (s .args .w) (c .before .loop .e) (length (c .before .loop .out)) (c .loop-test .taken) (omega (arith, s .pre, c .before .loop .inv .1))
 
 loop-holds : tie.Need-loop-holds Inv-loop μ-loop
-loop-holds c = (search needs, refl, slot-words-none _ _ _ _ _)
+loop-holds c = (search needs, refl, slot-words-none _ _ _ _ _, refl)
 
 mul-at : tie.Need-mul-at Inv-loop μ-loop
 mul-at c = omega (arith, room c, c .before .before .before .before .good)
@@ -47,14 +47,14 @@ part-load-start c = search needs
 part-load-end : tie.Need-part-load-end Inv-loop μ-loop
 part-load-end c = omega (arith, room c, c .before .before .before .before .good)
 
-slot-at-requires : tie.Need-slot-at-requires Inv-loop μ-loop
-slot-at-requires c κs = search needs
-
 add-load : tie.Need-add-load Inv-loop μ-loop
 add-load c = search needs
 
 load-requires : tie.Need-load-requires Inv-loop μ-loop
 load-requires c κs = search needs
+
+next-slot-requires : tie.Need-next-slot-requires Inv-loop μ-loop
+next-slot-requires c κs = search needs
 
 add-e : tie.Need-add-e Inv-loop μ-loop
 add-e c = search needs
@@ -69,8 +69,9 @@ loop-again c =
     let a = i .before .before .before .before .args in (
       search needs,
       search needs,
-      rw add-sub-cancel-left (slot-words-put gcr1 (a .off) (a .w) (a .s .now) (l .e) (a .out .now) (l .out) (c .before .before .load .last .0) (l .inv .2)
-          (c .before .before .load .ensures ∙ ap₂ (λ k p. words k (a .s .now) (p + a .off)) (rw add-sub-cancel-left (length-row (l .out) (a .w) (l .e) (room i))) (c .before .before .before .slot-at .ensures))),
+      rw add-sub-cancel-left (slot-words-put gcr1 (a .off) (a .w) (a .s .now) (l .e) (a .out .now) (l .out) (c .before .before .before .load .last .0) (l .inv .2)
+          (c .before .before .before .load .ensures ∙ ap₂ (λ k p. words k (a .s .now) (p + a .off)) (rw add-sub-cancel-left (length-row (l .out) (a .w) (l .e) (room i))) (l .inv .3))),
+      c .next-slot .ensures (l .e) (l .inv .3),
     )
 
 same-length : tie.Need-same-length Inv-loop μ-loop
@@ -95,9 +96,9 @@ load-spec =
     sub-load
     part-load-start
     part-load-end
-    slot-at-requires
     add-load
     load-requires
+    next-slot-requires
     add-e
     loop-less
     loop-again

@@ -41,7 +41,7 @@ row-b c =
 width : (c : tie.After-clear) → length (c .clear .last .0) ≡ length (start (known (copied c)) .args .row .now)
 width c = ap length (c .clear .ensures) ∙ length-replicate (length (start (known (copied c)) .args .row .now)) 0
 
-kept : (c : tie.After-gather) → length (c .gather .last .1 .1 .1 .0) ≡ length (cleared c .clear .last .0)
+kept : (c : tie.After-gather) → length (c .gather .last .1 .1 .1 .1 .0) ≡ length (cleared c .clear .last .0)
 kept c = search needs
 
 mul-at : tie.Need-mul-at
@@ -100,7 +100,7 @@ returns c =
     let g = u .before .before .before .before .before .before .before in
     let z = cleared g in
     let s = start (known (copied z)) .args in
-    row-joined (s .table .now) (s .n) (length (s .row .now)) (s .b) (copied z .copy .last .0) (z .clear .last .0) (g .gather .last .1 .1 .1 .0) (u .union-into .last .0)
+    row-joined (s .table .now) (s .n) (length (s .row .now)) (s .b) (copied z .copy .last .0) (z .clear .last .0) (g .gather .last .1 .1 .1 .1 .0) (u .union-into .last .0)
     (kept g ∙ width z) (room (known (copied z))) (row-b (copied z)) (z .clear .ensures) (g .gather .ensures) (u .union-into .ensures)
 
 pub close-row-spec : {M : Type 1} → statement M

@@ -1,4 +1,4 @@
--- `tables::fill_hb` meets its contract: the steps are joined, and then closed. Assumes nothing.
+-- `tables::happens_before::fill_hb` meets its contract: the steps are joined, and then closed. Assumes nothing.
 use mathlib.Core.Path.{_∙_}
 use Rattle.tables.specs.Tables.{joined}
 use borrow.Author.Needs.{needs}
@@ -23,10 +23,13 @@ same-length-3 c = search needs
 same-length-4 : tie.Need-same-length-4
 same-length-4 c = search needs
 
+same-length-5 : tie.Need-same-length-5
+same-length-5 c = search needs
+
 returns : tie.Need-returns
 returns c =
-    let j = c .before .before .before .before .before .before .before .before .before .before .before .before .before .before .before .join in
-    let k = c .before .before .before .before .before .before .before .before .close-fast in
+    let j = c .before .before .before .before .before .before .before .before .before .before .before .before .before .before .before .before .before .before .join in
+    let k = c .before .before .before .before .before .before .before .before .before .before .close-fast in
     (λ x y t u. k .ensures .0 (joined x y) (j .ensures .0 x y t u), k .ensures .1 ∙ j .ensures .1)
 
 pub fill-hb-spec : {M : Type 1} → statement M
@@ -39,4 +42,5 @@ fill-hb-spec =
     same-length-2
     same-length-3
     same-length-4
+    same-length-5
     returns)
