@@ -1,7 +1,7 @@
 -- Every case of the table is right: one test that the checker computes over the whole table.
 use mathlib.Core.Path.{_≡_, refl}
 use mathlib.Core.Bool.{true}
-use Rattle.rows.specs.Lowest.{search, lowest, some}
+use Rattle.rows.specs.Lowest.{searchFrom, lowest, some}
 use Rattle.rows.specs.Octets.{little}
 use Rattle.rows.specs.Relation.{via, reaches}
 use Rattle.record.specs.Blocks.{sumA, sumB}
@@ -21,5 +21,5 @@ use Rattle.edges.specs.Events.{member, historyOfEvents}
 use Rattle.edges.specs.Cases.{right, allRight, judgedFrom, edges}
 
 pub edges-hold : allRight edges ≡ true
-unfolding search lowest some little via reaches sumA sumB vis wrongSet onRing setQuestions packed littleBytes withSlots sealed unsealed recordBytes firstLeft first rb ss ob so ar step hb through candidate lastBelow lastWrite expected wrongRead wrong rule breaks verdict numbered callAt callsFrom callsOf reached refusal effect rules.step run doneAnswer answer answers rank recorded storeAfter member historyOfEvents right allRight judgedFrom
+unfolding searchFrom lowest some little via reaches sumA sumB vis wrongSet onRing setQuestions packed littleBytes withSlots sealed unsealed recordBytes firstLeft first rb ss ob so ar step hb through candidate lastBelow lastWrite expected wrongRead wrong rule breaks verdict numbered callAt callsFrom callsOf reached refusal effect rules.step run doneAnswer answer answers rank recorded storeAfter member historyOfEvents right allRight judgedFrom
 edges-hold = refl

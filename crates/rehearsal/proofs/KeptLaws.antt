@@ -1,23 +1,29 @@
--- Laws of a site kept in arrays: its counts, its known set and its cells as the functions that they stand for. Assumes nothing.
-use mathlib.Core.Path.{_≡_, refl, sym, ap, _∙_, fun-ext}
-use mathlib.Core.Bool.{Bool, true, false, cond, _&&_, _||_, and-false, or-comm}
-use mathlib.Core.List.{List}
-use Prim.Native.Nat.{ℕ, zero, suc, _+_, _/_, _≤_, _<_, max}
+-- Laws of a site kept in arrays: its counts, its rows of known events and its cells as the functions that they stand for. Assumes nothing.
+use mathlib.Core.Path.{_≡_, refl, sym, ap, ap₂, _∙_, fun-ext}
+use mathlib.Core.Bool.{Bool, true, false, cond, _&&_, _||_, and-false, or-comm, and-true}
+use mathlib.Core.List.{List, _++_}
+use Prim.Native.Nat.{ℕ, zero, suc, _+_, _-_, _*_, _/_, _%_, _≤_, _<_, max}
 use native.Mathlib.Numerals.{add-one}
 use native.Mathlib.Omega.{arith}
-use lib.Dec.{eqb, leb}
-use lib.ListN.{length, getD, set}
+use lib.Dec.{eqb, leb, ltb}
+use lib.ListN.{length, getD, set, take, drop, length-set}
 use lib.Seq.{getD-set-same, getD-set-other}
-use borrow.Author.Tests.{eq-eqb, ne-eqb}
-use Rattle.rows.specs.Row.{has, insert, orRow}
+use mir.Val.{boolByte}
+use borrow.Author.Tests.{lt-ltb, le-ltb, eq-eqb, ne-eqb, ltb-true, ltb-false}
+use Rattle.rows.specs.Row.{has, insert, orRow, orPart, rowAt}
+use Rattle.rows.proofs.Tests.{split, same-test}
+use Rattle.rows.proofs.FrontLaws.{front-all}
 use Rattle.rows.proofs.RowLaws.{has-insert, has-or, length-or}
+use Rattle.rows.proofs.TableLaws.{length-row, has-row, row-insert-same, row-insert-other, putRow, length-put, row-put-same, row-put-other, row-or-same, row-or-other}
 use Rattle.consistency.specs.Reads.{none, value}
-use Rattle.store.specs.Store.{upd, Cell, full, merge}
+use Rattle.store.specs.Store.{upd, Cell, empty, full, before, merge}
 use Rattle.store.specs.Rules.{reached, afterPut, afterGet, afterDelivery, valueOr0}
-use Rattle.rehearsal.specs.Mirror.{siteOf, eventOf}
+use Rattle.rehearsal.specs.Mirror.{cellOf, siteOf, eventOf}
 use Rattle.rehearsal.specs.declared.Kept.{Kept}
+use Rattle.rehearsal.specs.declared.KeptCell.{KeptCell}
 use Rattle.rehearsal.specs.declared.KeptEvent.{KeptEvent}
 use Rattle.store.proofs.UpdateLaws.{upd-elim, lt-suc-elim}
+use Rattle.store.proofs.Invariant.{before-key, not-before-key}
 
 -- ---- arrays
 
@@ -29,18 +35,60 @@ set-upd {A} l i v d h j =
     (λ q. getD-set-other l i j v d q)
 
 -- a loop that stores f i at each i: one more
-pub stored-more : (l : List ℕ) (f : ℕ → ℕ) (i : ℕ) → i < length l → ((j : ℕ) → j < i → getD l j 0 ≡ f j)
+stored-more : (l : List ℕ) (f : ℕ → ℕ) (i : ℕ) → i < length l → ((j : ℕ) → j < i → getD l j 0 ≡ f j)
     → (j : ℕ) → j < i + 1 → getD (set l i (f i)) j 0 ≡ f j
 stored-more l f i h below j k =
     set-upd l i (f i) 0 h j
     ∙ upd-elim (λ (x : ℕ). x ≡ f j) (λ (k : ℕ). getD l k 0) i (f i) j (λ q. ap f (sym q)) (λ q. below j (omega arith))
 
--- one more is held of site j
-pub held-more : (counts : List ℕ) (j : ℕ) → j < length counts
-    → (λ (i : ℕ). getD (set counts j (getD counts j 0 + 1)) i 0) ≡ upd (λ (i : ℕ). getD counts i 0) j (suc (getD counts j 0))
-held-more counts j h = fun-ext (λ i.
-    set-upd counts j (getD counts j 0 + 1) 0 h i
-    ∙ ap (λ (y : ℕ). upd (λ (k : ℕ). getD counts k 0) j y i) (add-one (getD counts j 0)))
+-- the counts with one more held of site s
+abbrev pub OneMore : List ℕ → List ℕ → ℕ → Type 0
+OneMore counts all s = (λ (i : ℕ). getD all i 0) ≡ upd (λ (i : ℕ). getD counts i 0) s (suc (getD counts s 0))
+
+-- the counts below i are those with one more held of site j, and the others are as they were
+pub record Raised (counts : List ℕ) (j : ℕ) (all : List ℕ) (i : ℕ) : Type 0 where
+  pub within : i ≤ 8
+  pub long : length all ≡ 8
+  pub below : (k : ℕ) → k < i → getD all k 0 ≡ upd (λ (m : ℕ). getD counts m 0) j (suc (getD counts j 0)) k
+  pub above : (k : ℕ) → i ≤ k → getD all k 0 ≡ getD counts k 0
+
+module _ (counts : List ℕ) (j : ℕ) where
+  pub raised-none : length counts ≡ 8 → Raised counts j counts 0
+  raised-none long = record { within = omega arith; long = long; below = λ k l. absurd (omega arith); above = λ k l. refl }
+
+  -- one is added where the test holds
+  raised-at : (i : ℕ) → getD counts i 0 + boolByte (eqb i j) ≡ upd (λ (m : ℕ). getD counts m 0) j (suc (getD counts j 0)) i
+  raised-at i = upd-elim (λ (x : ℕ). getD counts i 0 + boolByte (eqb i j) ≡ x) (λ (m : ℕ). getD counts m 0) j (suc (getD counts j 0)) i
+      (λ q. omega (arith, ap boolByte (eq-eqb i j q), ap (λ (m : ℕ). getD counts m 0) q))
+      (λ q. omega (arith, ap boolByte (ne-eqb i j q)))
+
+  pub raised-small : (all : List ℕ) (i : ℕ) → Raised counts j all i → getD counts i 0 ≤ 256 → getD all i 0 + boolByte (eqb i j) ≤ 257
+  raised-small all i r small = go (eqb i j)
+    where
+      go : (t : Bool) → getD all i 0 + boolByte t ≤ 257
+      go true = omega (arith, r .above i (omega arith))
+      go false = omega (arith, r .above i (omega arith))
+
+  pub raised-more : (all : List ℕ) (i : ℕ) → Raised counts j all i → i < 8 → Raised counts j (set all i (getD all i 0 + boolByte (eqb i j))) (i + 1)
+  raised-more all i r l =
+      let f : ℕ → ℕ = upd (λ (m : ℕ). getD counts m 0) j (suc (getD counts j 0)) in
+      let new : getD all i 0 + boolByte (eqb i j) ≡ f i = ap (λ (x : ℕ). x + boolByte (eqb i j)) (r .above i (omega arith)) ∙ raised-at i in record {
+        within = omega arith;
+        long = length-set all i (getD all i 0 + boolByte (eqb i j)) ∙ r .long;
+        below = λ k q. ap (λ (x : ℕ). getD (set all i x) k 0) new ∙ stored-more all f i (omega (arith, r .long)) (r .below) k q;
+        above = λ k q. getD-set-other all i k (getD all i 0 + boolByte (eqb i j)) 0 (λ e. omega arith) ∙ r .above k (omega arith);
+      }
+
+  -- past the eighth there is no count
+  pub raised-all : (all : List ℕ) → Raised counts j all 8 → j < 8 → OneMore counts all j
+  raised-all all r h = fun-ext (λ k.
+      split (ltb k 8)
+      (λ t. r .below k (ltb-true k 8 t))
+      (λ t.
+      let past : 8 ≤ k = ltb-false k 8 t in
+      upd-elim (λ (x : ℕ). getD all k 0 ≡ x) (λ (i : ℕ). getD counts i 0) j (suc (getD counts j 0)) k
+      (λ q. absurd (omega arith))
+      (λ q. r .above k past)))
 
 -- ---- known sets
 
@@ -56,11 +104,11 @@ or-cond : (t u : Bool) → t || u ≡ cond t true u
 or-cond true u = refl
 or-cond false u = refl
 
-pub known-more : (l : List ℕ) (k : ℕ) → k / 64 < length l → has (insert l k) ≡ upd (has l) k true
+known-more : (l : List ℕ) (k : ℕ) → k / 64 < length l → has (insert l k) ≡ upd (has l) k true
 known-more l k h = fun-ext (λ x. has-insert l k x h ∙ ap (λ (t : Bool). t || has l x) (eqb-turn k x) ∙ or-cond (eqb x k) (has l x))
 
 -- w and what it saw
-pub known-joined : (l m : List ℕ) (w : ℕ) → length m ≤ length l → w / 64 < length l
+known-joined : (l m : List ℕ) (w : ℕ) → length m ≤ length l → w / 64 < length l
     → has (insert (orRow l m) w) ≡ (λ (x : ℕ). eqb x w || (has m x || has l x))
 known-joined l m w h k = fun-ext (λ x.
     has-insert (orRow l m) w x (omega (arith, length-or l m))
@@ -69,56 +117,147 @@ known-joined l m w h k = fun-ext (λ x.
 
 -- ---- needs
 
-pub reached-more : (k : ℕ) (needs held : ℕ → ℕ) → reached k needs held ≡ true → leb (needs k) (held k) ≡ true → reached (k + 1) needs held ≡ true
-unfolding reached
-reached-more k needs held e f = rw (add-one, e) f
+-- one count more that reaches its need, and one that doesn't
+module _ (k : ℕ) (needs held : ℕ → ℕ) where
+  pub reached-more : leb (needs k) (held k) ≡ true → reached k needs held ≡ reached (k + 1) needs held
+  unfolding reached
+  reached-more e = sym (rw (add-one, e) (and-true (reached k needs held)))
 
--- one count that doesn't reach its need is enough
-pub reached-stops : (n k : ℕ) (needs held : ℕ → ℕ) → k < n → leb (needs k) (held k) ≡ false → reached n needs held ≡ false
-unfolding reached
-reached-stops zero k needs held l e = absurd (omega arith)
-reached-stops (suc n) k needs held l e =
-    lt-suc-elim k n l
-    (λ q. ap (λ (t : Bool). t && leb (needs n) (held n)) (reached-stops n k needs held q e))
-    (λ q. ap (λ (t : Bool). reached n needs held && t) (rw (← q) e) ∙ and-false (reached n needs held))
+  pub reached-less : leb (needs k) (held k) ≡ false → false ≡ reached (k + 1) needs held
+  unfolding reached
+  reached-less e = sym (rw (add-one, e) (and-false (reached k needs held)))
+
+-- ---- rows of known events, four words a site
+
+-- the words of a row as code lends them
+lent-row : (g : List ℕ) (b : ℕ) → take (4 * b + 4 - 4 * b) (drop (4 * b) g) ≡ rowAt g 4 b
+lent-row g b =
+    let wide : 4 * b + 4 - 4 * b ≡ 4 = omega arith in
+    let place : 4 * b ≡ b * 4 = omega arith in
+    ap₂ (λ (k i : ℕ). take k (drop i g)) wide place
+
+module _ (known : List ℕ) (s : ℕ) where
+  pub known-row : (w : ℕ) → w < 256 → has known (256 * s + w) ≡ has (rowAt known 4 s) w
+  known-row w h =
+      let place : 256 * s + w ≡ 64 * (s * 4) + w = omega arith in
+      ap (has known) place ∙ sym (has-row known 4 s w (omega arith))
+
+  module _ (long : length known ≡ 32) (here : s < 8) (w : ℕ) (small : w < 256) where
+    row-long : length (rowAt known 4 s) ≡ 4
+    row-long = length-row known 4 s (omega arith)
+
+    -- site s comes to know w
+    pub know-row : (t : ℕ) → has (rowAt (insert known (256 * s + w)) 4 t)
+        ≡ upd (λ (r : ℕ). has (rowAt known 4 r)) s (upd (has (rowAt known 4 s)) w true) t
+    know-row t =
+        let place : 256 * s + w ≡ 64 * (s * 4) + w = omega arith in
+        let after : List ℕ = insert known (64 * (s * 4) + w) in
+        ap (λ (p : ℕ). has (rowAt (insert known p) 4 t)) place
+        ∙ upd-elim (λ (f : ℕ → Bool). has (rowAt after 4 t) ≡ f) (λ (r : ℕ). has (rowAt known 4 r)) s (upd (has (rowAt known 4 s)) w true) t
+        (λ q. ap (λ (r : ℕ). has (rowAt after 4 r)) q ∙ ap has (row-insert-same known 4 s w (omega arith)) ∙ known-more (rowAt known 4 s) w (omega (arith, row-long)))
+        (λ q. ap has (row-insert-other known 4 s w (omega arith) t q))
+
+-- site s comes to know w and what w saw
+pub learn-row : (known sees : List ℕ) (s w : ℕ) (joined after : List ℕ) → length known ≡ 32 → length sees ≡ 1024 → s < 8 → w < 256
+    → joined ≡ orPart known (4 * s) (take (4 * w + 4 - 4 * w) (drop (4 * w) sees)) → after ≡ insert joined (256 * s + w)
+    → (t : ℕ) → has (rowAt after 4 t)
+    ≡ upd (λ (r : ℕ). has (rowAt known 4 r)) s (λ (x : ℕ). eqb x w || (has (rowAt sees 4 w) x || has (rowAt known 4 s) x)) t
+learn-row known sees s w joined after long wide here small e f t =
+    let m : List ℕ = rowAt sees 4 w in
+    let room : s * 4 + 4 ≤ length known = omega arith in
+    let four : length m ≡ 4 = length-row sees 4 w (omega arith) in
+    let place : 4 * s ≡ s * 4 = omega arith in
+    let bit : 256 * s + w ≡ 64 * (s * 4) + w = omega arith in
+    let union : List ℕ = orPart known (s * 4) m in
+    let made : joined ≡ union = e ∙ ap₂ (λ (i : ℕ) (l : List ℕ). orPart known i l) place (lent-row sees w) in
+    let last : List ℕ = insert union (64 * (s * 4) + w) in
+    let row : List ℕ = rowAt known 4 s in
+    ap (λ (l : List ℕ). has (rowAt l 4 t)) (f ∙ ap₂ insert made bit)
+    ∙ upd-elim (λ (g : ℕ → Bool). has (rowAt last 4 t) ≡ g) (λ (r : ℕ). has (rowAt known 4 r)) s (λ (x : ℕ). eqb x w || (has m x || has row x)) t
+    (λ q.
+    ap (λ (r : ℕ). has (rowAt last 4 r)) q
+    ∙ ap has (row-insert-same union 4 s w (omega arith) ∙ ap (λ (l : List ℕ). insert l w) (row-or-same known 4 s m four room))
+    ∙ known-joined row m w (omega (arith, length-row known 4 s room)) (omega (arith, length-row known 4 s room)))
+    (λ q. ap has (row-insert-other union 4 s w (omega arith) t q ∙ row-or-other known 4 s m four room t q))
+
+-- event k comes to see what site s knows
+pub see-row : (known sees : List ℕ) (s k : ℕ) (m after : List ℕ) → length known ≡ 32 → length sees ≡ 1024 → s < 8 → k < 256
+    → m ≡ take (4 * s + 4 - 4 * s) (drop (4 * s) known) ++ drop (length (take (4 * s + 4 - 4 * s) (drop (4 * s) known))) (take (4 * k + 4 - 4 * k) (drop (4 * k) sees))
+    → after ≡ take (4 * k) sees ++ (m ++ drop (4 * k + 4 - 4 * k) (drop (4 * k) sees))
+    → (length after ≡ 1024) × ((e : ℕ) → has (rowAt after 4 e) ≡ upd (λ (r : ℕ). has (rowAt sees 4 r)) k (has (rowAt known 4 s)) e)
+see-row known sees s k m after long wide here small copied given =
+    let room : k * 4 + 4 ≤ length sees = omega arith in
+    let from : length (rowAt known 4 s) ≡ 4 = length-row known 4 s (omega arith) in
+    let whole : m ≡ rowAt known 4 s =
+    front-all (rowAt known 4 s) (rowAt sees 4 k) (length (rowAt known 4 s))
+    (copied ∙ ap₂ (λ (l r : List ℕ). l ++ drop (length l) r) (lent-row known s) (lent-row sees k)) (omega (arith, length-row sees 4 k room)) in
+    let four : length m ≡ 4 = ap length whole ∙ from in
+    let width : 4 * k + 4 - 4 * k ≡ 4 = omega arith in
+    let place : 4 * k ≡ k * 4 = omega arith in
+    let put : after ≡ putRow sees 4 k m = given ∙ ap₂ (λ (n i : ℕ). take i sees ++ (m ++ drop n (drop i sees))) width place in (
+      ap length put ∙ length-put sees 4 k m four room ∙ wide,
+      λ e.
+          ap (λ (l : List ℕ). has (rowAt l 4 e)) put
+          ∙ upd-elim (λ (f : ℕ → Bool). has (rowAt (putRow sees 4 k m) 4 e) ≡ f) (λ (r : ℕ). has (rowAt sees 4 r)) k (has (rowAt known 4 s)) e
+          (λ q. ap (λ (r : ℕ). has (rowAt (putRow sees 4 k m) 4 r)) q ∙ ap has (row-put-same sees 4 k m four room ∙ whole))
+          (λ q. ap has (row-put-other sees 4 k m four room e q)),
+    )
+
+-- ---- cells
+
+-- (stamp, site) as one number
+order-before : (a b : ℕ) → before (a / 8) (a % 8) (b / 8) (b % 8) ≡ ltb a b
+order-before a b =
+    same-test (before (a / 8) (a % 8) (b / 8) (b % 8)) (ltb a b)
+    (λ e. lt-ltb a b (omega (arith, before-key (a / 8) (a % 8) (b / 8) (b % 8) (omega arith) e)))
+    (λ e. split (before (a / 8) (a % 8) (b / 8) (b % 8)) (λ t. t)
+    (λ t. absurd (omega (arith, ltb-true a b e, not-before-key (a / 8) (a % 8) (b / 8) (b % 8) (omega arith) t))))
+
+module _ (x : KeptCell) (v b : ℕ) (stamped : 8 ≤ b) where
+  pub merged-new : x .order < b → cellOf (record { value = v; order = b }) ≡ merge (cellOf x) v (b / 8) (b % 8)
+  merged-new l = ap (λ (t : Bool). cond t empty (full v (b / 8) (b % 8))) (ne-eqb b 0 (λ q. omega arith)) ∙ go (eqb (x .order) 0)
+    where
+      go : (t : Bool) → full v (b / 8) (b % 8) ≡ merge (cond t empty (full (x .value) (x .order / 8) (x .order % 8))) v (b / 8) (b % 8)
+      go true = refl
+      go false = rw (order-before (x .order) b, lt-ltb (x .order) b l)
+
+  pub merged-old : b ≤ x .order → cellOf x ≡ merge (cellOf x) v (b / 8) (b % 8)
+  merged-old l = rw (ne-eqb (x .order) 0 (λ q. omega arith), order-before (x .order) b, le-ltb (x .order) b l)
 
 -- ---- sites
 
-pub kept-get : (a : Kept) (k : ℕ) (known : List ℕ) → has known ≡ upd (has (a .known)) k true
-    → (cells : ℕ → Cell) → siteOf (record { clock = a .clock + 1; counts = a .counts; known = known }) cells ≡ afterGet (siteOf a cells) k
-kept-get a k known e cells = λ i. record {
+pub kept-get : (a : Kept) (known : ℕ → Bool) (cells : ℕ → Cell) (k : ℕ)
+    → siteOf (record { clock = a .clock + 1; counts = a .counts }) (upd known k true) cells ≡ afterGet (siteOf a known cells) k
+kept-get a known cells k = λ i. record {
   clock = add-one (a .clock) i;
   held = λ j. getD (a .counts) j 0;
-  known = e i;
+  known = upd known k true;
   cell = cells;
 }
 
-pub kept-put : (a : Kept) (s k : ℕ) (counts known : List ℕ)
-    → (λ (i : ℕ). getD counts i 0) ≡ upd (λ (i : ℕ). getD (a .counts) i 0) s (suc (getD (a .counts) s 0))
-    → has known ≡ upd (has (a .known)) k true
-    → (cells : ℕ → Cell) (o v : ℕ)
-    → siteOf (record { clock = a .clock + 1; counts = counts; known = known }) (upd cells o (full v (suc (a .clock)) s)) ≡ afterPut (siteOf a cells) s k o v
-kept-put a s k counts known h e cells o v = λ i. record {
+pub kept-put : (a : Kept) (s : ℕ) (counts : List ℕ) → OneMore (a .counts) counts s
+    → (known : ℕ → Bool) (cells : ℕ → Cell) (k o v : ℕ)
+    → siteOf (record { clock = a .clock + 1; counts = counts }) (upd known k true) (upd cells o (full v (suc (a .clock)) s)) ≡ afterPut (siteOf a known cells) s k o v
+kept-put a s counts h known cells k o v = λ i. record {
   clock = add-one (a .clock) i;
   held = h i;
-  known = e i;
+  known = upd known k true;
   cell = upd cells o (full v (suc (a .clock)) s);
 }
 
-pub kept-delivery : (a : Kept) (w : ℕ) (e : KeptEvent) (clock : ℕ) (counts known : List ℕ)
-    → clock ≡ max (a .clock) (e .stamp)
-    → (λ (i : ℕ). getD counts i 0) ≡ upd (λ (i : ℕ). getD (a .counts) i 0) (e .site) (suc (getD (a .counts) (e .site) 0))
-    → has known ≡ (λ (x : ℕ). eqb x w || (has (e .sees) x || has (a .known) x))
+pub kept-delivery : (a : Kept) (e : KeptEvent) (clock : ℕ) (counts : List ℕ)
+    → clock ≡ max (a .clock) (e .order / 8)
+    → OneMore (a .counts) counts (e .order % 8)
     → e .present ≡ true
-    → (cells : ℕ → Cell)
-    → siteOf (record { clock = clock; counts = counts; known = known })
-    (upd cells (e .object) (merge (cells (e .object)) (e .value) (e .stamp) (e .site)))
-    ≡ afterDelivery (siteOf a cells) w (eventOf e)
-kept-delivery a w e clock counts known c h k p cells =
+    → (known sees : ℕ → Bool) (cells : ℕ → Cell) (w : ℕ)
+    → siteOf (record { clock = clock; counts = counts }) (λ (x : ℕ). eqb x w || (sees x || known x))
+    (upd cells (e .object) (merge (cells (e .object)) (e .value) (e .order / 8) (e .order % 8)))
+    ≡ afterDelivery (siteOf a known cells) w (eventOf e sees)
+kept-delivery a e clock counts c h p known sees cells w =
     let shown : e .value ≡ valueOr0 (cond (e .present) (value (e .value)) none) = rw p in
     λ i. record {
       clock = c i;
       held = h i;
-      known = k i;
-      cell = upd cells (e .object) (merge (cells (e .object)) (shown i) (e .stamp) (e .site));
+      known = λ (x : ℕ). eqb x w || (sees x || known x);
+      cell = upd cells (e .object) (merge (cells (e .object)) (shown i) (e .order / 8) (e .order % 8));
     }

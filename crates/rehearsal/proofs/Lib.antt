@@ -1,5 +1,7 @@
--- Laws of the store kept in arrays, which functions' proofs cite.
+-- Laws of the store kept in arrays, which functions' proofs cite. What users should know: FoundCausal.
 pub mod KeptLaws
+pub mod CallLaws
+pub mod BucketLaws
 pub mod ServeLaws
 pub mod MirrorLaws
 pub mod RunLaws
@@ -8,3 +10,4 @@ pub mod ImageLaws
 pub mod RehearsalLaws
 pub mod ResultSizes
 pub mod PackedLaws
+pub mod FoundCausal

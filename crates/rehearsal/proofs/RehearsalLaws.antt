@@ -15,14 +15,15 @@ use Rattle.record.proofs.SoundLayout.{gcr1-sound}
 use Rattle.record.proofs.ImageLaws.{length-record}
 use Rattle.store.specs.Store.{Event, fresh}
 use Rattle.store.specs.Calls.{callsOf}
-use Rattle.store.specs.Rules.{ask, answers}
+use Rattle.store.specs.Rules.{ask, run, answers}
 use Rattle.store.specs.Recorded.{recorded, storeRecord}
 use Rattle.store.specs.Rehearsal.{rehearsalRefusal, storeAfter, recordOf, recordAfter, answersAfter, lengthAfter, puts, mostCopies}
-use Rattle.rehearsal.specs.Mirror.{Stands, Bounded}
+use Rattle.rehearsal.specs.Mirror.{Stands, Bounded, Distinct}
 use Rattle.store.specs.Demand.{Rehearses}
 use Rattle.rehearsal.specs.declared.KeptEvent.{KeptEvent}
 use Rattle.store.proofs.RunKeeps.{every-run}
 use Rattle.store.proofs.Sizes.{every-limits, every-sizes}
+use Rattle.store.proofs.StoreIsCausal.{key-once}
 use Rattle.store.proofs.ThirdDemand.{third-demand}
 
 -- ---- what a run leaves is small
@@ -32,19 +33,24 @@ unfolding storeAfter
 store-few n script = every-limits n (callsOf script) .count
 
 module _ (n : ℕ) (n≤8 : n ≤ 8) (script : List ℕ) where
-  store-site : (e : ℕ) → e < storeAfter n script .count → storeAfter n script .event e .site < 8
-  unfolding storeAfter
-  store-site e l = omega (arith, every-run n n≤8 (callsOf script) .events e l .site)
-
   store-stamp : (e : ℕ) → e < storeAfter n script .count → storeAfter n script .event e .stamp ≤ 256
   unfolding storeAfter
   store-stamp e l = omega (arith, every-sizes n n≤8 (callsOf script) .stamp e l, every-limits n (callsOf script) .count)
 
-  pub run-bounded : (count : ℕ) (events : List KeptEvent) → Stands count events (storeAfter n script) → Bounded count events
-  run-bounded count events h = record {
+  store-object : (e : ℕ) → e < storeAfter n script .count → storeAfter n script .event e .object ≤ 31
+  unfolding storeAfter
+  store-object e l = every-limits n (callsOf script) .object e l
+
+  pub store-distinct : Distinct (storeAfter n script)
+  unfolding storeAfter
+  store-distinct d e h k stamps sites =
+      key-once n n≤8 (run n fresh (callsOf script)) (every-run n n≤8 (callsOf script)) d e h k (omega (arith, stamps, sites))
+
+  pub run-bounded : (count : ℕ) (events : List KeptEvent) (sees : List ℕ) → Stands count events sees (storeAfter n script) → Bounded count events
+  run-bounded count events sees h = record {
     count = omega (arith, h .count, store-few n script);
-    site = λ e l. omega (arith, ap (λ (x : Event). x .site) (h .event e l), store-site e (omega (arith, h .count)));
-    stamp = λ e l. omega (arith, ap (λ (x : Event). x .stamp) (h .event e l), store-stamp e (omega (arith, h .count)));
+    order = λ e l. omega (arith, ap (λ (x : Event). x .stamp) (h .event e l), store-stamp e (omega (arith, h .count)));
+    object = λ e l. omega (arith, ap (λ (x : Event). x .object) (h .event e l), store-object e (omega (arith, h .count)));
   }
 
 -- ---- questions 20 to 23
@@ -94,8 +100,8 @@ module _ (n : ℕ) (script rec ans : List ℕ) where
         causal = λ z. absurd (some z);
       }
 
-  module _ (ok : rehearsalRefusal n script rec ans ≡ 0) (bytes : Bytes script) (count : ℕ) (events : List KeptEvent)
-      (stands : Stands count events (storeAfter n script)) where
+  module _ (ok : rehearsalRefusal n script rec ans ≡ 0) (bytes : Bytes script) (count : ℕ) (events : List KeptEvent) (sees : List ℕ)
+      (stands : Stands count events sees (storeAfter n script)) where
     record-long : length (recordOf n script) ≡ 512 * blocksFor gcr1 count
     unfolding recordOf storeRecord recorded
     record-long = length-record gcr1 gcr1-sound (recorded (storeAfter n script)) n ∙ ap (λ (k : ℕ). 512 * blocksFor gcr1 k) (sym (stands .count))

@@ -1,28 +1,34 @@
 -- The loop over a script: after k calls the arrays stand for the store of those calls, and their answers are written. Assumes nothing.
-use mathlib.Core.Path.{_≡_, refl, sym, ap, _∙_}
-use mathlib.Core.Bool.{Bool, true, false}
+use mathlib.Core.Path.{_≡_, refl, sym, ap, ap₂, _∙_}
+use mathlib.Core.Bool.{Bool, true, false, cond, _||_}
 use mathlib.Core.List.{List, [], _∷_, _++_}
 use Prim.Native.Nat.{ℕ, zero, suc, _+_, _*_, _/_, _%_, _≤_, _<_}
 use native.Mathlib.Nat.{not-suc-le-zero, le-of-suc-le-suc}
 use native.Mathlib.Numerals.{add-one}
 use native.Mathlib.Omega.{arith}
-use lib.ListN.{length, getD, set, take, drop, replicate, length-replicate, length-set, length-append, length-drop}
-use lib.Seq.{sets, sets-eq, length-sets, take-at, take-all, drop-append-add, drop-drop}
+use lib.Dec.{eqb}
+use lib.ListN.{length, getD, set, take, drop, replicate, length-replicate, length-append, length-drop}
+use lib.Seq.{sets, sets-eq, length-sets, take-at, take-all, drop-append-add, drop-drop, getD-set-same, getD-set-other}
+use borrow.Author.Tests.{eq-eqb, ne-eqb, eqb-true, eqb-false}
+use Rattle.rows.specs.Row.{has, rowAt}
+use Rattle.rows.proofs.Tests.{split}
 use Rattle.consistency.specs.Reads.{value}
-use Rattle.store.specs.Store.{Site, Event, Store, fresh}
-use Rattle.store.specs.Calls.{callAt, callsOf}
-use Rattle.store.specs.Rules.{answer, step, answers}
+use Rattle.store.specs.Store.{upd, Cell, merge, Site, Event, Store, fresh}
+use Rattle.store.specs.Calls.{Call, deliver, callAt, callsOf}
+use Rattle.store.specs.Rules.{refusal, afterDelivery, doneAnswer, answer, step, answers}
 use Rattle.store.specs.Rehearsal.{storeAfter}
-use Rattle.rehearsal.specs.Mirror.{callOf, shownOf, eventOf, noCell, pastEvent, pastSite, freshKept, freshEvent, storeOf, objectOf, Concerned, Small, Serves, Stands}
+use Rattle.rehearsal.specs.Mirror.{callOf, cellOf, shownOf, eventOf, siteOf, noCell, pastEvent, pastSite, freshKept, freshEvent, partOf, Made, Stands}
 use Rattle.rehearsal.specs.declared.Asked.{Asked}
 use Rattle.rehearsal.specs.declared.Kept.{Kept}
 use Rattle.rehearsal.specs.declared.KeptCell.{KeptCell}
 use Rattle.rehearsal.specs.declared.KeptEvent.{KeptEvent}
 use Rattle.rehearsal.specs.declared.Served.{Served}
 use Rattle.store.proofs.Invariant.{StoreInv}
+use Rattle.store.proofs.RunKeeps.{Doable}
 use Rattle.store.proofs.Sizes.{Limits, Sizes}
 use Rattle.store.proofs.WholeList.{storeUpTo, answersUpTo, store-none, store-more, answers-none, answers-more, up-to-keeps, up-to-limits, up-to-sizes, store-whole, answers-whole, answer-length, answers-up-to-length}
-use Rattle.rehearsal.proofs.MirrorLaws.{fresh-store, store-count, site-at, event-at, concerned, turn, turn-made}
+use Rattle.rehearsal.proofs.ServeLaws.{same-refusal, some-kind, put-fits, get-fits, deliver-fits, deliver-site, deliver-call}
+use Rattle.rehearsal.proofs.MirrorLaws.{Arrays, storeIn, Sized, fresh-store, store-count, site-at, event-at, site-found, cell-at, found, withSite, withMade, site-sized, made-sized, refused-step, delivered-step, made-step}
 
 -- ---- stores one after the other
 
@@ -53,160 +59,327 @@ lay front bytes rest k p q l =
     ∙ ap (λ (h : List ℕ). h ++ bytes ++ drop (8 * k + length bytes) all) (take-at front (drop (8 * k) rest) (8 * k) p)
     ∙ ap (λ (h : List ℕ). front ++ bytes ++ h) past
 
--- ---- what a call finds is small
+-- ---- what a call is answered
+
+refused-answer : (n : ℕ) (st : Store) (call : Call) → (refusal n st call ≡ 0 → ⊥) → answer n st call ≡ refusal n st call ∷ replicate 7 0
+unfolding answer
+refused-answer n st call d = rw (ne-eqb (refusal n st call) 0 d) refl
+
+done-answer : (n : ℕ) (st : Store) (call : Call) → refusal n st call ≡ 0 → answer n st call ≡ doneAnswer st call
+unfolding answer
+done-answer n st call q = rw (eq-eqb (refusal n st call) 0 q) refl
+
+delivery-answer : (st : Store) (w t : ℕ) → doneAnswer st (deliver w t) ≡ replicate 8 0
+unfolding doneAnswer
+delivery-answer st w t = refl
+
+-- ---- what a call finds
 
 shown-present : (t : Bool) (v u : ℕ) → shownOf t v ≡ value u → t ≡ true
 shown-present true v u e = refl
 shown-present false v u e = cc
 
-module _ (n : ℕ) (n≤8 : n ≤ 8) (script : List ℕ) (k count : ℕ) (events : List KeptEvent) (sites : List Kept) (cells : List KeptCell)
-    (same : storeOf count events sites cells ≡ storeUpTo k n script) where
-  abbrev st : Store
-  st = storeOf count events sites cells
-
-  limits : Limits st
-  limits = rw same (up-to-limits k n script)
-
-  sizes : Sizes st
-  sizes = rw same (up-to-sizes k n n≤8 script)
-
-  keeps : StoreInv n (st .event) st
-  keeps = rw same (up-to-keeps k n n≤8 script)
-
-  pub count-few : count ≤ 256
-  count-few = rw store-count at (limits .count)
-
-  event-found : (w : ℕ) → w < count → st .event w ≡ eventOf (getD events (w % 256) pastEvent)
-  event-found w l =
-      let same : w ≡ w % 256 = omega (arith, count-few) in
-      event-at count events sites cells w l ∙ ap (λ (i : ℕ). eventOf (getD events i pastEvent)) same
-
-  pub small : (c : Asked) → Small n count c (getD sites (c .site % 8) pastSite) (getD events (c .event % 256) pastEvent)
-  small c =
-      let s : ℕ = c .site % 8 in
-      let w : ℕ = c .event in
-      let e : KeptEvent = getD events (w % 256) pastEvent in
-      let site = site-at count events sites cells s (omega arith) in
-      let done : w < count → w < st .count = λ l. rw store-count l in
-      record {
-        sites = n≤8;
-        few = count-few;
-        clock = omega (arith, sizes .clock s, ap (λ (x : Site). x .clock) site, limits .count);
-        held = λ i. omega (arith, sizes .held s i, ap (λ (x : Site). x .held i) site, limits .count);
-        site = λ l. omega (arith, keeps .events w (done l) .site, ap (λ (x : Event). x .site) (event-found w l));
-        object = λ l. omega (arith, limits .object w (done l), ap (λ (x : Event). x .object) (event-found w l));
-        present = λ l p.
-            let found = event-found w l in
-            let put : st .event w .isPut ≡ true = ap (λ (x : Event). x .isPut) found ∙ p in
-            shown-present (e .present) (e .value) _ (sym (ap (λ (x : Event). x .shown) found) ∙ keeps .events w (done l) .written put);
-      }
+-- every event has a stamp, and so has one more
+more-stamped : (events : List KeptEvent) (count : ℕ) (e : KeptEvent) → count < length events → 8 ≤ e .order
+    → ((i : ℕ) → i < count → 8 ≤ getD events i pastEvent .order)
+    → (i : ℕ) → i < count + 1 → 8 ≤ getD (set events count e) i pastEvent .order
+more-stamped events count e l m h i j =
+    split (eqb i count)
+    (λ t. rw (eqb-true i count t, getD-set-same events count e pastEvent l) m)
+    (λ t.
+    let d : i ≡ count → ⊥ = eqb-false i count t in
+    rw (getD-set-other events count i e pastEvent d) (h i (omega arith)))
 
 -- ---- the loop
 
-pub record Turned (n : ℕ) (script out₀ out : List ℕ) (sites : List Kept) (cells : List KeptCell) (events : List KeptEvent) (count deliveries k : ℕ)
-    : Type 0 where
+pub record Turned (n : ℕ) (script out₀ out : List ℕ) (z : Arrays) (deliveries k : ℕ) : Type 0 where
   pub within : k ≤ length script / 8
   pub few : deliveries ≤ k
-  pub sites-size : length sites ≡ 8
-  pub cells-size : length cells ≡ 256
-  pub events-size : length events ≡ 256
-  pub store : storeOf count events sites cells ≡ storeUpTo k n script
+  pub sized : Sized z
+  -- an event's stamp is 1 or more
+  pub stamped : (e : ℕ) → e < z .count → 8 ≤ getD (z .events) e pastEvent .order
+  pub store : storeIn z ≡ storeUpTo k n script
   pub long : length out ≡ length out₀
   pub written : out ≡ answersUpTo k n script ++ drop (8 * k) out₀
 
 pub turned-none : (n : ℕ) (script out : List ℕ) (a : Kept) (x : KeptCell) (e : KeptEvent) → a ≡ freshKept → x ≡ noCell → e ≡ freshEvent
-    → Turned n script out out (replicate 8 a) (replicate 256 x) (replicate 256 e) 0 0 0
+    → Turned n script out out
+    (record {
+      count = 0;
+      events = replicate 256 e;
+      sees = replicate 1024 0;
+      kept = replicate 8 a;
+      known = replicate 32 0;
+      cells = replicate 256 x;
+    })
+    0 0
 turned-none n script out a x e p q r = record {
   within = omega arith;
   few = omega arith;
-  sites-size = length-replicate 8 a;
-  cells-size = length-replicate 256 x;
-  events-size = length-replicate 256 e;
+  sized = record {
+    events = length-replicate 256 e;
+    sees = length-replicate {A = ℕ} 1024 0;
+    kept = length-replicate 8 a;
+    known = length-replicate {A = ℕ} 32 0;
+    cells = length-replicate 256 x;
+  };
+  stamped = λ e l. absurd (omega arith);
   store = rw (p, q, r) (fresh-store ∙ sym (store-none n script));
   long = refl;
   written = ap (λ (l : List ℕ). l ++ out) (sym (answers-none n script));
 }
 
-module _ (n : ℕ) (n≤8 : n ≤ 8) (script out₀ out : List ℕ) (sites : List Kept) (cells : List KeptCell) (events : List KeptEvent) (count deliveries k : ℕ)
-    (h : Turned n script out₀ out sites cells events count deliveries k)
-    (c : Asked) (asked : callOf c ≡ callAt script (8 * k)) where
-  abbrev s : ℕ
-  s = c .site % 8
+-- the number of events stays small
+pub count-few : (n : ℕ) (script out₀ out : List ℕ) (z : Arrays) (deliveries k : ℕ) → Turned n script out₀ out z deliveries k → z .count ≤ 256
+count-few n script out₀ out z deliveries k h =
+    let limits : Limits (storeIn z) = rw (h .store) (up-to-limits k n script) in
+    rw (store-count z) at (limits .count)
+
+-- a turn: call k of the script, at site s and of event w, and the number that refuses it, or 0
+pub record Turn : Type 0 where
+  pub n : ℕ
+  pub script : List ℕ
+  pub out₀ : List ℕ
+  pub out : List ℕ
+  pub z : Arrays
+  pub deliveries : ℕ
+  pub k : ℕ
+  pub c : Asked
+  pub s : ℕ
+  pub w : ℕ
+  pub number : ℕ
+
+-- the site and the event that it concerns
+abbrev pub keptSite : Turn → Kept
+keptSite t = getD (t .z .kept) (t .s) pastSite
+
+abbrev pub keptEvent : Turn → KeptEvent
+keptEvent t = getD (t .z .events) (t .w) pastEvent
+
+-- what holds of it
+pub record Right (t : Turn) : Type 0 where
+  pub sites : t .n ≤ 8
+  pub inv : Turned (t .n) (t .script) (t .out₀) (t .out) (t .z) (t .deliveries) (t .k)
+  pub asked : callOf (t .c) ≡ callAt (t .script) (8 * t .k)
+  pub kind : t .c .kind ≤ 3
+  pub site : t .s ≡ t .c .site % 8
+  pub event : t .w ≡ t .c .event % 256
+  pub told : t .number
+      ≡ refusal (t .n) (partOf (t .z .count) (keptSite t) (has (rowAt (t .z .known) 4 (t .c .site))) (keptEvent t)) (callOf (t .c))
+  pub short : length (t .script) ≤ length (t .out₀)
+  pub next : t .k < length (t .script) / 8
+
+-- a delivery of e to site a that is not refused
+pub record Delivered (n count : ℕ) (c : Asked) (a : Kept) (e : KeptEvent) : Type 0 where
+  pub site : c .site < n
+  pub event : c .event < count
+  pub order : 8 ≤ e .order
+  pub object : e .object ≤ 31
+  pub present : e .present ≡ true
+  pub held : (i : ℕ) → getD (a .counts) i 0 ≤ 256
+
+-- a put or a get at site a that is not refused
+pub record Makes (n count : ℕ) (c : Asked) (a : Kept) : Type 0 where
+  pub room : count < 256
+  pub site : c .site < n
+  pub object : c .object ≤ 31
+  pub clock : a .clock ≤ 256
+  pub held : (i : ℕ) → getD (a .counts) i 0 ≤ 256
+  pub least : 1 ≤ c .kind
+  pub most : c .kind ≤ 2
+
+module _ (t : Turn) (h : Right t) where
+  abbrev st : Store
+  st = storeIn (t .z)
+
+  abbrev call : Call
+  call = callOf (t .c)
+
+  abbrev a : Kept
+  a = keptSite t
 
   abbrev e : KeptEvent
-  e = getD events (c .event % 256) pastEvent
+  e = keptEvent t
 
-  module _ (o : ℕ) (object : o ≡ objectOf c e % 32) (r : Served)
-      (serves : (st : Store) → st .count ≡ count → Concerned n st c (getD sites s pastSite) e (getD cells (32 * s + o) noCell)
-      → Serves n st c (getD sites s pastSite) e (getD cells (32 * s + o) noCell) r) where
-    pub served : Serves n (storeOf count events sites cells) c (getD sites s pastSite) e (getD cells (32 * s + o) noCell) r
-    served =
-        serves (storeOf count events sites cells) (store-count count events sites cells)
-        (rw object (concerned count events sites cells n n≤8 (count-few n n≤8 script k count events sites cells (h .store)) c e refl))
+  limits : Limits st
+  limits = rw (h .inv .store) (up-to-limits (t .k) (t .n) (t .script))
 
-    pub room : r .made ≡ true → count < 256
-    room m = rw (store-count count events sites cells) at (served .room m)
+  sizes : Sizes st
+  sizes = rw (h .inv .store) (up-to-sizes (t .k) (t .n) (h .sites) (t .script))
 
-    module _ (short : length script ≤ length out₀) (next : k < length script / 8) (out′ : List ℕ) (wrote : out′ ≡ sets out (8 * k) (r .answer)) where
-      stepped : (st : Store) → st ≡ step n (storeOf count events sites cells) (callOf c) → st ≡ storeUpTo (k + 1) n script
-      stepped st e = rw (add-one, store-more, ← (h .store), ← asked) e
+  keeps : StoreInv (t .n) (st .event) st
+  keeps = rw (h .inv .store) (up-to-keeps (t .k) (t .n) (h .sites) (t .script))
 
-      more-written : out′ ≡ answersUpTo (k + 1) n script ++ drop (8 * (k + 1)) out₀
-      more-written =
-          let bytes : r .answer ≡ answer n (storeUpTo k n script) (callAt script (8 * k)) = rw (← (h .store), ← asked) (served .answer) in
-          let more : answersUpTo k n script ++ answer n (storeUpTo k n script) (callAt script (8 * k)) ≡ answersUpTo (k + 1) n script =
-          rw add-one (sym (answers-more k n script)) in
-          let eight : length (r .answer) ≡ 8 = ap length bytes ∙ answer-length n (storeUpTo k n script) (callAt script (8 * k)) in
-          wrote
-          ∙ ap (λ (l : List ℕ). sets l (8 * k) (r .answer)) (h .written)
-          ∙ lay (answersUpTo k n script) (r .answer) out₀ k (answers-up-to-length k n script) eight (omega arith)
-          ∙ ap (λ (l : List ℕ). l ++ drop (8 * (k + 1)) out₀)
-          (ap (λ (b : List ℕ). answersUpTo k n script ++ b) bytes ∙ more)
+  few : t .z .count ≤ 256
+  few = count-few (t .n) (t .script) (t .out₀) (t .out) (t .z) (t .deliveries) (t .k) (h .inv)
 
-      as-long : length out′ ≡ length out₀
-      as-long = ap length wrote ∙ length-sets out (8 * k) (r .answer) ∙ h .long
+  held-few : (i : ℕ) → getD (a .counts) i 0 ≤ 256
+  held-few i = omega (arith, sizes .held (t .s) i, ap (λ (x : Site). x .held i) (site-at (t .z) (t .s) (omega (arith, h .site))), limits .count)
 
-      pub turned : r .made ≡ false
-          → Turned n script out₀ out′ (set sites s (r .site)) (set cells (32 * s + o) (r .cell)) events count (deliveries + r .delivered) (k + 1)
-      turned m = record {
-        within = omega arith;
-        few = omega (arith, h .few, served .delivered);
-        sites-size = length-set sites s (r .site) ∙ h .sites-size;
-        cells-size = length-set cells (32 * s + o) (r .cell) ∙ h .cells-size;
-        events-size = h .events-size;
-        store = stepped _ (turn count events sites cells (h .sites-size) (h .cells-size) (h .events-size) n n≤8 c e r o object served m);
-        long = as-long;
-        written = more-written;
+  clock-few : a .clock ≤ 256
+  clock-few = omega (arith, sizes .clock (t .s), ap (λ (x : Site). x .clock) (site-at (t .z) (t .s) (omega (arith, h .site))), limits .count)
+
+  number-is : t .number ≡ refusal (t .n) st call
+  number-is =
+      h .told
+      ∙ rw (h .site, h .event)
+      (same-refusal (t .n) st (t .c) _ _ _ _ (found (t .z) (t .n) (h .sites) few (t .c)) (t .z .count) (store-count (t .z)))
+
+  pub delivers : t .number ≡ 0 → t .c .kind ≡ 3 → Delivered (t .n) (t .z .count) (t .c) (keptSite t) (keptEvent t)
+  delivers q kind =
+      let r : refusal (t .n) st call ≡ 0 = sym number-is ∙ q in
+      let w : ℕ = t .c .event in
+      let d = deliver-fits (t .n) st (t .c) r kind in
+      let l : w < t .z .count = rw (store-count (t .z)) at (d .done) in
+      let same : t .w ≡ w = omega (arith, few, h .event) in
+      let at : st .event w ≡ eventOf e (has (rowAt (t .z .sees) 4 w)) = rw same (event-at (t .z) w l) in
+      record {
+        site = deliver-site (t .n) st (t .c) r kind;
+        event = l;
+        order = rw same (h .inv .stamped w l);
+        object = omega (arith, limits .object w (d .done), ap (λ (x : Event). x .object) at);
+        present =
+            shown-present (e .present) (e .value) _
+            (sym (ap (λ (x : Event). x .shown) at) ∙ keeps .events w (d .done) .written (d .isPut));
+        held = held-few;
       }
 
-      pub turned-made : r .made ≡ true
-          → Turned n script out₀ out′ (set sites s (r .site)) (set cells (32 * s + o) (r .cell)) (set events count (r .event)) (count + 1)
-          (deliveries + r .delivered) (k + 1)
-      turned-made m = record {
-        within = omega arith;
-        few = omega (arith, h .few, served .delivered);
-        sites-size = length-set sites s (r .site) ∙ h .sites-size;
-        cells-size = length-set cells (32 * s + o) (r .cell) ∙ h .cells-size;
-        events-size = length-set events count (r .event) ∙ h .events-size;
-        store = stepped _ (turn-made count events sites cells (h .sites-size) (h .cells-size) (h .events-size) n n≤8 c e r o object served m);
-        long = as-long;
-        written = more-written;
+  pub makes : t .number ≡ 0 → (t .c .kind ≡ 3 → ⊥) → Makes (t .n) (t .z .count) (t .c) (keptSite t)
+  makes q other =
+      let r : refusal (t .n) st call ≡ 0 = sym number-is ∙ q in
+      let some = some-kind (t .n) st (t .c) r in
+      let fits : Doable (t .n) st (t .c .site) (t .c .object) =
+      split (eqb (t .c .kind) 1) (λ u. put-fits (t .n) st (t .c) r (eqb-true (t .c .kind) 1 u))
+      (λ u. get-fits (t .n) st (t .c) r (let one : t .c .kind ≡ 1 → ⊥ = eqb-false (t .c .kind) 1 u in omega (arith, h .kind))) in
+      record {
+        room = rw (store-count (t .z)) at (fits .room);
+        site = fits .site;
+        object = fits .object;
+        clock = clock-few;
+        held = held-few;
+        least = omega arith;
+        most = omega (arith, h .kind);
       }
 
-module _ (n : ℕ) (script out₀ out : List ℕ) (sites : List Kept) (cells : List KeptCell) (events : List KeptEvent) (count deliveries k : ℕ)
-    (h : Turned n script out₀ out sites cells events count deliveries k) (all : k ≡ length script / 8) where
-  whole : storeOf count events sites cells ≡ storeAfter n script
+  module _ (out′ bytes : List ℕ) (wrote : out′ ≡ sets (t .out) (8 * t .k) bytes) where
+    -- one call more, whichever way it went
+    turned : (z′ : Arrays) (deliveries′ : ℕ) → deliveries′ ≤ t .k + 1 → Sized z′
+        → ((e : ℕ) → e < z′ .count → 8 ≤ getD (z′ .events) e pastEvent .order)
+        → storeIn z′ ≡ step (t .n) st call → bytes ≡ answer (t .n) st call
+        → Turned (t .n) (t .script) (t .out₀) out′ z′ deliveries′ (t .k + 1)
+    turned z′ deliveries′ most sized stamped stepped answered =
+        let n : ℕ = t .n in
+        let k : ℕ = t .k in
+        let script : List ℕ = t .script in
+        let right : bytes ≡ answer n (storeUpTo k n script) (callAt script (8 * k)) = rw (← (h .inv .store), ← (h .asked)) answered in
+        let more : answersUpTo k n script ++ answer n (storeUpTo k n script) (callAt script (8 * k)) ≡ answersUpTo (k + 1) n script =
+        rw add-one (sym (answers-more k n script)) in
+        let eight : length bytes ≡ 8 = ap length right ∙ answer-length n (storeUpTo k n script) (callAt script (8 * k)) in
+        record {
+          within = omega (arith, h .next);
+          few = most;
+          sized = sized;
+          stamped = stamped;
+          store = rw (add-one, store-more, ← (h .inv .store), ← (h .asked)) stepped;
+          long = ap length wrote ∙ length-sets (t .out) (8 * k) bytes ∙ h .inv .long;
+          written =
+              wrote
+              ∙ ap (λ (l : List ℕ). sets l (8 * k) bytes) (h .inv .written)
+              ∙ lay (answersUpTo k n script) bytes (t .out₀) k (answers-up-to-length k n script) eight (omega (arith, h .next, h .short))
+              ∙ ap (λ (l : List ℕ). l ++ drop (8 * (k + 1)) (t .out₀))
+              (ap (λ (b : List ℕ). answersUpTo k n script ++ b) right ∙ more);
+        }
+
+    pub turned-refused : (t .number ≡ 0 → ⊥) → bytes ≡ t .number ∷ replicate 7 0
+        → Turned (t .n) (t .script) (t .out₀) out′ (t .z) (t .deliveries) (t .k + 1)
+    turned-refused d b =
+        let r : refusal (t .n) st call ≡ 0 → ⊥ = λ q. d (number-is ∙ q) in
+        turned (t .z) (t .deliveries) (omega (arith, h .inv .few)) (h .inv .sized) (h .inv .stamped) (refused-step (t .z) (h .inv .sized) (t .n) call r)
+        (b ∙ ap (λ (i : ℕ). i ∷ replicate 7 0) number-is ∙ sym (refused-answer (t .n) st call r))
+
+    module _ (q : t .number ≡ 0) where
+      done : refusal (t .n) st call ≡ 0
+      done = sym number-is ∙ q
+
+      pub turned-delivered : t .c .kind ≡ 3 → (b : Kept) (y : KeptCell) (known′ : List ℕ) (o : ℕ) → o ≡ e .object % 32
+          → ((known sees : ℕ → Bool) (cells : ℕ → Cell) (w : ℕ)
+          → siteOf b (λ x. eqb x w || (sees x || known x)) (upd cells (e .object) (merge (cells (e .object)) (e .value) (e .order / 8) (e .order % 8)))
+          ≡ afterDelivery (siteOf a known cells) w (eventOf e sees))
+          → cellOf y ≡ merge (cellOf (getD (t .z .cells) (32 * t .s + o) noCell)) (e .value) (e .order / 8) (e .order % 8)
+          → length known′ ≡ 32
+          → ((i : ℕ) → i < 8 → has (rowAt known′ 4 i)
+          ≡ cond (eqb i (t .s)) (λ x. eqb x (t .w) || (has (rowAt (t .z .sees) 4 (t .w)) x || has (rowAt (t .z .known) 4 (t .s)) x)) (has (rowAt (t .z .known) 4 i)))
+          → bytes ≡ replicate 8 0
+          → Turned (t .n) (t .script) (t .out₀) out′ (withSite (t .z) (t .s) b known′ (32 * t .s + o) y) (t .deliveries + 1) (t .k + 1)
+      turned-delivered kind b y known′ o at f merged long rows zeros =
+          let d = delivers q kind in
+          let object : o ≡ e .object = omega (arith, d .object) in
+          let site : t .s ≡ t .c .site = omega (arith, d .site, h .site, h .sites) in
+          let event : t .w ≡ t .c .event = omega (arith, d .event, few, h .event) in
+          let same : call ≡ deliver (t .w) (t .s) = deliver-call (t .c) kind ∙ ap₂ deliver (sym event) (sym site) in
+          turned (withSite (t .z) (t .s) b known′ (32 * t .s + o) y) (t .deliveries + 1) (omega (arith, h .inv .few))
+          (site-sized (t .z) (h .inv .sized) (t .s) b known′ (32 * t .s + o) y long)
+          (h .inv .stamped)
+          (rw (object, same)
+          (delivered-step (t .z) (h .inv .sized) (t .n) (t .w) (t .s) b y known′ (omega (arith, d .event)) (omega (arith, h .site)) (d .object) (rw same at done) f
+          (rw object at merged) rows))
+          (zeros ∙ sym (done-answer (t .n) st call done ∙ rw same (delivery-answer st (t .w) (t .s))))
+
+      pub turned-made : (t .c .kind ≡ 3 → ⊥) → (r : Served) (known′ sees′ : List ℕ) (o : ℕ) → o ≡ t .c .object % 32
+          → 8 ≤ r .event .order
+          → ((st : Store) (known : ℕ → Bool) → st .count ≡ t .z .count → st .site (t .c .site) ≡ siteOf a known (st .site (t .c .site) .cell)
+          → st .site (t .c .site) .cell (t .c .object) ≡ cellOf (getD (t .z .cells) (32 * t .s + o) noCell)
+          → Made st call (t .c .site) (t .c .object) known r)
+          → length known′ ≡ 32 → length sees′ ≡ 1024
+          → ((i : ℕ) → i < 8 → has (rowAt known′ 4 i)
+          ≡ cond (eqb i (t .s)) (upd (has (rowAt (t .z .known) 4 (t .s))) (t .z .count) true) (has (rowAt (t .z .known) 4 i)))
+          → ((i : ℕ) → i < 256 → has (rowAt sees′ 4 i) ≡ cond (eqb i (t .z .count)) (has (rowAt (t .z .known) 4 (t .s))) (has (rowAt (t .z .sees) 4 i)))
+          → bytes ≡ r .answer
+          → Turned (t .n) (t .script) (t .out₀) out′ (withMade (withSite (t .z) (t .s) (r .site) known′ (32 * t .s + o) (r .cell)) (r .event) sees′)
+          (t .deliveries) (t .k + 1)
+      turned-made other r known′ sees′ o at least made long wide rows seen b =
+          let z : Arrays = t .z in
+          let s : ℕ = t .s in
+          let d = makes q other in
+          let object : o ≡ t .c .object = omega (arith, d .object) in
+          let site : s ≡ t .c .site = omega (arith, d .site, h .site, h .sites) in
+          let small : s < 8 = omega (arith, h .site) in
+          let low : o ≤ 31 = omega arith in
+          let m : Made st call s o (has (rowAt (z .known) 4 s)) r =
+          rw (site, object)
+          (made st (has (rowAt (z .known) 4 (t .c .site))) (store-count z) (rw (← site) (site-found z s small))
+          (rw (← site, ← object) (cell-at z s o small low))) in
+          let with-site : Arrays = withSite z s (r .site) known′ (32 * s + o) (r .cell) in
+          turned (withMade with-site (r .event) sees′) (t .deliveries) (omega (arith, h .inv .few))
+          (made-sized with-site (site-sized z (h .inv .sized) s (r .site) known′ (32 * s + o) (r .cell) long) (r .event) sees′ wide)
+          (more-stamped (z .events) (z .count) (r .event) (omega (arith, d .room, h .inv .sized .events)) least (h .inv .stamped))
+          (made-step z (h .inv .sized) (t .n) call s o r sees′ known′ small low (d .room) done m rows seen)
+          (b ∙ m .answer ∙ sym (done-answer (t .n) st call done))
+
+-- the loop's variables may be given by equations
+pub carried : {n : ℕ} {script out₀ out out′ : List ℕ} {kept kept′ : List Kept} {known known′ : List ℕ} {cells cells′ : List KeptCell}
+    {events events′ : List KeptEvent} {sees sees′ : List ℕ} {count count′ deliveries deliveries′ k : ℕ}
+    → out ≡ out′ → kept ≡ kept′ → known ≡ known′ → cells ≡ cells′ → events ≡ events′ → sees ≡ sees′ → count ≡ count′ → deliveries ≡ deliveries′
+    → Turned n script out₀ out′
+    (record { count = count′; events = events′; sees = sees′; kept = kept′; known = known′; cells = cells′ })
+    deliveries′ k
+    → Turned n script out₀ out (record { count = count; events = events; sees = sees; kept = kept; known = known; cells = cells }) deliveries k
+carried p q r s t u v w h = rw (p, q, r, s, t, u, v, w) h
+
+module _ (n : ℕ) (script out₀ out : List ℕ) (z : Arrays) (deliveries k : ℕ) (h : Turned n script out₀ out z deliveries k)
+    (all : k ≡ length script / 8) where
+  whole : storeIn z ≡ storeAfter n script
   whole = h .store ∙ ap (λ (i : ℕ). storeUpTo i n script) all ∙ store-whole n script
 
   pub whole-answers : length script % 8 ≡ 0 → out ≡ answers n fresh (callsOf script) ++ drop (length script) out₀
-  whole-answers z =
+  whole-answers q =
       let end : 8 * k ≡ length script = omega arith in
       h .written
       ∙ ap (λ (l : List ℕ). l ++ drop (8 * k) out₀) (ap (λ (i : ℕ). answersUpTo i n script) all ∙ answers-whole n script)
       ∙ ap (λ (i : ℕ). answers n fresh (callsOf script) ++ drop i out₀) end
 
-  pub whole-stands : Stands count events (storeAfter n script)
+  pub whole-stands : Stands (z .count) (z .events) (z .sees) (storeAfter n script)
   whole-stands = record {
-    count = sym (store-count count events sites cells) ∙ ap (λ (st : Store). st .count) whole;
-    event = λ e l. sym (event-at count events sites cells e l) ∙ ap (λ (st : Store). st .event e) whole;
+    count = sym (store-count z) ∙ ap (λ (st : Store). st .count) whole;
+    event = λ e l. sym (event-at z e l) ∙ ap (λ (st : Store). st .event e) whole;
   }

@@ -7,42 +7,39 @@ ghost use lib.ListN.{length};
 ghost use Rattle.store.specs.Calls.{callAt};
 ghost use Rattle.rehearsal.specs.Mirror.{callOf};
 
+// The call's eight bytes are read as one word.
 pub fn asked_at(s: &[u8], at: usize) -> Asked
     requires { ⌜ at + 8 ≤ length (now s) ⌝ }
     ensures { λ r. ⌜ callOf r ≡ callAt (now (s .entry)) at ⌝ }
+    ensures { λ r. ⌜ r .kind ≤ 3 ⌝ }
 {
-    let kind = s[at];
-    let object = s[at + 2];
-    let value = octets::u32_at(s, at + 4);
+    let x = octets::u64_at(s, at);
     let mut c = Asked {
         kind: 0,
-        site: s[at + 1],
-        object: object,
-        value: value,
-        event: octets::u16_at(s, at + 4),
+        site: (x / 0x100 % 0x100) as u8,
+        object: (x / 0x1_0000 % 0x100) as u8,
+        value: (x / 0x1_0000_0000) as u32,
+        event: (x / 0x1_0000_0000 % 0x1_0000) as u16,
     };
-    if s[at + 3] != 0 {
-        return c;
-    }
+    let kind = x % 0x100;
     if kind == 1 {
-        c.kind = 1;
+        if x / 0x100_0000 % 0x100 == 0 {
+            c.kind = 1;
+        }
         return c;
     }
     if kind == 2 {
-        if value == 0 {
+        if x / 0x100_0000 == 0 {
             c.kind = 2;
         }
         return c;
     }
-    if kind != 3 {
-        return c;
+    if kind == 3 {
+        if x / 0x1_0000 % 0x1_0000 == 0 {
+            if x / 0x1_0000_0000_0000 == 0 {
+                c.kind = 3;
+            }
+        }
     }
-    if object != 0 {
-        return c;
-    }
-    if octets::u16_at(s, at + 6) != 0 {
-        return c;
-    }
-    c.kind = 3;
     c
 }

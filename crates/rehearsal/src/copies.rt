@@ -9,7 +9,7 @@ ghost use Rattle.rehearsal.specs.Mirror.{Stands};
 pub fn puts(ran: Ran) -> usize
     requires { ⌜ ran .count ≤ 256 ⌝ }
     ensures { λ r. ⌜ r ≤ 256 ⌝ }
-    ensures { λ r. ⌜ ((st : Store) → Stands (ran .count) (ran .events) st → r ≡ puts (st .event) (st .count)) ⌝ }
+    ensures { λ r. ⌜ ((st : Store) → Stands (ran .count) (ran .events) (ran .sees) st → r ≡ puts (st .event) (st .count)) ⌝ }
 {
     let events = ran.events;
     let count = ran.count;
@@ -28,7 +28,7 @@ pub fn outstanding(n: usize, ran: Ran) -> usize
     requires { ⌜ 1 ≤ n ⌝ }
     requires { ⌜ n ≤ 8 ⌝ }
     requires { ⌜ ran .count ≤ 256 ⌝ }
-    ensures { λ r. ⌜ ((st : Store) → Stands (ran .count) (ran .events) st → r ≤ puts (st .event) (st .count) * (n - 1)) ⌝ }
+    ensures { λ r. ⌜ ((st : Store) → Stands (ran .count) (ran .events) (ran .sees) st → r ≤ puts (st .event) (st .count) * (n - 1)) ⌝ }
 {
     let all = puts(ran) * (n - 1);
     let done = ran.deliveries;

@@ -4,27 +4,39 @@ use super::ranks;
 use super::slots;
 ghost use mathlib.Core.Path.{_≡_};
 ghost use mathlib.Core.List.{_++_};
-ghost use Prim.Native.Nat.{_*_, _≤_};
+ghost use Prim.Native.Nat.{_+_, _*_, _≤_};
 ghost use lib.ListN.{length, drop};
+ghost use Rattle.rows.specs.Row.{has, rowAt};
 ghost use Rattle.record.specs.Layout.{gcr1};
 ghost use Rattle.record.specs.Encode.{blocksFor, withSlots};
 ghost use Rattle.store.specs.Store.{Store};
 ghost use Rattle.store.specs.Recorded.{recorded, storeRecord};
-ghost use Rattle.rehearsal.specs.Mirror.{Stands, Bounded};
+ghost use Rattle.rehearsal.specs.Mirror.{Stands, Bounded, Distinct};
+
+// What event k sees.
+fn row_of(sees: &[u64], k: usize) -> [u64; 4]
+    requires { ⌜ 4 * k + 4 ≤ length (now sees) ⌝ }
+    ensures { λ r. ⌜ has r ≡ has (rowAt (now (sees .entry)) 4 k) ⌝ }
+{
+    let at = 4 * k;
+    [sees[at], sees[at + 1], sees[at + 2], sees[at + 3]]
+}
 
 // The slot of each event.
 fn put_slots(ran: Ran, rec: &mut [u8])
     requires { ⌜ Bounded (ran .count) (ran .events) ⌝ }
     requires { ⌜ 512 * blocksFor gcr1 (ran .count) ≤ length (now rec) ⌝ }
-    ensures { λ _. ⌜ ((st : Store) → Stands (ran .count) (ran .events) st → now (rec .exit) ≡ withSlots gcr1 (recorded st) (ran .count) (now (rec .entry))) ⌝ }
+    ensures { λ _. ⌜ ((st : Store) → Stands (ran .count) (ran .events) (ran .sees) st → Distinct st → now (rec .exit) ≡ withSlots gcr1 (recorded st) (ran .count) (now (rec .entry))) ⌝ }
 {
-    let keys = ranks::keys(ran);
+    let positions = ranks::positions(ran);
     let events = ran.events;
+    let sees = ran.sees;
     let count = ran.count;
     for k in 0..count {
         let e = events[k];
-        let position = ranks::rank(&keys, count, k);
-        let x = slots::slot(k, e, position as u16);
+        let position = positions[k];
+        let row = row_of(&sees, k);
+        let x = slots::slot(k, e, row, position);
         writer::put_slot(rec, k, x);
     }
 }
@@ -34,7 +46,7 @@ pub fn write(n: u8, ran: Ran, rec: &mut [u8]) -> usize
     requires { ⌜ Bounded (ran .count) (ran .events) ⌝ }
     requires { ⌜ 19456 ≤ length (now rec) ⌝ }
     ensures { λ r. ⌜ r ≡ 512 * blocksFor gcr1 (ran .count) ⌝ }
-    ensures { λ _. ⌜ ((st : Store) → Stands (ran .count) (ran .events) st → now (rec .exit) ≡ storeRecord gcr1 n st ++ drop (512 * blocksFor gcr1 (ran .count)) (now (rec .entry))) ⌝ }
+    ensures { λ _. ⌜ ((st : Store) → Stands (ran .count) (ran .events) (ran .sees) st → Distinct st → now (rec .exit) ≡ storeRecord gcr1 n st ++ drop (512 * blocksFor gcr1 (ran .count)) (now (rec .entry))) ⌝ }
 {
     let count = ran.count;
     let blocks = 1 + (count + 6) / 7;

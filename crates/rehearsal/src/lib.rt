@@ -13,7 +13,11 @@ pub mod slots;
 
 use store::Rehearsed;
 ghost use mathlib.Core.Path.{_≡_};
-ghost use Rattle.store.specs.Rehearsal.{rehearsalRefusal};
+ghost use Rattle.record.specs.Layout.{gcr1};
+ghost use Rattle.consistency.specs.declared.Outcome.the-variants.{AllMet};
+ghost use Rattle.judge.specs.Judgments.{modelJudgment};
+ghost use Rattle.judge.specs.declared.Judgment.the-variants.{Judged};
+ghost use Rattle.store.specs.Rehearsal.{rehearsalRefusal, recordOf};
 ghost use Rattle.store.specs.Demand.{Rehearses};
 
 // A call as it was decoded: kind 1 put, 2 get, 3 deliver, 0 malformed.
@@ -25,45 +29,41 @@ pub struct Asked {
     pub event: u16,
 }
 
-// What a site keeps beside its cells: its clock, the count of held puts from each site, and the known events.
+// What a site keeps beside its cells and its known events: its clock, and the count of held puts from each site.
 pub struct Kept {
     pub clock: u32,
     pub counts: [u16; 8],
-    pub known: [u64; 4],
 }
 
+// A cell. Its order is (stamp, site) as one number, 8 × stamp + site, and 0 while the cell is empty.
 pub struct KeptCell {
-    pub present: bool,
     pub value: u32,
-    pub stamp: u32,
-    pub site: u8,
+    pub order: u32,
 }
 
+// An event, with its order. The object is as wide as it is so that an event takes 32 bytes.
 pub struct KeptEvent {
-    pub site: u8,
-    pub put: bool,
-    pub object: u8,
-    pub present: bool,
+    pub order: u32,
     pub value: u32,
-    pub stamp: u32,
+    pub object: u32,
+    pub put: bool,
+    pub present: bool,
     pub needs: [u16; 8],
-    pub sees: [u64; 4],
 }
 
-// What a call left of its site, of the cell that it concerns and of the event that it may have made; its answer; and 1 where it delivered.
+// What a put or get left of its site and of the cell that it concerns, the event that it became, and its answer.
 pub struct Served {
     pub site: Kept,
     pub cell: KeptCell,
-    pub made: bool,
     pub event: KeptEvent,
-    pub delivered: usize,
     pub answer: [u8; 8],
 }
 
-// What a script came to: the events done, and how many deliveries.
+// What a script came to: the events done, what each sees, and how many deliveries.
 pub struct Ran {
     pub count: usize,
     pub events: [KeptEvent; 256],
+    pub sees: [u64; 1024],
     pub deliveries: usize,
 }
 
@@ -82,8 +82,10 @@ fn accepted(sites: usize, script: &[u8], rec: &mut [u8], answers: &mut [u8]) -> 
 }
 
 // A script at some fresh sites. The record and the answers are written to the front of `rec` and `answers`; a refusal writes nothing.
+// The judge, asked for model 4 of the record, promises to find it met.
 pub fn rehearse(sites: usize, script: &[u8], rec: &mut [u8], answers: &mut [u8]) -> Rehearsed
     ensures { λ r. ⌜ Rehearses sites (now (script .entry)) (now (rec .entry)) (now (answers .entry)) (now (rec .exit)) (now (answers .exit)) r ⌝ }
+    ensures { λ r. ⌜ (r .number ≡ 0 → modelJudgment gcr1 1024 4 (recordOf sites (now (script .entry))) ≡ Judged AllMet) ⌝ }
 {
     let number = refuse::rehearsal_refused(sites, script.len(), rec.len(), answers.len());
     if number != 0 {

@@ -6,10 +6,10 @@ use super::sites;
 ghost use mathlib.Core.Path.{_≡_};
 ghost use mathlib.Core.Bool.{not, _&&_};
 ghost use mathlib.Core.List.{List};
-ghost use Prim.Native.Nat.{ℕ, _≤_};
+ghost use Prim.Native.Nat.{ℕ, _≤_, _*_, _+_};
 ghost use lib.Dec.{leb, ltb};
 ghost use lib.ListN.{length, getD};
-ghost use Rattle.rows.specs.Row.{has};
+ghost use Rattle.rows.specs.Row.{has, rowAt};
 ghost use Rattle.store.specs.Rules.{ask, reached, refusal};
 ghost use Rattle.store.specs.Rehearsal.{rehearsalRefusal};
 ghost use Rattle.rehearsal.specs.Mirror.{callOf, partOf};
@@ -55,13 +55,21 @@ pub fn event_refused(n: usize, count: usize, c: Asked) -> u8
     0
 }
 
-// Of a delivery of e to site a.
-pub fn delivery_refused(n: usize, count: usize, c: Asked, a: Kept, e: KeptEvent) -> u8
-    requires { ⌜ count ≤ 256 ⌝ }
-    ensures { λ r. ⌜ r ≡ ask (ltb (c .site) n) 32 (ask (ltb (c .event) count && e .put) 33 (ask (not (has (a .known) (c .event))) 35 (ask (reached 8 (λ i. getD (e .needs) i 0) (λ i. getD (a .counts) i 0)) 36 0))) ⌝ }
+// Of a delivery of e to site a; row s of `known` has what site s knows.
+pub fn delivery_refused(
+    n: usize,
+    count: usize,
+    c: Asked,
+    known: &[u64],
+    a: Kept,
+    e: KeptEvent,
+) -> u8
+    requires { ⌜ (n ≤ 8) × (count ≤ 256) × (length (now known) ≡ 32) ⌝ }
+    ensures { λ r. ⌜ r ≡ ask (ltb (c .site) n) 32 (ask (ltb (c .event) count && e .put) 33 (ask (not (has (rowAt (now (known .entry)) 4 (c .site)) (c .event))) 35 (ask (reached 8 (λ i. getD (e .needs) i 0) (λ i. getD (a .counts) i 0)) 36 0))) ⌝ }
 {
+    let s = c.site as usize;
     let w = c.event as usize;
-    if n <= c.site as usize {
+    if n <= s {
         return 32;
     }
     if count <= w {
@@ -70,8 +78,7 @@ pub fn delivery_refused(n: usize, count: usize, c: Asked, a: Kept, e: KeptEvent)
     if !e.put {
         return 33;
     }
-    let known = a.known;
-    if sites::knows(known, w) {
+    if rows::test(known, 256 * s + w) {
         return 35;
     }
     let counts = a.counts;
@@ -83,19 +90,15 @@ pub fn delivery_refused(n: usize, count: usize, c: Asked, a: Kept, e: KeptEvent)
 }
 
 // 0, or the number that refuses a call.
-pub fn refused(n: usize, count: usize, c: Asked, a: Kept, e: KeptEvent) -> u8
-    requires { ⌜ count ≤ 256 ⌝ }
-    ensures { λ r. ⌜ r ≡ refusal n (partOf count a e) (callOf c) ⌝ }
+pub fn refused(n: usize, count: usize, c: Asked, known: &[u64], a: Kept, e: KeptEvent) -> u8
+    requires { ⌜ (n ≤ 8) × (count ≤ 256) × (length (now known) ≡ 32) × (c .kind ≤ 3) ⌝ }
+    ensures { λ r. ⌜ r ≡ refusal n (partOf count a (has (rowAt (now (known .entry)) 4 (c .site))) e) (callOf c) ⌝ }
 {
-    let kind = c.kind;
-    if kind == 1 {
-        return event_refused(n, count, c);
+    if c.kind == 3 {
+        return delivery_refused(n, count, c, known, a, e);
     }
-    if kind == 2 {
-        return event_refused(n, count, c);
+    if c.kind == 0 {
+        return 31;
     }
-    if kind == 3 {
-        return delivery_refused(n, count, c, a, e);
-    }
-    31
+    event_refused(n, count, c)
 }

@@ -1,11 +1,12 @@
 // A whole script, from fresh sites: each call gets the store that the one before left.
-use super::Asked;
 use super::Kept;
 use super::KeptCell;
 use super::KeptEvent;
 use super::Ran;
 use super::calls;
+use super::refuse;
 use super::serve;
+use super::sites;
 ghost use mathlib.Core.Path.{_≡_};
 ghost use mathlib.Core.List.{_++_};
 ghost use Prim.Native.Nat.{_+_, _%_, _≤_};
@@ -15,7 +16,7 @@ ghost use Rattle.store.specs.Store.{fresh};
 ghost use Rattle.store.specs.Calls.{callsOf};
 ghost use Rattle.store.specs.Rules.{answers};
 ghost use Rattle.store.specs.Rehearsal.{storeAfter};
-ghost use Rattle.rehearsal.specs.Mirror.{noCell, freshKept, freshEvent, objectOf, Stands};
+ghost use Rattle.rehearsal.specs.Mirror.{noCell, freshKept, freshEvent, Stands};
 
 fn fresh_site() -> Kept
     ensures { λ r. ⌜ r ≡ freshKept ⌝ }
@@ -23,44 +24,26 @@ fn fresh_site() -> Kept
     Kept {
         clock: 0,
         counts: [0; 8],
-        known: [0; 4],
     }
 }
 
 fn no_cell() -> KeptCell
     ensures { λ r. ⌜ r ≡ noCell ⌝ }
 {
-    KeptCell {
-        present: false,
-        value: 0,
-        stamp: 0,
-        site: 0,
-    }
+    KeptCell { value: 0, order: 0 }
 }
 
 fn no_event() -> KeptEvent
     ensures { λ r. ⌜ r ≡ freshEvent ⌝ }
 {
     KeptEvent {
-        site: 0,
-        put: false,
-        object: 0,
-        present: false,
+        order: 0,
         value: 0,
-        stamp: 0,
+        object: 0,
+        put: false,
+        present: false,
         needs: [0; 8],
-        sees: [0; 4],
     }
-}
-
-// The object that a call concerns; one past 31 is refused whatever its cell.
-fn object_of(c: Asked, e: KeptEvent) -> usize
-    ensures { λ r. ⌜ r ≡ objectOf c e % 32 ⌝ }
-{
-    if c.kind == 3 {
-        return e.object as usize % 32;
-    }
-    c.object as usize % 32
 }
 
 fn write(out: &mut [u8], at: usize, bytes: [u8; 8])
@@ -72,18 +55,20 @@ fn write(out: &mut [u8], at: usize, bytes: [u8; 8])
     }
 }
 
-// The answers are written to `out`, 8 bytes a call.
+// The answers are written to `out`, 8 bytes a call. A done call reads its site and event once more, so that a refused one copies only what it is asked about.
 pub fn run(n: usize, script: &[u8], out: &mut [u8]) -> Ran
     requires { ⌜ n ≤ 8 ⌝ }
     requires { ⌜ length (now script) % 8 ≡ 0 ⌝ }
     requires { ⌜ length (now script) ≤ 32768 ⌝ }
     requires { ⌜ length (now script) ≤ length (now out) ⌝ }
     ensures { λ _. ⌜ now (out .exit) ≡ answers n fresh (callsOf (now (script .entry))) ++ drop (length (now (script .entry))) (now (out .entry)) ⌝ }
-    ensures { λ r. ⌜ Stands (r .count) (r .events) (storeAfter n (now (script .entry))) ⌝ }
+    ensures { λ r. ⌜ Stands (r .count) (r .events) (r .sees) (storeAfter n (now (script .entry))) ⌝ }
 {
-    let mut sites = [fresh_site(); 8];
+    let mut kept = [fresh_site(); 8];
+    let mut known = [0u64; 32];
     let mut cells = [no_cell(); 256];
     let mut events = [no_event(); 256];
+    let mut sees = [0u64; 1024];
     let mut count: usize = 0;
     let mut deliveries: usize = 0;
     let mut k: usize = 0;
@@ -91,28 +76,43 @@ pub fn run(n: usize, script: &[u8], out: &mut [u8]) -> Ran
         let c = calls::asked_at(script, 8 * k);
         let s = c.site as usize % 8;
         let w = c.event as usize % 256;
-        let a = sites[s];
+        let a = kept[s];
         let e = events[w];
-        let at = 32 * s + object_of(c, e);
-        let x = cells[at];
-        let r = serve::serve(n, count, c, a, e, x);
-        let site = r.site;
-        let cell = r.cell;
-        sites[s] = site;
-        cells[at] = cell;
-        if r.made {
+        let number = refuse::refused(n, count, c, &known, a, e);
+        if number != 0 {
+            write(out, 8 * k, [number, 0, 0, 0, 0, 0, 0, 0]);
+        } else if c.kind == 3 {
+            let site = kept[s];
+            let put = events[w];
+            let at = 32 * s + put.object as usize % 32;
+            let x = cells[at];
+            kept[s] = sites::after_delivery(site, put);
+            cells[at] = sites::merged(x, put);
+            sites::learn(&mut known, s, &sees, w);
+            deliveries += 1;
+            write(out, 8 * k, [0; 8]);
+        } else {
+            let own = kept[s];
+            let at = 32 * s + c.object as usize % 32;
+            let x = cells[at];
+            let r = serve::event(count, c, own, x);
+            let after = r.site;
+            let cell = r.cell;
             let event = r.event;
+            let bytes = r.answer;
+            kept[s] = after;
+            cells[at] = cell;
             events[count] = event;
+            sites::see(&mut known, s, &mut sees, count);
             count += 1;
+            write(out, 8 * k, bytes);
         }
-        deliveries += r.delivered;
-        let bytes = r.answer;
-        write(out, 8 * k, bytes);
         k += 1;
     }
     Ran {
         count: count,
         events: events,
+        sees: sees,
         deliveries: deliveries,
     }
 }

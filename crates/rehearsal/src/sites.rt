@@ -3,145 +3,120 @@ use super::Kept;
 use super::KeptCell;
 use super::KeptEvent;
 ghost use mathlib.Core.Path.{_≡_};
-ghost use mathlib.Core.Bool.{true, _||_};
-ghost use Prim.Native.Nat.{ℕ, suc, _≤_, _<_};
+ghost use mathlib.Core.Bool.{Bool, true, cond, _||_};
+ghost use Prim.Native.Nat.{ℕ, suc, _+_, _*_, _/_, _%_, _≤_, _<_};
 ghost use lib.Dec.{eqb};
-ghost use lib.ListN.{getD};
-ghost use Rattle.rows.specs.Row.{has};
+ghost use lib.ListN.{length, getD};
+ghost use Rattle.rows.specs.Row.{has, rowAt};
 ghost use Rattle.store.specs.Store.{upd, Cell, full, merge};
 ghost use Rattle.store.specs.Rules.{reached, afterPut, afterGet, afterDelivery};
 ghost use Rattle.rehearsal.specs.Mirror.{cellOf, eventOf, siteOf};
 
-// Whether the counts reach a put's needs, for every site.
+// Whether the counts reach a put's needs, for every site. All eight are compared, which is quicker than to stop at one.
 pub fn reaches(counts: [u16; 8], needs: [u16; 8]) -> bool
     ensures { λ r. ⌜ r ≡ reached 8 (λ i. getD needs i 0) (λ i. getD counts i 0) ⌝ }
 {
+    let mut all = true;
     for i in 0..8 {
         if counts[i] < needs[i] {
-            return false;
+            all = false;
         }
     }
-    true
-}
-
-pub fn knows(known: [u64; 4], w: usize) -> bool
-    requires { ⌜ w < 256 ⌝ }
-    ensures { λ r. ⌜ r ≡ has known w ⌝ }
-{
-    rows::test(&known, w)
-}
-
-pub fn with_known(known: [u64; 4], k: usize) -> [u64; 4]
-    requires { ⌜ k < 256 ⌝ }
-    ensures { λ r. ⌜ has r ≡ upd (has known) k true ⌝ }
-{
-    let mut row = known;
-    rows::set(&mut row, k);
-    row
-}
-
-// The events known once w and all that it saw are.
-pub fn joined(known: [u64; 4], sees: [u64; 4], w: usize) -> [u64; 4]
-    requires { ⌜ w < 256 ⌝ }
-    ensures { λ r. ⌜ has r ≡ (λ (x : ℕ). eqb x w || (has sees x || has known x)) ⌝ }
-{
-    let mut row = known;
-    rows::union(&mut row, &sees);
-    rows::set(&mut row, w);
-    row
-}
-
-pub fn with_held(counts: [u16; 8], j: u8) -> [u16; 8]
-    requires { ⌜ j < 8 ⌝ }
-    requires { ⌜ getD counts j 0 ≤ 256 ⌝ }
-    ensures { λ r. ⌜ (λ (i : ℕ). getD r i 0) ≡ upd (λ (i : ℕ). getD counts i 0) j (suc (getD counts j 0)) ⌝ }
-{
-    let mut all = counts;
-    let at = j as usize;
-    all[at] += 1;
     all
 }
 
-// After a get, which became event k.
-pub fn after_get(a: Kept, k: usize) -> Kept
-    requires { ⌜ k < 256 ⌝ }
+// Every count is written, not one of them, so that all eight are kept as one.
+pub fn with_held(counts: [u16; 8], j: usize) -> [u16; 8]
+    requires { ⌜ j < 8 ⌝ }
+    requires { ⌜ ((i : ℕ) → getD counts i 0 ≤ 256) ⌝ }
+    ensures { λ r. ⌜ (λ (i : ℕ). getD r i 0) ≡ upd (λ (i : ℕ). getD counts i 0) j (suc (getD counts j 0)) ⌝ }
+{
+    let mut all = counts;
+    for i in 0..8 {
+        all[i] += (i == j) as u16;
+    }
+    all
+}
+
+pub fn after_get(a: Kept) -> Kept
     requires { ⌜ a .clock ≤ 256 ⌝ }
-    ensures { λ r. ⌜ ((cells : ℕ → Cell) → siteOf r cells ≡ afterGet (siteOf a cells) k) ⌝ }
+    ensures { λ r. ⌜ ((known : ℕ → Bool) (cells : ℕ → Cell) (k : ℕ) → siteOf r (upd known k true) cells ≡ afterGet (siteOf a known cells) k) ⌝ }
 {
     let counts = a.counts;
-    let known = a.known;
-    let row = with_known(known, k);
     Kept {
         clock: a.clock + 1,
         counts: counts,
-        known: row,
     }
 }
 
-// After a put of site s, which became event k; its cell is replaced.
-pub fn after_put(a: Kept, s: u8, k: usize) -> Kept
+// After a put of site s; its cell is replaced.
+pub fn after_put(a: Kept, s: usize) -> Kept
     requires { ⌜ s < 8 ⌝ }
-    requires { ⌜ k < 256 ⌝ }
     requires { ⌜ a .clock ≤ 256 ⌝ }
-    requires { ⌜ getD (a .counts) s 0 ≤ 256 ⌝ }
-    ensures { λ r. ⌜ ((cells : ℕ → Cell) (o v : ℕ) → siteOf r (upd cells o (full v (suc (a .clock)) s)) ≡ afterPut (siteOf a cells) s k o v) ⌝ }
+    requires { ⌜ ((i : ℕ) → getD (a .counts) i 0 ≤ 256) ⌝ }
+    ensures { λ r. ⌜ ((known : ℕ → Bool) (cells : ℕ → Cell) (k o v : ℕ) → siteOf r (upd known k true) (upd cells o (full v (suc (a .clock)) s)) ≡ afterPut (siteOf a known cells) s k o v) ⌝ }
 {
     let counts = a.counts;
-    let known = a.known;
     let held = with_held(counts, s);
-    let row = with_known(known, k);
     Kept {
         clock: a.clock + 1,
         counts: held,
-        known: row,
     }
 }
 
-// After the delivery of the put w, which is e; its cell is merged.
-pub fn after_delivery(a: Kept, w: usize, e: KeptEvent) -> Kept
-    requires { ⌜ w < 256 ⌝ }
-    requires { ⌜ e .site < 8 ⌝ }
+// After the delivery of the put e; its cell is merged.
+pub fn after_delivery(a: Kept, e: KeptEvent) -> Kept
     requires { ⌜ e .present ≡ true ⌝ }
-    requires { ⌜ getD (a .counts) (e .site) 0 ≤ 256 ⌝ }
-    ensures { λ r. ⌜ ((cells : ℕ → Cell) → siteOf r (upd cells (e .object) (merge (cells (e .object)) (e .value) (e .stamp) (e .site))) ≡ afterDelivery (siteOf a cells) w (eventOf e)) ⌝ }
+    requires { ⌜ ((i : ℕ) → getD (a .counts) i 0 ≤ 256) ⌝ }
+    ensures { λ r. ⌜ ((known sees : ℕ → Bool) (cells : ℕ → Cell) (w : ℕ) → siteOf r (λ x. eqb x w || (sees x || known x)) (upd cells (e .object) (merge (cells (e .object)) (e .value) (e .order / 8) (e .order % 8))) ≡ afterDelivery (siteOf a known cells) w (eventOf e sees)) ⌝ }
 {
     let counts = a.counts;
-    let known = a.known;
-    let sees = e.sees;
-    let held = with_held(counts, e.site);
-    let row = joined(known, sees, w);
+    let held = with_held(counts, e.order as usize % 8);
+    let stamp = e.order / 8;
     let mut clock = a.clock;
-    if clock < e.stamp {
-        clock = e.stamp;
+    if clock < stamp {
+        clock = stamp;
     }
     Kept {
         clock: clock,
         counts: held,
-        known: row,
     }
 }
 
 // A cell that the put e comes to: it keeps the larger of (stamp, site).
-pub fn merged(c: KeptCell, e: KeptEvent) -> KeptCell
-    ensures { λ r. ⌜ cellOf r ≡ merge (cellOf c) (e .value) (e .stamp) (e .site) ⌝ }
+pub fn merged(x: KeptCell, e: KeptEvent) -> KeptCell
+    requires { ⌜ 8 ≤ e .order ⌝ }
+    ensures { λ r. ⌜ cellOf r ≡ merge (cellOf x) (e .value) (e .order / 8) (e .order % 8) ⌝ }
 {
-    let put = KeptCell {
-        present: true,
-        value: e.value,
-        stamp: e.stamp,
-        site: e.site,
-    };
-    if !c.present {
-        return put;
+    if x.order < e.order {
+        return KeptCell {
+            value: e.value,
+            order: e.order,
+        };
     }
-    if c.stamp < e.stamp {
-        return put;
-    }
-    if e.stamp < c.stamp {
-        return c;
-    }
-    if c.site < e.site {
-        return put;
-    }
-    c
+    x
+}
+
+// Event k at site s: it sees what the site knows, and the site knows it from now on.
+pub fn see(known: &mut [u64], s: usize, sees: &mut [u64], k: usize)
+    requires { ⌜ (length (now known) ≡ 32) × (length (now sees) ≡ 1024) × (s < 8) × (k < 256) ⌝ }
+    ensures { λ _. ⌜ (length (now (known .exit)) ≡ 32) × (length (now (sees .exit)) ≡ 1024) ⌝ }
+    ensures { λ _. ⌜ ((t : ℕ) → t < 8 → has (rowAt (now (known .exit)) 4 t) ≡ cond (eqb t s) (upd (has (rowAt (now (known .entry)) 4 s)) k true) (has (rowAt (now (known .entry)) 4 t))) ⌝ }
+    ensures { λ _. ⌜ ((e : ℕ) → e < 256 → has (rowAt (now (sees .exit)) 4 e) ≡ cond (eqb e k) (has (rowAt (now (known .entry)) 4 s)) (has (rowAt (now (sees .entry)) 4 e))) ⌝ }
+{
+    let at = 4 * k;
+    let from = 4 * s;
+    rows::copy(&mut sees[at..at + 4], &known[from..from + 4]);
+    rows::set(known, 256 * s + k);
+}
+
+// The put w comes to site s, which knows it and all that it saw from now on.
+pub fn learn(known: &mut [u64], s: usize, sees: &[u64], w: usize)
+    requires { ⌜ (length (now known) ≡ 32) × (length (now sees) ≡ 1024) × (s < 8) × (w < 256) ⌝ }
+    ensures { λ _. ⌜ length (now (known .exit)) ≡ 32 ⌝ }
+    ensures { λ _. ⌜ ((t : ℕ) → t < 8 → has (rowAt (now (known .exit)) 4 t) ≡ cond (eqb t s) (λ x. eqb x w || (has (rowAt (now (sees .entry)) 4 w) x || has (rowAt (now (known .entry)) 4 s) x)) (has (rowAt (now (known .entry)) 4 t))) ⌝ }
+{
+    let at = 4 * w;
+    rows::union_into(known, 4 * s, &sees[at..at + 4]);
+    rows::set(known, 256 * s + w);
 }

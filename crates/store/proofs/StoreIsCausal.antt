@@ -95,7 +95,7 @@ module _ (n : ℕ) (n≤8 : n ≤ 8) (st : Store) (ok : StoreInv n (st .event) s
   stamps-rise : (a b : ℕ) → b < st .count → a < b → st .event a .site ≡ st .event b .site → st .event a .stamp < st .event b .stamp
   stamps-rise a b h l s = ok .events b h .rises a (ok .events b h .session a l s)
 
-  key-once : (a b : ℕ) → a < st .count → b < st .count → key (st .event a) ≡ key (st .event b) → a ≡ b
+  pub key-once : (a b : ℕ) → a < st .count → b < st .count → key (st .event a) ≡ key (st .event b) → a ≡ b
   key-once a b ha hb e =
       let sa : st .event a .site < 8 = small a ha in
       let sb : st .event b .site < 8 = small b hb in

@@ -3,7 +3,7 @@ use native.Mathlib.Omega.{arith}
 use borrow.Author.Needs.{needs}
 use Rattle.rehearsal.specs.Mirror.{Bounded}
 use Rattle.store.specs.Rehearsal.{storeAfter}
-use Rattle.rehearsal.proofs.RehearsalLaws.{Accepted, accepted, run-bounded, accepted-rehearses}
+use Rattle.rehearsal.proofs.RehearsalLaws.{Accepted, accepted, store-distinct, run-bounded, accepted-rehearses}
 use Rattle.rehearsal.proofs.accepted.Statement.{statement}
 use Rattle.rehearsal.proofs.accepted.Tie as tie
 
@@ -17,7 +17,7 @@ entry c = c .before .before .before .before .before
 small : (c : tie.After-run) → Bounded (c .run .result .count) (c .run .result .events)
 small c =
     let g = entry c .args in
-    run-bounded (g .sites) (right (entry c) .most) (g .script .now) (c .run .result .count) (c .run .result .events) (c .run .ensures .1)
+    run-bounded (g .sites) (right (entry c) .most) (g .script .now) (c .run .result .count) (c .run .result .events) (c .run .result .sees) (c .run .ensures .1)
 
 run-requires : tie.Need-run-requires
 run-requires c κs =
@@ -53,8 +53,8 @@ returns c =
     let stands = run .run .ensures .1 in
     let st = storeAfter (g .sites) (g .script .now) in
     accepted-rehearses (g .sites) (g .script .now) (g .rec .now) (g .answers .now) (entry run .pre)
-    (λ i. run .before .before .before .before .shared-slice-known .given i .fits) (r .count) (r .events) stands _ _ _ _
-    (run .run .ensures .0) (write .write .ensures .1 st stands) (write .write .ensures .0) (c .outstanding .ensures st stands)
+    (λ i. run .before .before .before .before .shared-slice-known .given i .fits) (r .count) (r .events) (r .sees) stands _ _ _ _
+    (run .run .ensures .0) (write .write .ensures .1 st stands (store-distinct (g .sites) (right (entry run) .most) (g .script .now))) (write .write .ensures .0) (c .outstanding .ensures st stands)
 
 pub accepted-spec : {M : Type 1} → statement M
 accepted-spec =

@@ -1,7 +1,9 @@
 -- `rehearsal::rehearse` meets its contract: the questions refuse it, and then nothing has changed, or it is accepted. Assumes nothing.
 use mathlib.Core.Path.{_≡_, refl, sym, _∙_}
 use borrow.Author.Needs.{needs}
-use Rattle.store.specs.Rehearsal.{rehearsalRefusal}
+use native.Mathlib.Nat.{le-refl}
+use Rattle.store.specs.Rehearsal.{rehearsalRefusal, recordOf}
+use Rattle.rehearsal.proofs.FoundCausal.{found-causal}
 use Rattle.rehearsal.proofs.RehearsalLaws.{refused-rehearses}
 use Rattle.rehearsal.proofs.rehearse.Statement.{statement}
 use Rattle.rehearsal.proofs.rehearse.Tie as tie
@@ -22,8 +24,10 @@ rehearsal-refused-requires c κs = search needs
 
 returns : tie.Need-returns
 returns c =
-    let g = entry (c .before) .args in
-    refused-rehearses (g .sites) (g .script .now) (g .rec .now) (g .answers .now) (c .before .rehearsal-refused .result) (asked (c .before)) (c .if1 .taken)
+    let g = entry (c .before) .args in (
+      refused-rehearses (g .sites) (g .script .now) (g .rec .now) (g .answers .now) (c .before .rehearsal-refused .result) (asked (c .before)) (c .if1 .taken),
+      λ z. absurd (c .if1 .taken z),
+    )
 
 accepted-requires : tie.Need-accepted-requires
 accepted-requires c κs =
@@ -37,7 +41,10 @@ same-length-2 : tie.Need-same-length-2
 same-length-2 c = search needs
 
 returns-2 : tie.Need-returns-2
-returns-2 c = search needs
+returns-2 c =
+    let g = entry (c .before .before .before .before .before .before .before .before) .args in
+    let rehearses = c .before .before .before .before .accepted .ensures in
+    (rehearses, λ z. found-causal 1024 (le-refl 1024) (recordOf (g .sites) (g .script .now)) (rehearses .causal z))
 
 pub rehearse-spec : {M : Type 1} → statement M
 rehearse-spec =

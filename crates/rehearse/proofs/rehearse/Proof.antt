@@ -13,7 +13,7 @@ use Rattle.rehearse.proofs.rehearse.Tie as tie
 inside : (c : tie.After-rehearse) → let r = c .rehearse in r .result .length ≤ length (r .last .1 .1 .0)
 inside c =
     let g = c .before .before .before .before .before .before .args in
-    record-inside (g .sites) (g .script .now) (g .rec .now) (g .answers .now) _ _ (c .rehearse .result) (c .rehearse .ensures)
+    record-inside (g .sites) (g .script .now) (g .rec .now) (g .answers .now) _ _ (c .rehearse .result) (c .rehearse .ensures .0)
 
 rehearse-requires : tie.Need-rehearse-requires
 rehearse-requires c κs = search needs

@@ -1,103 +1,79 @@
--- `rehearsal::calls::asked_at` meets its contract: each return is one arm of `callAt`, picked by the tests that led to it. Assumes nothing.
+-- `rehearsal::calls::asked_at` meets its contract: each return is one case of the fields of the word. Assumes nothing.
+use native.Mathlib.Omega.{arith}
+use Rattle.rehearsal.proofs.CallLaws.{asked-put, asked-no-put, asked-get, asked-no-get, asked-deliver, asked-late, asked-gap, asked-none}
 use borrow.Author.Needs.{needs}
-use borrow.Author.Tests.{eq-eqb, ne-eqb}
-use Rattle.store.specs.Calls.{callAt}
 use Rattle.rehearsal.proofs.calls.asked_at.Statement.{statement}
 use Rattle.rehearsal.proofs.calls.asked_at.Tie as tie
 
-shared-slice-read-kind : tie.Need-shared-slice-read-kind
-shared-slice-read-kind c = search needs
+u64-at-requires : tie.Need-u64-at-requires
+u64-at-requires c κs = search needs
 
-add-object : tie.Need-add-object
-add-object c = search needs
+cast-t8 : tie.Need-cast-t8
+cast-t8 c = search needs
 
-shared-slice-read-object : tie.Need-shared-slice-read-object
-shared-slice-read-object c = search needs
+cast-t11 : tie.Need-cast-t11
+cast-t11 c = search needs
 
-add-u32-at : tie.Need-add-u32-at
-add-u32-at c = search needs
+cast-t13 : tie.Need-cast-t13
+cast-t13 c = search needs
 
-u32-at-requires : tie.Need-u32-at-requires
-u32-at-requires c κs = search needs
-
-add-if1 : tie.Need-add-if1
-add-if1 c = search needs
-
-shared-slice-read-if1 : tie.Need-shared-slice-read-if1
-shared-slice-read-if1 c = search needs
-
-add-u16-at : tie.Need-add-u16-at
-add-u16-at c = search needs
-
-u16-at-requires : tie.Need-u16-at-requires
-u16-at-requires c κs = search needs
-
-add-if1-2 : tie.Need-add-if1-2
-add-if1-2 c = search needs
-
-shared-slice-read-if1-2 : tie.Need-shared-slice-read-if1-2
-shared-slice-read-if1-2 c = search needs
+cast-t16 : tie.Need-cast-t16
+cast-t16 c = search needs
 
 returns : tie.Need-returns
-unfolding callAt
-returns c = rw (ne-eqb _ _ (c .if1 .taken))
+returns c =
+    let g = c .before .before .before .before .args in
+    (asked-put (g .s .now) (λ i. c .before .before .before .shared-slice-known .given i .fits) (g .at) _ (c .before .before .u64-at .ensures) (c .before .if1 .taken) (c .if2 .taken), omega arith)
 
 returns-2 : tie.Need-returns-2
-unfolding callAt
-returns-2 c = rw (eq-eqb _ _ (c .before .if1 .left), eq-eqb _ _ (c .if2 .taken), c .before .before .before .before .before .u32-at .ensures)
+returns-2 c =
+    let g = c .before .before .before .before .args in
+    (asked-no-put (g .s .now) (λ i. c .before .before .before .shared-slice-known .given i .fits) (g .at) _ (c .before .before .u64-at .ensures) (c .before .if1 .taken) (c .if2 .left), omega arith)
 
 returns-3 : tie.Need-returns-3
-unfolding callAt
-returns-3 c = rw (eq-eqb _ _ (c .before .before .before .if1 .left), c .before .if3 .taken, ← (c .before .before .before .before .before .before .before .u32-at .ensures), eq-eqb _ _ (c .if4 .taken))
+returns-3 c =
+    let g = c .before .before .before .before .before .args in
+    (asked-get (g .s .now) (λ i. c .before .before .before .before .shared-slice-known .given i .fits) (g .at) _ (c .before .before .before .u64-at .ensures) (c .before .if3 .taken) (c .if4 .taken), omega arith)
 
 returns-4 : tie.Need-returns-4
-unfolding callAt
-returns-4 c = rw (eq-eqb _ _ (c .before .before .before .if1 .left), c .before .if3 .taken, ← (c .before .before .before .before .before .before .before .u32-at .ensures), ne-eqb _ _ (c .if4 .left))
+returns-4 c =
+    let g = c .before .before .before .before .before .args in
+    (asked-no-get (g .s .now) (λ i. c .before .before .before .before .shared-slice-known .given i .fits) (g .at) _ (c .before .before .before .u64-at .ensures) (c .before .if3 .taken) (c .if4 .left), omega arith)
 
 returns-5 : tie.Need-returns-5
-unfolding callAt
-returns-5 c = rw (eq-eqb _ _ (c .before .before .before .if1 .left), ne-eqb _ _ (c .before .before .if2 .left), ne-eqb _ _ (c .before .if3 .left), ne-eqb _ _ (c .if5 .taken))
+returns-5 c =
+    let g = c .before .before .before .before .before .before .before .args in
+    (asked-deliver (g .s .now) (λ i. c .before .before .before .before .before .before .shared-slice-known .given i .fits) (g .at) _ (c .before .before .before .before .before .u64-at .ensures) (c .before .before .if5 .taken) (c .before .if6 .taken) (c .if7 .taken), omega arith)
 
 returns-6 : tie.Need-returns-6
-unfolding callAt
-returns-6 c = rw (eq-eqb _ _ (c .before .before .before .before .if1 .left), c .before .if5 .left, ne-eqb _ _ (c .if6 .taken))
-
-add-u16-at-2 : tie.Need-add-u16-at-2
-add-u16-at-2 c = search needs
-
-u16-at-requires-2 : tie.Need-u16-at-requires-2
-u16-at-requires-2 c κs = search needs
+returns-6 c =
+    let g = c .before .before .before .before .before .before .before .args in
+    (asked-late (g .s .now) (λ i. c .before .before .before .before .before .before .shared-slice-known .given i .fits) (g .at) _ (c .before .before .before .before .before .u64-at .ensures) (c .before .before .if5 .taken) (c .before .if6 .taken) (c .if7 .left), omega arith)
 
 returns-7 : tie.Need-returns-7
-unfolding callAt
-returns-7 c = rw (eq-eqb _ _ (c .before .before .before .before .before .before .if1 .left), c .before .before .before .if5 .left, eq-eqb _ _ (c .before .before .if6 .left), ← (c .before .u16-at2 .ensures), ne-eqb _ _ (c .if7 .taken))
+returns-7 c =
+    let g = c .before .before .before .before .before .before .args in
+    (asked-gap (g .s .now) (λ i. c .before .before .before .before .before .shared-slice-known .given i .fits) (g .at) _ (c .before .before .before .before .u64-at .ensures) (c .before .if5 .taken) (c .if6 .left), omega arith)
 
 returns-8 : tie.Need-returns-8
-unfolding callAt
-returns-8 c = rw (eq-eqb _ _ (c .before .before .before .before .before .before .if1 .left), c .before .before .before .if5 .left, eq-eqb _ _ (c .before .before .if6 .left), ← (c .before .u16-at2 .ensures), eq-eqb _ _ (c .if7 .left), c .before .before .before .before .before .before .before .before .u16-at .ensures)
+returns-8 c =
+    let g = c .before .before .before .before .before .args in
+    (asked-none (g .s .now) (λ i. c .before .before .before .before .shared-slice-known .given i .fits) (g .at) _ (c .before .before .before .u64-at .ensures) (c .before .before .if1 .left) (c .before .if3 .left) (c .if5 .left), omega arith)
 
 pub asked-at-spec : {M : Type 1} → statement M
 asked-at-spec =
     tie.close
     (tie.spec
-    shared-slice-read-kind
-    add-object
-    shared-slice-read-object
-    add-u32-at
-    u32-at-requires
-    add-if1
-    shared-slice-read-if1
-    add-u16-at
-    u16-at-requires
-    add-if1-2
-    shared-slice-read-if1-2
+    u64-at-requires
+    cast-t8
+    cast-t11
+    cast-t13
+    cast-t16
     returns
     returns-2
     returns-3
     returns-4
     returns-5
     returns-6
-    add-u16-at-2
-    u16-at-requires-2
     returns-7
     returns-8)

@@ -1,19 +1,25 @@
 -- `rehearsal::copies::puts` meets its contract: the loop has counted the puts passed. Assumes nothing.
 use mathlib.Core.Bool.{true, false}
+use mathlib.Core.List.{List}
 use mathlib.Core.Logic.{⊎-elim}
 use mathlib.Core.Path.{_≡_, sym, ap, _∙_}
 use Prim.Native.Nat.{ℕ, _≤_, _-_}
 use native.Mathlib.Omega.{arith}
 use lib.ListN.{getD}
 use Rattle.rehearsal.specs.Mirror.{eventOf, pastEvent}
+use Rattle.rehearsal.specs.declared.KeptEvent.{KeptEvent}
 use Rattle.store.specs.Rehearsal.{puts}
 use Rattle.store.specs.Store.{Event}
 use Rattle.rehearsal.proofs.EventLaws.{puts-none, puts-more, puts-same}
 use Rattle.rehearsal.proofs.copies.puts.Statement.{statement}
 use Rattle.rehearsal.proofs.copies.puts.Tie as tie
 
+-- whatever they see
+abbrev kept : List KeptEvent → ℕ → Event
+kept events j = eventOf (getD events j pastEvent) (λ (x : ℕ). false)
+
 abbrev Inv-loop : tie.InvT-loop
-Inv-loop events count n₀ i₀ n i = (i ≤ count) × ((n ≤ i) × (n ≡ puts (λ (j : ℕ). eventOf (getD events j pastEvent)) i))
+Inv-loop events count n₀ i₀ n i = (i ≤ count) × ((n ≤ i) × (n ≡ puts (kept events) i))
 
 abbrev μ-loop : tie.MeasureT-loop
 μ-loop events count n₀ i₀ n i = count - i
@@ -39,7 +45,7 @@ loop-less c = omega arith
 loop-again : tie.Need-loop-again Inv-loop μ-loop
 loop-again c =
     let l = c .before .before .before .loop in
-    let f : ℕ → Event = λ (j : ℕ). eventOf (getD (c .before .before .before .before .before .args .ran .events) j pastEvent) in
+    let f : ℕ → Event = kept (c .before .before .before .before .before .args .ran .events) in
     ⊎-elim
     (λ w. (omega arith, (omega arith, omega (arith, puts-more f (l .i) true (w .0 .taken), l .inv .1 .1, w .1))))
     (λ w. (omega arith, (omega arith, omega (arith, puts-more f (l .i) false (w .0 .left), l .inv .1 .1, w .1))))
@@ -49,9 +55,9 @@ returns : tie.Need-returns Inv-loop μ-loop
 returns c =
     let l = c .before .loop in
     let ran = c .before .before .before .args .ran in
-    let f : ℕ → Event = λ (j : ℕ). eventOf (getD (ran .events) j pastEvent) in
+    let f : ℕ → Event = kept (ran .events) in
     let all : l .i ≡ ran .count = omega arith in
-    (omega arith, λ st h. l .inv .1 .1 ∙ ap (puts f) all ∙ puts-same f (st .event) (ran .count) (h .event) ∙ ap (puts (st .event)) (h .count))
+    (omega arith, λ st h. l .inv .1 .1 ∙ ap (puts f) all ∙ puts-same f (st .event) (ran .count) (λ e k. ap (λ (x : Event). x .isPut) (h .event e k)) ∙ ap (puts (st .event)) (h .count))
 
 pub puts-spec : {M : Type 1} → statement M
 puts-spec =

@@ -11,7 +11,7 @@ use Rattle.rehearsal.proofs.host.gcr_rehearse.Tie as tie
 small : (c : tie.After-rehearse) → SmallResult (c .rehearse .result)
 small c =
     let g = c .before .before .before .before .before .before .args in
-    result-small (g .sites) (g .script .now) (g .rec .now) (g .answers .now) _ _ (c .rehearse .result) (c .rehearse .ensures)
+    result-small (g .sites) (g .script .now) (g .rec .now) (g .answers .now) _ _ (c .rehearse .result) (c .rehearse .ensures .0)
 
 rehearse-requires : tie.Need-rehearse-requires
 rehearse-requires c κs = search needs
@@ -38,7 +38,7 @@ returns : tie.Need-returns
 unfolding packedRehearsal
 returns c =
     let r = c .before .before .before .before in
-    rw (reads-back (r .rehearse .result) (omega (arith, small r .number)) (omega (arith, small r .length))) (r .rehearse .ensures)
+    rw (reads-back (r .rehearse .result) (omega (arith, small r .number)) (omega (arith, small r .length))) (r .rehearse .ensures .0)
 
 pub gcr-rehearse-spec : {M : Type 1} → statement M
 gcr-rehearse-spec =

@@ -1,4 +1,5 @@
 -- `rehearsal::image::put_slots` meets its contract: the loop has written the slots of the events passed. Assumes nothing.
+use borrow.Author.Needs.{needs}
 use mathlib.Core.Path.{_≡_, ap, _∙_}
 use Prim.Native.Nat.{ℕ, _-_}
 use native.Mathlib.Omega.{arith}
@@ -10,18 +11,16 @@ use Rattle.rehearsal.proofs.image.put_slots.Statement.{statement}
 use Rattle.rehearsal.proofs.image.put_slots.Tie as tie
 
 abbrev Inv-loop : tie.InvT-loop
-Inv-loop rec₀ keys events count k₀ rec k = Slotted count events rec₀ rec k
+Inv-loop rec₀ positions events sees count k₀ rec k = Slotted count events sees rec₀ rec k
 
 abbrev μ-loop : tie.MeasureT-loop
-μ-loop rec₀ keys events count k₀ rec k = count - k
+μ-loop rec₀ positions events sees count k₀ rec k = count - k
 
-keys-requires : tie.Need-keys-requires Inv-loop μ-loop
-keys-requires c κs = c .before .pre .0
+positions-requires : tie.Need-positions-requires Inv-loop μ-loop
+positions-requires c κs = c .before .pre .0
 
 loop-holds : tie.Need-loop-holds Inv-loop μ-loop
-loop-holds c =
-    let g = c .before .before .before .args in
-    slotted-none (g .ran .count) (g .ran .events) (g .rec .now)
+loop-holds c = let g = c .before .before .before .before .args in slotted-none (g .ran .count) (g .ran .events) (g .ran .sees) (g .rec .now)
 
 mul-e : tie.Need-mul-e Inv-loop μ-loop
 mul-e c = omega arith
@@ -29,14 +28,17 @@ mul-e c = omega arith
 array-copy-out-e : tie.Need-array-copy-out-e Inv-loop μ-loop
 array-copy-out-e c = omega arith
 
-slice-aggregate-rank : tie.Need-slice-aggregate-rank Inv-loop μ-loop
-slice-aggregate-rank c = omega arith
+mul-position : tie.Need-mul-position Inv-loop μ-loop
+mul-position c = omega arith
 
-rank-requires : tie.Need-rank-requires Inv-loop μ-loop
-rank-requires c κs = omega arith
+array-read-position : tie.Need-array-read-position Inv-loop μ-loop
+array-read-position c = omega arith
 
-cast-slot : tie.Need-cast-slot Inv-loop μ-loop
-cast-slot c = omega arith
+slice-aggregate-row-of : tie.Need-slice-aggregate-row-of Inv-loop μ-loop
+slice-aggregate-row-of c = search needs
+
+row-of-requires : tie.Need-row-of-requires Inv-loop μ-loop
+row-of-requires c κs = omega (arith, slice-aggregate-row-of c, c .before .before .loop-test .taken, c .before .before .before .before .before .before .before .before .pre .0 .count)
 
 slot-requires : tie.Need-slot-requires Inv-loop μ-loop
 slot-requires c κs = omega arith
@@ -54,14 +56,14 @@ loop-again : tie.Need-loop-again Inv-loop μ-loop
 loop-again c =
     let put = c .before .before in
     let slot = put .before .before in
-    let rank = slot .before in
-    let inside = rank .before .before .before in
+    let row = slot .before in
+    let inside = row .before .before .before in
     let l = inside .before in
-    let keys = l .before .before in
-    let start = keys .before .before in
+    let positions = l .before .before .before in
+    let start = positions .before .before in
     let g = start .args in
-    slotted-more (g .ran .count) (g .ran .events) (g .rec .now) (start .pre .0) (keys .keys .result) (keys .keys .ensures)
-    (l .loop .k) (inside .loop-test .taken) (rank .rank .result) (rank .rank .ensures .1) (slot .slot .result) (slot .slot .ensures)
+    slotted-more (g .ran .count) (g .ran .events) (g .ran .sees) (g .rec .now) (start .pre .0) (positions .positions .result) (positions .positions .ensures)
+    (l .loop .k) (inside .loop-test .taken) (row .row-of .result) (row .row-of .ensures) (slot .slot .result) (slot .slot .ensures)
     (l .loop .rec) (put .put-slot .last .0) (l .loop .inv) (put .put-slot .kept .0) (put .put-slot .ensures)
 
 same-length : tie.Need-same-length Inv-loop μ-loop
@@ -70,9 +72,9 @@ same-length c = omega arith
 returns : tie.Need-returns Inv-loop μ-loop
 returns c =
     let l = c .before .loop in
-    let g = c .before .before .before .before .before .args in
+    let g = c .before .before .before .before .before .before .args in
     let all : l .k ≡ g .ran .count = omega (arith, l .inv .within) in
-    λ st h. l .inv .written st h ∙ ap (λ (i : ℕ). withSlots gcr1 (recorded st) i (g .rec .now)) all
+    λ st h d. l .inv .written st h d ∙ ap (λ (i : ℕ). withSlots gcr1 (recorded st) i (g .rec .now)) all
 
 pub put-slots-spec : {M : Type 1} → statement M
 put-slots-spec =
@@ -80,13 +82,14 @@ put-slots-spec =
     (tie.spec
     Inv-loop
     μ-loop
-    keys-requires
+    positions-requires
     loop-holds
     mul-e
     array-copy-out-e
-    slice-aggregate-rank
-    rank-requires
-    cast-slot
+    mul-position
+    array-read-position
+    slice-aggregate-row-of
+    row-of-requires
     slot-requires
     put-slot-requires
     add-k

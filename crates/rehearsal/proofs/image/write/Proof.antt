@@ -40,7 +40,7 @@ returns c =
     let clear = header .before .before .before .before in
     let g = clear .before .before .before .args in (
       refl,
-      image-written (g .n) (g .ran .count) (g .ran .events) _ (g .rec .now) _ _ _ _ refl (clear .clear .ensures) (header .header .ensures)
+      image-written (g .n) (g .ran .count) (g .ran .events) (g .ran .sees) _ (g .rec .now) _ _ _ _ refl (clear .clear .ensures) (header .header .ensures)
           (slots .put-slots .ensures) (seal .seal .ensures),
     )
 
