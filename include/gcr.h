@@ -3,7 +3,7 @@
  * MEMORY. The caller owns every buffer. A call looks at them only while it runs, keeps no pointer and allocates
  * nothing; its work memory is on the calling thread's stack. No pointer may be NULL, also where its length is 0, and
  * a buffer that a call writes may not overlap another buffer of that call. A length counts elements: bytes, or
- * 64-bit words for `work`.
+ * 64-bit words for `work` and `out`.
  *
  * THREADS. The library has no static state. Calls may run at the same time where none writes a buffer that another
  * one uses.
@@ -49,6 +49,7 @@ extern "C" {
 #define GCR_RECORD_MOST 19456 /* bytes of the longest record, and of a rehearsal's record buffer */
 #define GCR_SCRIPT_MOST 32768 /* bytes of the longest script */
 #define GCR_CALL_BYTES 8      /* bytes of a script's call, and of its answer */
+#define GCR_PREDICATES 13     /* the words that gcr_judge_all fills at most */
 
 /* Reads a record and lays its visible sets into `work`. Question 2 is not asked.
  * Answer: 0 passed; 2,097,152 + 1,024 * number + place refused.
@@ -64,6 +65,12 @@ uint64_t gcr_judge_model(uint32_t model, const uint8_t *record, size_t len);
 /* The same of one predicate, 1 to 13. */
 uint64_t gcr_judge_predicate(uint32_t predicate, const uint8_t *record, size_t len);
 
+/* Judges all thirteen predicates, reading the record once. Question 2 is not asked.
+ * Answer: 0 judged; 2,097,152 + 1,024 * number + place refused.
+ * `out` afterwards: unchanged where the record is refused; else its words hold the answers, as gcr_judge_predicate
+ * gives them, of predicates 1, 2, .., as many as fit, 13 at most. Later words never change. */
+uint64_t gcr_judge_all(const uint8_t *record, size_t len, uint64_t *out, size_t words);
+
 /* Runs a script over a store of `sites` sites and writes the record of what happened.
  * Answer: number + 256 * length + 16,777,216 * outstanding, where number is 0 or what refused the rehearsal, length
  * the record's bytes and outstanding the copies of puts that sites lack; both are 0 where it was refused.
@@ -73,7 +80,8 @@ uint64_t gcr_judge_predicate(uint32_t predicate, const uint8_t *record, size_t l
 uint64_t gcr_rehearse(uint32_t sites, const uint8_t *script, size_t script_len, uint8_t *record, size_t record_len,
                       uint8_t *answers, size_t answers_len);
 
-/* Taking apart what gcr_read and the two judging calls answer. A read that passed is "met". */
+/* Taking apart what gcr_read and the judging calls answer, and the words of gcr_judge_all. A read that passed is
+ * "met". */
 static inline int gcr_is_met(uint64_t answer) { return answer == 0; }
 static inline int gcr_is_broken(uint64_t answer) { return answer >> 20 == 1; }
 static inline int gcr_is_refused(uint64_t answer) { return answer >> 20 > 1; }

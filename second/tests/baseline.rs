@@ -1,12 +1,13 @@
 //! The baseline agrees with the literal reading on the same inputs.
 
 use second::baseline::columns::Columns;
-use second::baseline::judging::prepare;
+use second::baseline::judging::{judge_all, judge_predicate, prepare};
 use second::compare::rehearsal::Outstanding;
 use second::compare::subject::Baseline;
 use second::compare::tally::Tally;
 use second::compare::{models, reader, rehearsal, Seeds};
 use second::generate;
+use second::models::{judged, refused};
 use second::predicates::Answer::{Broken, Met};
 use second::predicates::Judged;
 use second::questions::ask;
@@ -40,6 +41,25 @@ fn judges_predicates_alike() {
         prepare(&bytes, &mut columns).expect("both pass it");
         let broken = columns.all_broken().map(|pair| pair.map_or(Met, |(a, b)| Broken(a, b)));
         assert_eq!(Judged::new(&record).answers(), broken, "seed {seed}");
+    }
+}
+
+/// The calls that read a record and judge one predicate or all.
+#[test]
+fn judges_alone_and_all_at_once() {
+    for seed in 20_000..20_300 {
+        let bytes = generate::record(seed).bytes;
+        let mut verdicts = [7; 13];
+        let answer = judge_all(&bytes, &mut verdicts);
+        let (whole, each) = match ask(&bytes) {
+            Err(refusal) => (refused(refusal), [7; 13]),
+            Ok(record) => (0, std::array::from_fn(|at| judged(Judged::new(&record).answers()[at]))),
+        };
+        assert_eq!((answer, verdicts), (whole, each), "seed {seed}");
+        for (at, &verdict) in each.iter().enumerate() {
+            let alone = if whole == 0 { verdict } else { whole };
+            assert_eq!(judge_predicate(at as u32 + 1, &bytes), alone, "seed {seed}");
+        }
     }
 }
 

@@ -8,6 +8,7 @@ extern "C" {
     fn gcr_read(record: *const u8, len: usize, work: *mut u64, words: usize) -> u64;
     fn gcr_judge_model(model: u32, record: *const u8, len: usize) -> u64;
     fn gcr_judge_predicate(predicate: u32, record: *const u8, len: usize) -> u64;
+    fn gcr_judge_all(record: *const u8, len: usize, out: *mut u64, words: usize) -> u64;
     fn gcr_rehearse(
         sites: u32,
         script: *const u8,
@@ -32,6 +33,11 @@ pub fn judge_model(model: u32, record: &[u8]) -> u64 {
 pub fn judge_predicate(predicate: u32, record: &[u8]) -> u64 {
     // SAFETY: nothing is written; a number that is no predicate is answered.
     unsafe { gcr_judge_predicate(predicate, record.as_ptr(), record.len()) }
+}
+
+pub fn judge_all(record: &[u8], out: &mut [u64]) -> u64 {
+    // SAFETY: `out` is aligned for its words, and `words` counts words.
+    unsafe { gcr_judge_all(record.as_ptr(), record.len(), out.as_mut_ptr(), out.len()) }
 }
 
 pub fn rehearse(sites: u32, script: &[u8], record: &mut [u8], answers: &mut [u8]) -> u64 {

@@ -1,4 +1,4 @@
-//! Judging a record against a model or a predicate.
+//! Judging a record against a model, a predicate, or all predicates.
 
 use crate::{ffi, packing, Model, Predicate, Refusal};
 use std::fmt;
@@ -49,4 +49,27 @@ pub fn judge_model(model: Model, record: &[u8]) -> Result<Verdict, Refusal> {
 /// ```
 pub fn judge_predicate(predicate: Predicate, record: &[u8]) -> Result<Verdict, Refusal> {
     packing::verdict(ffi::judge_predicate(predicate.number(), record))
+}
+
+/// Judges all thirteen predicates, reading the record once. Predicate k's verdict stands at k - 1.
+///
+/// ```
+/// use gcr::{judge_all, Predicate, Verdict};
+/// # use gcr::{rehearse, script, Call, RECORD_MOST};
+/// # let script = script(&[Call::Put { site: 0, object: 5, value: 1 }, Call::Put { site: 1, object: 5, value: 2 }]);
+/// # let mut record = [0; RECORD_MOST];
+/// # let length = rehearse(2, &script, &mut record, &mut [0; 16])?.length;
+/// # let record = &record[..length];
+///
+/// let verdicts = judge_all(record)?;
+/// for (predicate, verdict) in Predicate::ALL.iter().zip(verdicts) {
+///     println!("{} {verdict}", predicate.number());
+/// }
+/// assert_eq!(verdicts[0], Verdict::Met);
+/// assert_eq!(verdicts[1], Verdict::Broken { a: 0, b: 1 });
+/// # Ok::<(), gcr::Refusal>(())
+/// ```
+pub fn judge_all(record: &[u8]) -> Result<[Verdict; 13], Refusal> {
+    let mut answers = [0; 13];
+    packing::verdict(ffi::judge_all(record, &mut answers)).map(|_| answers.map(packing::judged))
 }

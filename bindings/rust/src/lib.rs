@@ -44,7 +44,7 @@ mod rehearsal;
 
 pub use answer::{answers, Answer};
 pub use call::{script, Call};
-pub use judging::{judge_model, judge_predicate, Verdict};
+pub use judging::{judge_all, judge_model, judge_predicate, Verdict};
 pub use model::Model;
 pub use predicate::Predicate;
 pub use reading::{is_visible, read, RECORD_MOST, WORK_WORDS};

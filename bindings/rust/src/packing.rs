@@ -4,12 +4,26 @@ use crate::{Refusal, Rehearsed, Verdict};
 
 /// 0 met; 1,048,576 + 1,024 × a + b broken; 2,097,152 + 1,024 × number + place refused.
 pub fn verdict(answer: u64) -> Result<Verdict, Refusal> {
-    let (upper, lower) = (answer >> 10 & 1023, answer & 1023);
     match answer >> 20 {
-        0 => Ok(Verdict::Met),
-        1 => Ok(Verdict::Broken { a: upper as u16, b: lower as u16 }),
-        _ => Err(Refusal { number: upper as u32, place: lower as u32 }),
+        0 | 1 => Ok(judged(answer)),
+        _ => Err(Refusal { number: upper(answer).into(), place: lower(answer).into() }),
     }
+}
+
+/// An answer that is known to be no refusal.
+pub fn judged(answer: u64) -> Verdict {
+    match answer >> 20 {
+        0 => Verdict::Met,
+        _ => Verdict::Broken { a: upper(answer), b: lower(answer) },
+    }
+}
+
+fn upper(answer: u64) -> u16 {
+    (answer >> 10 & 1023) as u16
+}
+
+fn lower(answer: u64) -> u16 {
+    (answer & 1023) as u16
 }
 
 /// Number + 256 × length + 16,777,216 × outstanding.

@@ -1,6 +1,6 @@
 //! The scope's records, read and judged through the library.
 
-use gcr::{is_visible, judge_model, judge_predicate, read, Model, Predicate, Refusal, Verdict, WORK_WORDS};
+use gcr::{is_visible, judge_all, judge_model, judge_predicate, read, Model, Predicate, Refusal, Verdict, WORK_WORDS};
 
 const LISTING: &[u8] = include_bytes!("../../../records/listing.gcr");
 const STALE_READ: &[u8] = include_bytes!("../../../records/stale-read.gcr");
@@ -19,6 +19,16 @@ fn the_listing_has_the_scopes_verdicts() {
             _ => Verdict::Met,
         };
         assert_eq!(judge_predicate(predicate, LISTING), Ok(expected), "{predicate}");
+    }
+}
+
+#[test]
+fn all_at_once_are_as_each_alone() {
+    for record in [LISTING, STALE_READ, STALE_VALUE] {
+        let verdicts = judge_all(record).unwrap();
+        for (&predicate, verdict) in Predicate::ALL.iter().zip(verdicts) {
+            assert_eq!(judge_predicate(predicate, record), Ok(verdict), "{predicate}");
+        }
     }
 }
 
@@ -57,6 +67,7 @@ fn refusals_carry_number_and_place() {
     assert_eq!(judge_model(Model::Causal, &damaged), Err(refused(4, 1)));
     assert_eq!(judge_predicate(Predicate::Pram, &LISTING[..512]), Err(refused(6, 0)));
     assert_eq!(judge_predicate(Predicate::Pram, &[]), Err(refused(3, 0)));
+    assert_eq!(judge_all(&damaged), Err(refused(4, 1)));
 }
 
 #[test]

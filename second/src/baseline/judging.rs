@@ -19,15 +19,40 @@ pub fn judge_model(model: u32, record: &[u8]) -> u64 {
     if !(1..=13).contains(&model) {
         return refused(2, 0);
     }
+    judge_list(MODELS[model as usize - 1], record)
+}
+
+pub fn judge_predicate(predicate: u32, record: &[u8]) -> u64 {
+    if !(1..=13).contains(&predicate) {
+        return refused(2, 0);
+    }
+    judge_list(&[predicate], record)
+}
+
+fn judge_list(list: &[u32], record: &[u8]) -> u64 {
+    let mut columns = Columns::new();
+    match prepare(record, &mut columns) {
+        Err((number, place)) => refused(number, place),
+        Ok(()) => packed(list.iter().find_map(|&predicate| columns.broken(predicate))),
+    }
+}
+
+/// All thirteen by one reading, as many as `verdicts` has room for; it stays where the record is refused.
+pub fn judge_all(record: &[u8], verdicts: &mut [u64]) -> u64 {
     let mut columns = Columns::new();
     match prepare(record, &mut columns) {
         Err((number, place)) => refused(number, place),
         Ok(()) => {
-            let list = MODELS[model as usize - 1].iter();
-            let first = list.copied().find_map(|predicate| columns.broken(predicate));
-            first.map_or(0, |(a, b)| (1 << 20) + ((a as u64) << 10) + b as u64)
+            for (verdict, predicate) in verdicts.iter_mut().zip(1..=13) {
+                *verdict = packed(columns.broken(predicate));
+            }
+            0
         }
     }
+}
+
+fn packed(broken: Break) -> u64 {
+    broken.map_or(0, |(a, b)| (1 << 20) + ((a as u64) << 10) + b as u64)
 }
 
 impl Columns {

@@ -80,10 +80,9 @@ pub fn check(number: u32, block: &[u8; BLOCK]) -> u32 {
     let (rows, rest) = words.as_chunks::<8>();
     let (mut sums, mut later) = ([0u32; 8], [0u32; 8]);
     for row in rows {
-        for lane in 0..8 {
-            later[lane] += sums[lane];
-            sums[lane] += u16::from_le_bytes(row[lane]) as u32;
-        }
+        let row: [u32; 8] = std::array::from_fn(|lane| u16::from_le_bytes(row[lane]) as u32);
+        later = std::array::from_fn(|lane| later[lane] + sums[lane]);
+        sums = std::array::from_fn(|lane| sums[lane] + row[lane]);
     }
     let (mut a, mut b) = (number + 1, 248 * (number + 1));
     for lane in 0..8 {

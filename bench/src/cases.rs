@@ -1,0 +1,165 @@
+//! What is measured: calls by inputs.
+
+use crate::both::{Both, Calls, Lent};
+use crate::inputs::{self, Input, SITES};
+use gcr::{Model, Predicate, Refusal, Rehearsed, Verdict};
+use second::baseline::{judging, reading, rehearsal};
+use std::rc::Rc;
+
+pub const SIZES: [usize; 3] = [16, 64, 256];
+
+/// A row of the table.
+pub struct Case {
+    pub call: String,
+    pub input: &'static str,
+    pub n: usize,
+    pub both: Box<dyn Both>,
+}
+
+impl Case {
+    fn new<A: 'static>(
+        call: &str,
+        input: &Rc<Input>,
+        proved: impl Fn(&Input, &mut Lent) -> A + 'static,
+        told: fn(A, &mut Lent) -> u64,
+        baseline: impl Fn(&Input, &mut Lent) -> u64 + 'static,
+    ) -> Case {
+        let both = Box::new(Calls::new(input, proved, told, baseline));
+        Case { call: call.to_string(), input: input.name, n: input.n, both }
+    }
+
+    pub fn name(&self) -> String {
+        format!("{} {} {}", self.call, self.input, self.n)
+    }
+
+    pub fn check(&mut self) {
+        self.both.check();
+    }
+}
+
+pub fn all() -> Vec<Case> {
+    let (records, disordered) = (records(), disordered());
+    let passing = || records.iter().chain(&disordered);
+    let mut all: Vec<Case> = passing().chain(&rings()).map(read).collect();
+    for &predicate in Predicate::ALL {
+        all.extend(records.iter().map(|record| judge_predicate(predicate, record)));
+    }
+    all.extend(passing().map(judge_all));
+    all.extend(passing().map(judge_model));
+    all.extend(scripts().iter().map(rehearse));
+    all
+}
+
+/// Numbered against time.
+fn disordered() -> Vec<Rc<Input>> {
+    SIZES.map(inputs::backward).into_iter().chain([inputs::by_site()]).collect()
+}
+
+fn rings() -> Vec<Rc<Input>> {
+    let rings = [inputs::ring, inputs::low_ring, inputs::high_ring];
+    rings.iter().flat_map(|ring| SIZES.map(ring)).collect()
+}
+
+fn records() -> Vec<Rc<Input>> {
+    let sparse = SIZES.map(inputs::sparse);
+    sparse.into_iter().chain(SIZES.map(inputs::dense)).chain([inputs::rehearsed()]).collect()
+}
+
+fn scripts() -> Vec<Rc<Input>> {
+    let sparse = SIZES.map(inputs::sparse_script);
+    let day = SIZES.map(inputs::day_script);
+    let full = inputs::full_day_script();
+    sparse.into_iter().chain(SIZES.map(inputs::dense_script)).chain(day).chain([full]).collect()
+}
+
+fn read(input: &Rc<Input>) -> Case {
+    Case::new(
+        "read",
+        input,
+        |input, lent| gcr::read(&input.bytes, &mut lent.words),
+        |answer, _| packed(answer.map(|()| Verdict::Met)),
+        |input, lent| reading::read(&input.bytes, &mut lent.words),
+    )
+}
+
+fn judge_predicate(predicate: Predicate, input: &Rc<Input>) -> Case {
+    let number = predicate.number();
+    Case::new(
+        &format!("predicate {number}"),
+        input,
+        move |input, _| gcr::judge_predicate(predicate, &input.bytes),
+        |answer, _| packed(answer),
+        move |input, _| judging::judge_predicate(number, &input.bytes),
+    )
+}
+
+fn judge_all(input: &Rc<Input>) -> Case {
+    Case::new(
+        "all thirteen",
+        input,
+        |input, _| gcr::judge_all(&input.bytes),
+        |answer, lent| {
+            for (word, verdict) in lent.words.iter_mut().zip(answer.iter().flatten()) {
+                *word = packed(Ok(*verdict));
+            }
+            packed(answer.map(|_| Verdict::Met))
+        },
+        |input, lent| judging::judge_all(&input.bytes, &mut lent.words[..13]),
+    )
+}
+
+/// Causal, the model that needs every table.
+fn judge_model(input: &Rc<Input>) -> Case {
+    Case::new(
+        "model 4",
+        input,
+        |input, _| gcr::judge_model(Model::Causal, &input.bytes),
+        |answer, _| packed(answer),
+        |input, _| judging::judge_model(4, &input.bytes),
+    )
+}
+
+fn rehearse(input: &Rc<Input>) -> Case {
+    Case::new(
+        "rehearse",
+        input,
+        |input, lent| gcr::rehearse(SITES as u32, &input.bytes, &mut lent.record, &mut lent.answers),
+        |answer, _| rehearsed(answer),
+        |input, lent| rehearsal::rehearse(SITES as u32, &input.bytes, &mut lent.record, &mut lent.answers),
+    )
+}
+
+/// A judging call's number.
+fn packed(answer: Result<Verdict, Refusal>) -> u64 {
+    match answer {
+        Ok(Verdict::Met) => 0,
+        Ok(Verdict::Broken { a, b }) => (1 << 20) + 1_024 * u64::from(a) + u64::from(b),
+        Err(refusal) => (1 << 21) + 1_024 * u64::from(refusal.number) + u64::from(refusal.place),
+    }
+}
+
+/// A rehearsal's number.
+fn rehearsed(answer: Result<Rehearsed, Refusal>) -> u64 {
+    match answer {
+        Ok(done) => (done.length as u64) << 8 | done.outstanding << 24,
+        Err(refusal) => refusal.number.into(),
+    }
+}
+
+#[cfg(test)]
+mod tests {
+    use super::*;
+    use std::collections::HashSet;
+
+    #[test]
+    fn both_sides_answer_alike_in_every_case() {
+        all().iter_mut().for_each(Case::check);
+    }
+
+    #[test]
+    fn no_two_cases_have_one_name() {
+        let cases = all();
+        let names: HashSet<String> = cases.iter().map(Case::name).collect();
+        assert_eq!(names.len(), cases.len());
+    }
+}

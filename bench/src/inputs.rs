@@ -1,0 +1,194 @@
+//! Records and scripts, always the same.
+
+use second::generate::scripts::full_day;
+use second::record::{Event, Record};
+use second::samples::in_turn;
+use second::store::{run_script, Call, Store, CALL_BYTES};
+use std::rc::Rc;
+
+pub const SITES: usize = 8;
+
+/// A record's or a script's bytes, under the name and the count of events that the table shows.
+pub struct Input {
+    pub name: &'static str,
+    pub n: usize,
+    pub bytes: Vec<u8>,
+}
+
+impl Input {
+    fn new(name: &'static str, n: usize, bytes: Vec<u8>) -> Rc<Input> {
+        Rc::new(Input { name, n, bytes })
+    }
+}
+
+/// Every event sees all before it: one site, one object. All thirteen predicates are met.
+pub fn dense(n: usize) -> Rc<Input> {
+    Input::new("dense", n, in_turn(n).to_bytes())
+}
+
+/// Eight sites side by side that never hear of each other, each on objects of its own: an event sees only those
+/// before it at its site. All predicates but 2 are met, which no sparse record of returned events meets.
+pub fn sparse(n: usize) -> Rc<Input> {
+    let event = |k: usize| {
+        let (site, turn) = (k % SITES, k / SITES);
+        let object = (4 * site + turn / 2 % 4) as u8;
+        let event = match turn % 2 {
+            0 => Event::write(site as u8, object, k as u32),
+            _ => Event::read(site as u8, object, Some((k - SITES) as u32)),
+        };
+        let before: Vec<usize> = (site..k).step_by(SITES).collect();
+        event.at(2 * k as u64, 2 * k as u64 + 1).sees(&before)
+    };
+    Input::new("sparse", n, Record::in_order(SITES as u8, (0..n).map(event).collect()).to_bytes())
+}
+
+/// The dense record with its events numbered from the last to the first, so that work which goes by number meets
+/// everything in the wrong order.
+pub fn backward(n: usize) -> Rc<Input> {
+    let order: Vec<usize> = (0..n).rev().collect();
+    Input::new("backward", n, renumbered(&in_turn(n), &order).to_bytes())
+}
+
+/// What the full day leaves: 256 events at eight sites.
+pub fn rehearsed() -> Rc<Input> {
+    let record = after_full_day();
+    Input::new("rehearsed", record.events.len(), record.to_bytes())
+}
+
+/// The same with each site's events numbered together, as from eight logs laid end to end.
+pub fn by_site() -> Rc<Input> {
+    let record = after_full_day();
+    let mut order: Vec<usize> = (0..record.events.len()).collect();
+    order.sort_by_key(|&event| record.events[event].site);
+    Input::new("by site", order.len(), renumbered(&record, &order).to_bytes())
+}
+
+fn after_full_day() -> Record {
+    let script = full_day(1, SITES);
+    run_script(SITES, &script, &mut vec![0; script.len()]).record()
+}
+
+/// The record with event `order[k]` as event k.
+fn renumbered(record: &Record, order: &[usize]) -> Record {
+    let event = |&old: &usize| {
+        let mut event = record.events[old].clone();
+        let seen = event.visible;
+        for (new, &old) in order.iter().enumerate() {
+            event.visible[new] = seen[old];
+        }
+        event
+    };
+    Record { sites: record.sites, events: order.iter().map(event).collect() }
+}
+
+/// Every event sees the next, and the last the first: all are on one ring.
+pub fn ring(n: usize) -> Rc<Input> {
+    let events = (0..n).map(|k| Event::write(0, 0, 1).sees(&[(k + 1) % n]));
+    Input::new("ring", n, Record::in_order(1, events.collect()).to_bytes())
+}
+
+/// The dense record, where the first event sees the last one too: all are on many rings.
+pub fn low_ring(n: usize) -> Rc<Input> {
+    let mut record = in_turn(n);
+    record.events[0].visible[n - 1] = true;
+    Input::new("low ring", n, record.to_bytes())
+}
+
+/// The dense record, where the last two events see each other: all others are on no ring, and come first.
+pub fn high_ring(n: usize) -> Rc<Input> {
+    let mut record = in_turn(n);
+    record.events[n - 2].visible[n - 1] = true;
+    Input::new("high ring", n, record.to_bytes())
+}
+
+/// A put and a get in turn at each site, and no delivery: leaves a record as sparse as `sparse`.
+pub fn sparse_script(n: usize) -> Rc<Input> {
+    Input::new("sparse", n, script((0..n).map(event)))
+}
+
+/// The same with every put delivered to all other sites at once: every event sees all before it.
+pub fn dense_script(n: usize) -> Rc<Input> {
+    let calls = (0..n).flat_map(|k| {
+        let others = (0..SITES).filter(move |&site| is_put(k) && site != k % SITES);
+        std::iter::once(event(k)).chain(others.map(move |site| Call::Deliver { site, event: k }))
+    });
+    Input::new("dense", n, script(calls))
+}
+
+/// The first calls of the full day, up to the one that is event n - 1.
+pub fn day_script(n: usize) -> Rc<Input> {
+    let (mut day, mut store) = (full_day(1, SITES), Store::new(SITES));
+    let calls = day.chunks(CALL_BYTES).take_while(|call| {
+        let more = store.events() < n;
+        store.call(call);
+        more
+    });
+    let length = CALL_BYTES * calls.count();
+    day.truncate(length);
+    Input::new("day", n, day)
+}
+
+/// All 4,096 calls of the day.
+pub fn full_day_script() -> Rc<Input> {
+    Input::new("full day", 256, full_day(1, SITES))
+}
+
+fn is_put(k: usize) -> bool {
+    (k / SITES).is_multiple_of(2)
+}
+
+fn event(k: usize) -> Call {
+    let (site, object) = (k % SITES, k / SITES / 2 % 32);
+    match is_put(k) {
+        true => Call::Put { site, object, value: k as u32 },
+        false => Call::Get { site, object },
+    }
+}
+
+fn script(calls: impl Iterator<Item = Call>) -> Vec<u8> {
+    calls.flat_map(Call::to_bytes).collect()
+}
+
+#[cfg(test)]
+mod tests {
+    use super::*;
+    use second::predicates::{Answer, Judged};
+    use second::questions::ask;
+
+    fn broken(input: &Input) -> Vec<usize> {
+        let answers = Judged::new(&ask(&input.bytes).expect("passes")).answers();
+        (1..=13).filter(|predicate| answers[predicate - 1] != Answer::Met).collect()
+    }
+
+    #[test]
+    fn nearly_all_predicates_are_met_so_that_nothing_ends_early() {
+        for n in [16, 64, 256] {
+            assert_eq!(broken(&dense(n)), []);
+            assert_eq!(broken(&backward(n)), []);
+            assert_eq!(broken(&sparse(n)), [2]);
+        }
+        assert_eq!(broken(&rehearsed()), [2, 3, 4, 13]);
+        assert_eq!(broken(&by_site()), [2, 3, 4, 13]);
+    }
+
+    #[test]
+    fn rings_are_refused_at_their_lowest_event() {
+        for (input, place) in [(ring(64), 0), (low_ring(64), 0), (high_ring(64), 62)] {
+            let refusal = ask(&input.bytes).expect_err("a ring");
+            assert_eq!((refusal.number, refusal.place), (10, place));
+        }
+    }
+
+    #[test]
+    fn scripts_do_all_their_calls_and_come_to_their_events() {
+        for input in [sparse_script(64), dense_script(64), dense_script(256)] {
+            let mut answers = vec![7; input.bytes.len()];
+            let store = run_script(SITES, &input.bytes, &mut answers);
+            assert!(answers.chunks(CALL_BYTES).all(|answer| answer[0] == 0));
+            assert_eq!(store.events(), input.n);
+        }
+        for input in [day_script(16), day_script(256), full_day_script()] {
+            assert_eq!(run_script(SITES, &input.bytes, &mut vec![0; input.bytes.len()]).events(), input.n);
+        }
+    }
+}
