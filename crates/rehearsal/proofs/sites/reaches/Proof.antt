@@ -43,9 +43,9 @@ loop-again c =
     let l = c .before .before .loop in (
       omega arith,
       ⊎-elim
-      (λ w. w .1 ∙ reached-less (l .i) _ _ (lt-leb _ _ (w .0 .taken)))
-      (λ w. w .1 ∙ l .inv .1 ∙ reached-more (l .i) _ _ (le-leb _ _ (w .0 .left)))
-      (c .if1 .came),
+          (λ w. w .1 ∙ reached-less (l .i) _ _ (lt-leb _ _ (w .0 .taken)))
+          (λ w. w .1 ∙ l .inv .1 ∙ reached-more (l .i) _ _ (le-leb _ _ (w .0 .left)))
+          (c .if1 .came),
     )
 
 returns : tie.Need-returns Inv-loop μ-loop
