@@ -2,7 +2,7 @@
 use mathlib.Core.Path.{_≡_, refl, sym, ap, ap₂, _∙_, fun-ext}
 use mathlib.Core.Bool.{Bool, true, false, cond, _&&_, _||_, and-false, or-comm, and-true}
 use mathlib.Core.List.{List, _++_}
-use Prim.Native.Nat.{ℕ, zero, suc, _+_, _-_, _*_, _/_, _%_, _≤_, _<_, max}
+use Prim.Native.Nat.{ℕ, suc, _+_, _-_, _*_, _/_, _%_, _≤_, _<_, max}
 use native.Mathlib.Numerals.{add-one}
 use native.Mathlib.Omega.{arith}
 use lib.Dec.{eqb, leb, ltb}
@@ -12,9 +12,11 @@ use mir.Val.{boolByte}
 use borrow.Author.Tests.{lt-ltb, le-ltb, eq-eqb, ne-eqb, ltb-true, ltb-false}
 use Rattle.rows.specs.Row.{has, insert, orRow, orPart, rowAt}
 use Rattle.rows.proofs.Tests.{split, same-test}
-use Rattle.rows.proofs.FrontLaws.{front-all}
 use Rattle.rows.proofs.RowLaws.{has-insert, has-or, length-or}
-use Rattle.rows.proofs.TableLaws.{length-row, has-row, row-insert-same, row-insert-other, putRow, length-put, row-put-same, row-put-other, row-or-same, row-or-other}
+use Rattle.rows.proofs.TableLaws.{length-row, has-row, row-insert-same, row-insert-other, row-or-same, row-or-other}
+use Rattle.tables.proofs.SliceLaws.{sliceAt, slice-row}
+use Rattle.tables.proofs.TableFill.{giveBack}
+use Rattle.tables.proofs.SweepLaws.{row-put}
 use Rattle.consistency.specs.Reads.{none, value}
 use Rattle.store.specs.Store.{upd, Cell, empty, full, before, merge}
 use Rattle.store.specs.Rules.{reached, afterPut, afterGet, afterDelivery, valueOr0}
@@ -22,7 +24,7 @@ use Rattle.rehearsal.specs.Mirror.{cellOf, siteOf, eventOf}
 use Rattle.rehearsal.specs.declared.Kept.{Kept}
 use Rattle.rehearsal.specs.declared.KeptCell.{KeptCell}
 use Rattle.rehearsal.specs.declared.KeptEvent.{KeptEvent}
-use Rattle.store.proofs.UpdateLaws.{upd-elim, lt-suc-elim}
+use Rattle.store.proofs.UpdateLaws.{upd-elim}
 use Rattle.store.proofs.Invariant.{before-key, not-before-key}
 
 -- ---- arrays
@@ -129,12 +131,12 @@ module _ (k : ℕ) (needs held : ℕ → ℕ) where
 
 -- ---- rows of known events, four words a site
 
--- the words of a row as code lends them
+-- code counts 4 * b words to row b
+four : (b : ℕ) → 4 * b ≡ b * 4
+four b = omega arith
+
 lent-row : (g : List ℕ) (b : ℕ) → take (4 * b + 4 - 4 * b) (drop (4 * b) g) ≡ rowAt g 4 b
-lent-row g b =
-    let wide : 4 * b + 4 - 4 * b ≡ 4 = omega arith in
-    let place : 4 * b ≡ b * 4 = omega arith in
-    ap₂ (λ (k i : ℕ). take k (drop i g)) wide place
+lent-row g b = ap (λ (i : ℕ). take (i + 4 - i) (drop i g)) (four b) ∙ slice-row g 4 b
 
 module _ (known : List ℕ) (s : ℕ) where
   pub known-row : (w : ℕ) → w < 256 → has known (256 * s + w) ≡ has (rowAt known 4 s) w
@@ -165,20 +167,19 @@ pub learn-row : (known sees : List ℕ) (s w : ℕ) (joined after : List ℕ) �
 learn-row known sees s w joined after long wide here small e f t =
     let m : List ℕ = rowAt sees 4 w in
     let room : s * 4 + 4 ≤ length known = omega arith in
-    let four : length m ≡ 4 = length-row sees 4 w (omega arith) in
-    let place : 4 * s ≡ s * 4 = omega arith in
+    let wide-row : length m ≡ 4 = length-row sees 4 w (omega arith) in
     let bit : 256 * s + w ≡ 64 * (s * 4) + w = omega arith in
     let union : List ℕ = orPart known (s * 4) m in
-    let made : joined ≡ union = e ∙ ap₂ (λ (i : ℕ) (l : List ℕ). orPart known i l) place (lent-row sees w) in
+    let made : joined ≡ union = e ∙ ap₂ (λ (i : ℕ) (l : List ℕ). orPart known i l) (four s) (lent-row sees w) in
     let last : List ℕ = insert union (64 * (s * 4) + w) in
     let row : List ℕ = rowAt known 4 s in
     ap (λ (l : List ℕ). has (rowAt l 4 t)) (f ∙ ap₂ insert made bit)
     ∙ upd-elim (λ (g : ℕ → Bool). has (rowAt last 4 t) ≡ g) (λ (r : ℕ). has (rowAt known 4 r)) s (λ (x : ℕ). eqb x w || (has m x || has row x)) t
     (λ q.
     ap (λ (r : ℕ). has (rowAt last 4 r)) q
-    ∙ ap has (row-insert-same union 4 s w (omega arith) ∙ ap (λ (l : List ℕ). insert l w) (row-or-same known 4 s m four room))
+    ∙ ap has (row-insert-same union 4 s w (omega arith) ∙ ap (λ (l : List ℕ). insert l w) (row-or-same known 4 s m wide-row room))
     ∙ known-joined row m w (omega (arith, length-row known 4 s room)) (omega (arith, length-row known 4 s room)))
-    (λ q. ap has (row-insert-other union 4 s w (omega arith) t q ∙ row-or-other known 4 s m four room t q))
+    (λ q. ap has (row-insert-other union 4 s w (omega arith) t q ∙ row-or-other known 4 s m wide-row room t q))
 
 -- event k comes to see what site s knows
 pub see-row : (known sees : List ℕ) (s k : ℕ) (m after : List ℕ) → length known ≡ 32 → length sees ≡ 1024 → s < 8 → k < 256
@@ -187,20 +188,18 @@ pub see-row : (known sees : List ℕ) (s k : ℕ) (m after : List ℕ) → lengt
     → (length after ≡ 1024) × ((e : ℕ) → has (rowAt after 4 e) ≡ upd (λ (r : ℕ). has (rowAt sees 4 r)) k (has (rowAt known 4 s)) e)
 see-row known sees s k m after long wide here small copied given =
     let room : k * 4 + 4 ≤ length sees = omega arith in
-    let from : length (rowAt known 4 s) ≡ 4 = length-row known 4 s (omega arith) in
-    let whole : m ≡ rowAt known 4 s =
-    front-all (rowAt known 4 s) (rowAt sees 4 k) (length (rowAt known 4 s))
-    (copied ∙ ap₂ (λ (l r : List ℕ). l ++ drop (length l) r) (lent-row known s) (lent-row sees k)) (omega (arith, length-row sees 4 k room)) in
-    let four : length m ≡ 4 = ap length whole ∙ from in
-    let width : 4 * k + 4 - 4 * k ≡ 4 = omega arith in
-    let place : 4 * k ≡ k * 4 = omega arith in
-    let put : after ≡ putRow sees 4 k m = given ∙ ap₂ (λ (n i : ℕ). take i sees ++ (m ++ drop n (drop i sees))) width place in (
-      ap length put ∙ length-put sees 4 k m four room ∙ wide,
+    let from : s * 4 + 4 ≤ length known = omega arith in
+    let lent : m ≡ sliceAt known 4 s ++ drop (length (sliceAt known 4 s)) (sliceAt sees 4 k) =
+    copied
+    ∙ ap₂ (λ (l r : List ℕ). l ++ drop (length l) r) (lent-row known s ∙ sym (slice-row known 4 s)) (lent-row sees k ∙ sym (slice-row sees 4 k)) in
+    let put = row-put 4 k sees known s m room from lent in
+    let back : after ≡ giveBack sees 4 k m = given ∙ ap (λ (i : ℕ). take i sees ++ (m ++ drop (i + 4 - i) (drop i sees))) (four k) in (
+      ap length back ∙ put .size ∙ wide,
       λ e.
-          ap (λ (l : List ℕ). has (rowAt l 4 e)) put
-          ∙ upd-elim (λ (f : ℕ → Bool). has (rowAt (putRow sees 4 k m) 4 e) ≡ f) (λ (r : ℕ). has (rowAt sees 4 r)) k (has (rowAt known 4 s)) e
-          (λ q. ap (λ (r : ℕ). has (rowAt (putRow sees 4 k m) 4 r)) q ∙ ap has (row-put-same sees 4 k m four room ∙ whole))
-          (λ q. ap has (row-put-other sees 4 k m four room e q)),
+          ap (λ (l : List ℕ). has (rowAt l 4 e)) back
+          ∙ upd-elim (λ (f : ℕ → Bool). has (rowAt (giveBack sees 4 k m) 4 e) ≡ f) (λ (r : ℕ). has (rowAt sees 4 r)) k (has (rowAt known 4 s)) e
+          (λ q. ap (λ (r : ℕ). has (rowAt (giveBack sees 4 k m) 4 r)) q ∙ ap has (put .same))
+          (λ q. ap has (put .other e q)),
     )
 
 -- ---- cells

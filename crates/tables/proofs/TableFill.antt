@@ -15,6 +15,7 @@ use Rattle.rows.proofs.Tests.{split}
 use Rattle.rows.proofs.RowLaws.{length-insert, row-none, row-set, row-skip, row-or}
 use Rattle.rows.proofs.TableLaws.{row-room, length-row, length-row-le, row-copied, putRow, length-put, row-put-same, row-put-other}
 use Rattle.tables.specs.Tables.{joined}
+use Rattle.tables.proofs.SliceLaws.{sliceAt, slice-row, length-slice}
 
 -- ---- a row that is filled by a test of each number
 
@@ -33,18 +34,9 @@ tested-all f k n l e r = subst (λ (j : ℕ). Row j f l) e r
 
 -- ---- a table that is filled row by row
 
--- row b as code lends it, and the table with m given back in its place
-abbrev pub lentRow : List ℕ → ℕ → ℕ → List ℕ
-lentRow g w b = take (b * w + w - b * w) (drop (b * w) g)
-
+-- the table with m given back in the place of row b
 abbrev pub giveBack : List ℕ → ℕ → ℕ → List ℕ → List ℕ
 giveBack g w b m = take (b * w) g ++ (m ++ drop (b * w + w - b * w) (drop (b * w) g))
-
-pub lent-row : (g : List ℕ) (w b : ℕ) → lentRow g w b ≡ rowAt g w b
-lent-row g w b = rw add-sub-cancel-left
-
-pub lent-length : (g : List ℕ) (w b : ℕ) → b * w + w ≤ length g → length (lentRow g w b) ≡ w
-lent-length g w b room = ap length (lent-row g w b) ∙ length-row g w b room
 
 -- each of the first b rows is as P says, and g has the room that g₀ had
 pub record Filled (w : ℕ) (P : ℕ → List ℕ → Type 0) (g₀ : List ℕ) (b : ℕ) (g : List ℕ) : Type 0 where
@@ -61,9 +53,9 @@ module _ (w : ℕ) (P : ℕ → List ℕ → Type 0) (g₀ : List ℕ) (b : ℕ)
   pub filled-all : (n : ℕ) → n ≤ b → (c : ℕ) → c < n → P c (rowAt g w c)
   filled-all n h c l = i .rows c (omega arith)
 
-  module _ (m : List ℕ) (room : b * w + w ≤ length g) (lent : length m ≡ length (lentRow g w b)) where
+  module _ (m : List ℕ) (room : b * w + w ≤ length g) (lent : length m ≡ length (sliceAt g w b)) where
     wide : length m ≡ w
-    wide = lent ∙ lent-length g w b room
+    wide = lent ∙ length-slice g w b room
 
     given : giveBack g w b m ≡ putRow g w b m
     given = rw add-sub-cancel-left
@@ -88,12 +80,12 @@ module _ (w : ℕ) (P : ℕ → List ℕ → Type 0) (g₀ : List ℕ) (b : ℕ)
 
 -- row b is copied from q, and then changed where it stands
 module _ (w : ℕ) (P : ℕ → List ℕ → Type 0) (g₀ : List ℕ) (b : ℕ) (g : List ℕ) (i : Filled w P g₀ b g) (q m : List ℕ) (room : b * w + w ≤ length g) (room-q : b * w + w ≤ length q)
-    (copied : m ≡ lentRow q w b ++ drop (length (lentRow q w b)) (lentRow g w b)) where
+    (copied : m ≡ sliceAt q w b ++ drop (length (sliceAt q w b)) (sliceAt g w b)) where
   copy-row : m ≡ rowAt q w b
-  copy-row = row-copied q w b (lentRow g w b) m (lent-length g w b room) room-q copied
+  copy-row = row-copied q w b (sliceAt g w b) m (length-slice g w b room) room-q copied
 
-  copy-lent : length m ≡ length (lentRow g w b)
-  copy-lent = ap length copy-row ∙ length-row q w b room-q ∙ sym (lent-length g w b room)
+  copy-lent : length m ≡ length (sliceAt g w b)
+  copy-lent = ap length copy-row ∙ length-row q w b room-q ∙ sym (length-slice g w b room)
 
   copy-kept : Filled w P g₀ b (giveBack g w b m)
   copy-kept = filled-kept w P g₀ b g i m room copy-lent
@@ -101,12 +93,12 @@ module _ (w : ℕ) (P : ℕ → List ℕ → Type 0) (g₀ : List ℕ) (b : ℕ)
   pub copy-room : b * w + w ≤ length (giveBack g w b m)
   copy-room = omega (arith, i .size, copy-kept .size)
 
-  pub filled-changed : (f : List ℕ → List ℕ → List ℕ) → ((k o : List ℕ) → length (f k o) ≡ length k) → (o m' : List ℕ) → m' ≡ f (lentRow (giveBack g w b m) w b) o → P b (f (rowAt q w b) o)
+  pub filled-changed : (f : List ℕ → List ℕ → List ℕ) → ((k o : List ℕ) → length (f k o) ≡ length k) → (o m' : List ℕ) → m' ≡ f (sliceAt (giveBack g w b m) w b) o → P b (f (rowAt q w b) o)
       → Filled w P g₀ (b + 1) (giveBack (giveBack g w b m) w b m')
-  filled-changed f same o m' e p = filled-more w P g₀ b (giveBack g w b m) copy-kept m' copy-room (ap length e ∙ same (lentRow (giveBack g w b m) w b) o) (subst (P b) (sym made) p)
+  filled-changed f same o m' e p = filled-more w P g₀ b (giveBack g w b m) copy-kept m' copy-room (ap length e ∙ same (sliceAt (giveBack g w b m) w b) o) (subst (P b) (sym made) p)
     where
       made : m' ≡ f (rowAt q w b) o
-      made = e ∙ ap (λ (k : List ℕ). f k o) (lent-row (giveBack g w b m) w b ∙ given-row w P g₀ b g i m room copy-lent ∙ copy-row)
+      made = e ∙ ap (λ (k : List ℕ). f k o) (slice-row (giveBack g w b m) w b ∙ given-row w P g₀ b g i m room copy-lent ∙ copy-row)
 
 -- rows that are unions of the rows of two tables
 pub table-joined : (n w : ℕ) (q r g : List ℕ) → n * w ≤ length q → ((b : ℕ) → b < n → rowAt g w b ≡ orRow (rowAt q w b) (rowAt r w b)) → (x y : Rel) → Table n w x q → Table n w y r

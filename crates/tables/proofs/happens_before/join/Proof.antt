@@ -7,7 +7,8 @@ use lib.ListN.{length}
 use Rattle.rows.specs.Row.{orRow, rowAt}
 use Rattle.rows.proofs.RowLaws.{length-or}
 use Rattle.rows.proofs.TableLaws.{row-room}
-use Rattle.tables.proofs.TableFill.{Filled, filled-none, filled-room, filled-all, filled-changed, copy-room, lentRow, lent-row, lent-length, giveBack, table-joined}
+use Rattle.tables.proofs.SliceLaws.{sliceAt, slice-row, length-slice}
+use Rattle.tables.proofs.TableFill.{Filled, filled-none, filled-room, filled-all, filled-changed, copy-room, giveBack, table-joined}
 use Rattle.tables.proofs.happens_before.join.Statement.{statement}
 use Rattle.tables.proofs.happens_before.join.Tie as tie
 use Rattle.tables.proofs.happens_before.join.Reads as reads
@@ -99,7 +100,7 @@ copy-requires : tie.Need-copy-requires Inv-loop μ-loop
 copy-requires c κs =
     let s = c .before .before .before .before .before .before .before in
     let l = c .before .before .before .loop in
-    omega (arith, lent-length (s .args .q .now) (s .args .w) (l .b) (place-q (c .before .before)), lent-length (l .out) (s .args .w) (l .b) (place (c .before .before)))
+    omega (arith, length-slice (s .args .q .now) (s .args .w) (l .b) (place-q (c .before .before)), length-slice (l .out) (s .args .w) (l .b) (place (c .before .before)))
 
 -- src/tables.rt:92:21
 mul-union : tie.Need-mul-union Inv-loop μ-loop
@@ -139,7 +140,7 @@ union-requires c κs =
     let s = c .before .before .before .before .before .before .before .before .before .before .before .before in
     let l = c .before .before .before .before .before .before .before .before .loop in
     let k = c .before .before .before .before in
-    omega (arith, lent-length (s .args .r .now) (s .args .w) (l .b) (place-r (k .before .before .before)), lent-length (giveBack (l .out) (s .args .w) (l .b) (k .copy .last .0)) (s .args .w) (l .b) (place-again k))
+    omega (arith, length-slice (s .args .r .now) (s .args .w) (l .b) (place-r (k .before .before .before)), length-slice (giveBack (l .out) (s .args .w) (l .b) (k .copy .last .0)) (s .args .w) (l .b) (place-again k))
 
 -- src/tables.rt:88:9
 add-b : tie.Need-add-b Inv-loop μ-loop
@@ -157,7 +158,7 @@ loop-again c =
     let i = c .before .before .before .before .before .before .before .before .before .before in
     let k = c .before .before .before .before .before .before .before .copy in
     let u = c .before .before .union in
-    (omega arith, filled-changed (s .args .w) (Wanted (s .args .w) (s .args .q .now) (s .args .r .now)) (s .args .out .now) (l .b) (l .out) (l .inv .1) (s .args .q .now) (k .last .0) (place i) (place-q i) (k .ensures) orRow length-or (lentRow (s .args .r .now) (s .args .w) (l .b)) (u .last .0) (u .ensures) (ap (orRow (rowAt (s .args .q .now) (s .args .w) (l .b))) (lent-row (s .args .r .now) (s .args .w) (l .b))))
+    (omega arith, filled-changed (s .args .w) (Wanted (s .args .w) (s .args .q .now) (s .args .r .now)) (s .args .out .now) (l .b) (l .out) (l .inv .1) (s .args .q .now) (k .last .0) (place i) (place-q i) (k .ensures) orRow length-or (sliceAt (s .args .r .now) (s .args .w) (l .b)) (u .last .0) (u .ensures) (ap (orRow (rowAt (s .args .q .now) (s .args .w) (l .b))) (slice-row (s .args .r .now) (s .args .w) (l .b))))
 
 -- src/tables.rt:83:1
 same-length : tie.Need-same-length Inv-loop μ-loop

@@ -9,7 +9,8 @@ use Rattle.rows.specs.Row.{andRow, rowAt}
 use Rattle.rows.proofs.RowLaws.{length-and}
 use Rattle.rows.proofs.TableLaws.{row-room}
 use Rattle.tables.specs.Tables.{keyIn}
-use Rattle.tables.proofs.TableFill.{Filled, filled-none, filled-room, filled-all, filled-changed, copy-room, lentRow, lent-row, lent-length, giveBack}
+use Rattle.tables.proofs.SliceLaws.{sliceAt, slice-row, length-slice}
+use Rattle.tables.proofs.TableFill.{Filled, filled-none, filled-room, filled-all, filled-changed, copy-room, giveBack}
 use Rattle.tables.proofs.KeyLaws.{table-cut}
 use Rattle.tables.proofs.keys.keep_same_key.Statement.{statement}
 use Rattle.tables.proofs.keys.keep_same_key.Tie as tie
@@ -115,7 +116,7 @@ copy-requires : tie.Need-copy-requires Inv-loop μ-loop
 copy-requires c κs =
     let s = c .before .before .before .before .before .before .before .before .before in
     let l = c .before .before .before .before .loop in
-    omega (arith, lent-length (s .args .q .now) (s .args .w) (l .b) (place-q (c .before .before .before)), lent-length (l .out) (s .args .w) (l .b) (place (c .before .before .before)))
+    omega (arith, length-slice (s .args .q .now) (s .args .w) (l .b) (place-q (c .before .before .before)), length-slice (l .out) (s .args .w) (l .b) (place (c .before .before .before)))
 
 -- src/keys.rt:60:25
 mul-intersect : tie.Need-mul-intersect Inv-loop μ-loop
@@ -156,7 +157,7 @@ intersect-requires c κs =
     let y = k .before .before .before in
     let s = y .before .before .before .before .before .before .before in
     let l = y .before .before .loop in
-    omega (arith, lent-length (s .args .keys .now) (s .args .w) (y .key .result) (place-keys y), lent-length (giveBack (l .out) (s .args .w) (l .b) (k .copy .last .0)) (s .args .w) (l .b) (place-again k))
+    omega (arith, length-slice (s .args .keys .now) (s .args .w) (y .key .result) (place-keys y), length-slice (giveBack (l .out) (s .args .w) (l .b) (k .copy .last .0)) (s .args .w) (l .b) (place-again k))
 
 -- src/keys.rt:54:9
 add-b : tie.Need-add-b Inv-loop μ-loop
@@ -176,8 +177,8 @@ loop-again c =
     let u = c .before .before .intersect in (
       omega arith,
       filled-changed (s .args .w) (Wanted (s .args .l .now) (s .args .w) (s .args .object) (s .args .q .now) (s .args .keys .now)) (s .args .out .now) (l .b) (l .out) (l .inv .1) (s .args .q .now) (k .copy .last .0) (place (y .before)) (place-q (y .before)) (k .copy .ensures)
-          andRow length-and (lentRow (s .args .keys .now) (s .args .w) (y .key .result)) (u .last .0) (u .ensures)
-          (ap (andRow (rowAt (s .args .q .now) (s .args .w) (l .b))) (lent-row (s .args .keys .now) (s .args .w) (y .key .result) ∙ ap (rowAt (s .args .keys .now) (s .args .w)) (y .key .ensures .0))),
+          andRow length-and (sliceAt (s .args .keys .now) (s .args .w) (y .key .result)) (u .last .0) (u .ensures)
+          (ap (andRow (rowAt (s .args .q .now) (s .args .w) (l .b))) (slice-row (s .args .keys .now) (s .args .w) (y .key .result) ∙ ap (rowAt (s .args .keys .now) (s .args .w)) (y .key .ensures .0))),
     )
 
 -- src/keys.rt:39:1
