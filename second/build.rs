@@ -1,18 +1,12 @@
-//! Links the proved side's static library that the chosen feature names.
+//! Links the proved side's static library, where the feature `linked` asks for it.
 
 use std::env;
-use std::path::PathBuf;
-
-const LIBRARIES: [(&str, &str); 3] =
-    [("CARGO_FEATURE_READER", "reader"), ("CARGO_FEATURE_JUDGE", "judge"), ("CARGO_FEATURE_REHEARSAL", "rehearsal")];
+use std::path::{Path, PathBuf};
 
 fn main() {
     println!("cargo:rerun-if-env-changed=SECOND_STATICLIB");
-    let folder = library_folder();
-    for (feature, library) in LIBRARIES {
-        if env::var_os(feature).is_some() {
-            link(&folder, library);
-        }
+    if env::var_os("CARGO_FEATURE_LINKED").is_some() {
+        link(&library_folder());
     }
 }
 
@@ -24,11 +18,10 @@ fn library_folder() -> PathBuf {
     }
 }
 
-fn link(folder: &std::path::Path, library: &str) {
-    let archive = folder.join(format!("lib{library}.a"));
-    println!("cargo:rerun-if-changed={}", archive.display());
+fn link(folder: &Path) {
+    println!("cargo:rerun-if-changed={}", folder.join("libgcr.a").display());
     println!("cargo:rustc-link-search=native={}", folder.display());
-    println!("cargo:rustc-link-lib=static:-bundle={library}");
+    println!("cargo:rustc-link-lib=static:-bundle=gcr");
     // The archive may carry its own panic handler beside ours.
     println!("cargo:rustc-link-arg=-Wl,--allow-multiple-definition");
 }

@@ -8,9 +8,9 @@ mode=${1:-ci}
 [ $# -gt 0 ] && shift
 root=$here/..
 bin=${SECOND_BIN:-$root/target/bin}
-libraries=${SECOND_STATICLIB:-$root/target/staticlib}
-case $libraries in /*) ;; *) libraries=$here/$libraries ;; esac
-export SECOND_STATICLIB=$libraries
+folder=${SECOND_STATICLIB:-$root/target/staticlib}
+case $folder in /*) ;; *) folder=$here/$folder ;; esac
+export SECOND_STATICLIB=$folder
 keep=${SECOND_KEEP:-$root/target/second-failures}
 status=0
 totals=$(mktemp)
@@ -21,18 +21,16 @@ long) share=100 seconds=1800 ;;
 *) echo "run.sh ci|long [COMPARER...]" >&2; exit 2 ;;
 esac
 
-# The file that a comparer needs, and the feature that links it.
+# The file that a comparer needs, and the feature that links it where it is the library.
 needs() {
     case $1 in
     inspect | verdict | rehearse) echo "$bin/$1" ;;
-    reader) echo "$libraries/libreader.a" ;;
-    models) echo "$libraries/libjudge.a" ;;
-    rehearsal) echo "$libraries/librehearsal.a" ;;
+    reader | models | rehearsal) echo "$folder/libgcr.a" ;;
     esac
 }
 
 feature() {
-    case $1 in reader) echo reader ;; models) echo judge ;; rehearsal) echo rehearsal ;; esac
+    case $1 in reader | models | rehearsal) echo linked ;; esac
 }
 
 # Seeds of a CI run: a spawned program costs a millisecond, a script more than a record.
@@ -44,10 +42,10 @@ seeds() {
     esac
 }
 
-# Each linked build has a target folder of its own, or they would undo each other.
+# The linked build has a target folder of its own, or both would undo each other.
 compare() {
     linked=$(feature "$1")
-    target=$here/target${linked:+/linked-$linked}
+    target=$here/target${linked:+/linked}
     cargo build --quiet --release -j1 --manifest-path "$here/Cargo.toml" --bin compare \
         --target-dir "$target" ${linked:+--features "$linked"} || return 1
     "$target/release/compare" "$1" --seeds "$(seeds "$1")" --from "${FROM:-0}" \

@@ -1,11 +1,10 @@
-//! Links the proved libraries, and builds them first where they are missing.
-//! `RIZHAKKON_LIB` names another folder to take them from; `../libraries.txt` lists them, for C hosts too.
+//! Links the proved library, and builds it first where it is missing.
+//! `RIZHAKKON_LIB` names another folder to take it from.
 
 use std::env;
 use std::path::{Path, PathBuf};
 use std::process::Command;
 
-const LIBRARIES: &str = include_str!("../libraries.txt");
 const FOLDER: &str = "RIZHAKKON_LIB";
 
 fn main() {
@@ -15,20 +14,17 @@ fn main() {
         Some(folder) => here.join(folder),
         None => built(&here.join("../..")),
     };
-    println!("cargo:rustc-link-search=native={}", folder.display());
-    for library in LIBRARIES.split_whitespace() {
-        link(&archive(&folder, library), library);
-    }
+    link(&folder);
 }
 
-fn archive(folder: &Path, library: &str) -> PathBuf {
-    folder.join(format!("lib{library}.a"))
+fn archive(folder: &Path) -> PathBuf {
+    folder.join("libgcr.a")
 }
 
-/// The repository's own folder of archives, filled where one is missing.
+/// The repository's own folder of the archive, which is built where it is missing.
 fn built(root: &Path) -> PathBuf {
     let folder = root.join("target/staticlib");
-    if LIBRARIES.split_whitespace().any(|library| !archive(&folder, library).exists()) {
+    if !archive(&folder).exists() {
         build(root);
     }
     folder
@@ -36,14 +32,16 @@ fn built(root: &Path) -> PathBuf {
 
 fn build(root: &Path) {
     let mut command = Command::new("bash");
-    let run = command.arg("tools/libraries").current_dir(root).output().expect("bash runs");
+    let run = command.arg("tools/library").current_dir(root).output().expect("bash runs");
     let said = String::from_utf8_lossy(&run.stdout);
-    assert!(run.status.success(), "bash tools/libraries failed:\n{said}{}", String::from_utf8_lossy(&run.stderr));
+    assert!(run.status.success(), "bash tools/library failed:\n{said}{}", String::from_utf8_lossy(&run.stderr));
 }
 
 /// Unbundled, so that the archive is read once, by the final link.
-fn link(archive: &Path, library: &str) {
+fn link(folder: &Path) {
+    let archive = archive(folder);
     assert!(archive.exists(), "no {} to link; {FOLDER} may name the folder that has it", archive.display());
     println!("cargo:rerun-if-changed={}", archive.display());
-    println!("cargo:rustc-link-lib=static:-bundle={library}");
+    println!("cargo:rustc-link-search=native={}", folder.display());
+    println!("cargo:rustc-link-lib=static:-bundle=gcr");
 }

@@ -1,5 +1,4 @@
 // The judge of thirteen predicates and thirteen models.
-pub mod host;
 pub mod lists;
 pub mod prepared;
 pub mod thirteen;

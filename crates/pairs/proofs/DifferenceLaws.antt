@@ -23,7 +23,7 @@ use Rattle.consistency.specs.Relations.{ob, ar}
 use Rattle.consistency.specs.Predicates.{differ, misfit, excused}
 use Rattle.tables.specs.Tables.{Given, fieldsOf, keyIn, KeyRows}
 use Rattle.pairs.specs.Searches.{cutTo, Compared}
-use Rattle.tables.proofs.SliceLaws.{sliceAt, slice-row}
+use Rattle.rows.proofs.SliceLaws.{sliceAt, slice-row}
 use Rattle.pairs.proofs.EventLaws.{seen-table}
 use Rattle.pairs.proofs.OrderLaws.{misfit-excused, misfit-told}
 

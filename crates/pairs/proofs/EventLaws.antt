@@ -14,7 +14,7 @@ use Rattle.consistency.specs.Reads.{held, sameHeld, leftBy}
 use Rattle.tables.specs.Tables.{Given, fieldsOf}
 use Rattle.consistency.specs.declared.Last.{Last}
 use Rattle.consistency.specs.declared.Last.the-variants.{Nothing, At}
-use Rattle.tables.proofs.SliceLaws.{sliceAt, slice-row}
+use Rattle.rows.proofs.SliceLaws.{sliceAt, slice-row}
 
 module _ (n w : ℕ) (l v : List ℕ) where
   -- a test of the words of v that are b's

@@ -17,7 +17,7 @@ use Rattle.consistency.specs.Relations.{from, to}
 use Rattle.consistency.specs.Predicates.{outside}
 use Rattle.consistency.specs.declared.Verdict.the-variants.{Met, Broken}
 use Rattle.consistency.proofs.FirstPairLaws.{Alike, first-at, first-none}
-use Rattle.tables.proofs.SliceLaws.{sliceAt, slice-row}
+use Rattle.rows.proofs.SliceLaws.{sliceAt, slice-row}
 use Rattle.pairs.specs.Searches.{lacks}
 
 -- the row h has the events from which f has a pair to one of n

@@ -28,7 +28,7 @@ use Rattle.tables.specs.Tables.{Given, fieldsOf, keyIn, KeyRows, Placed}
 use Rattle.pairs.specs.Searches.{Picked, Member, Latest, LastBelow}
 use Rattle.consistency.specs.declared.Last.{Last}
 use Rattle.consistency.specs.declared.Last.the-variants.{Nothing, At}
-use Rattle.tables.proofs.SliceLaws.{sliceAt, slice-row}
+use Rattle.rows.proofs.SliceLaws.{sliceAt, slice-row}
 use Rattle.pairs.proofs.EventLaws.{seen-table}
 use Rattle.consistency.proofs.LastWriteLaws.{LastSays, write-says}
 

@@ -3,7 +3,6 @@ pub mod blocks;
 pub mod events;
 pub mod fields;
 pub mod header;
-pub mod host;
 pub mod positions;
 pub mod sets;
 pub mod slots;

@@ -1,6 +1,6 @@
 // Questions 9 and 10: the visible sets, as rows of words.
+use reach::rings;
 use record::Reading;
-use rows::reach;
 ghost use mathlib.Core.Path.{_≡_};
 ghost use mathlib.Core.Bool.{true};
 ghost use Prim.Native.Nat.{_*_, _≤_, _<_, _^_};
@@ -61,7 +61,7 @@ pub fn ask(table: &[u64], n: usize) -> Reading
     }
     let mut settled = [0u64; 4];
     let mut path = [0u64; 256];
-    let ring = reach::lowest_on_ring(table, n, &mut found, &mut done, &mut settled, &mut path);
+    let ring = rings::lowest_on_ring(table, n, &mut found, &mut done, &mut settled, &mut path);
     if ring < n {
         return Reading::OnRing(ring);
     }

@@ -12,8 +12,8 @@ use Rattle.store.specs.Store.{Event, Store}
 use Rattle.store.specs.Rules.{valueOr0}
 use Rattle.store.specs.Recorded.{rank, isValue, recorded}
 use Rattle.store.specs.Rehearsal.{puts}
-use Rattle.rehearsal.specs.Mirror.{shownOf, eventOf}
-use Rattle.rehearsal.specs.declared.KeptEvent.{KeptEvent}
+use Rattle.calls.specs.Mirror.{shownOf, eventOf}
+use Rattle.calls.specs.declared.KeptEvent.{KeptEvent}
 
 value-present : (t : Bool) (v : ℕ) → isValue (shownOf t v) ≡ t
 value-present true v = refl

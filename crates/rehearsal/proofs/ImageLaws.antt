@@ -16,8 +16,9 @@ use Rattle.record.proofs.SoundLayout.{gcr1-sound}
 use Rattle.record.proofs.WrittenLaws.{slots-none, slots-more, written}
 use Rattle.store.specs.Store.{Store}
 use Rattle.store.specs.Recorded.{rank, recorded, storeRecord}
-use Rattle.rehearsal.specs.Mirror.{eventOf, pastEvent, Stands, Bounded, Distinct}
-use Rattle.rehearsal.specs.declared.KeptEvent.{KeptEvent}
+use Rattle.calls.specs.Mirror.{eventOf}
+use Rattle.rehearsal.specs.Arrays.{pastEvent, Stands, Bounded, Distinct}
+use Rattle.calls.specs.declared.KeptEvent.{KeptEvent}
 
 -- ---- slots
 

@@ -18,9 +18,9 @@ use Rattle.store.specs.Calls.{callsOf}
 use Rattle.store.specs.Rules.{ask, run, answers}
 use Rattle.store.specs.Recorded.{recorded, storeRecord}
 use Rattle.store.specs.Rehearsal.{rehearsalRefusal, storeAfter, recordOf, recordAfter, answersAfter, lengthAfter, puts, mostCopies}
-use Rattle.rehearsal.specs.Mirror.{Stands, Bounded, Distinct}
+use Rattle.rehearsal.specs.Arrays.{Stands, Bounded, Distinct}
 use Rattle.store.specs.Demand.{Rehearses}
-use Rattle.rehearsal.specs.declared.KeptEvent.{KeptEvent}
+use Rattle.calls.specs.declared.KeptEvent.{KeptEvent}
 use Rattle.store.proofs.RunKeeps.{every-run}
 use Rattle.store.proofs.Sizes.{every-limits, every-sizes}
 use Rattle.store.proofs.StoreIsCausal.{key-once}

@@ -17,18 +17,19 @@ use Rattle.store.specs.Store.{upd, Cell, merge, Site, Event, Store, fresh}
 use Rattle.store.specs.Calls.{Call, deliver, callAt, callsOf}
 use Rattle.store.specs.Rules.{refusal, afterDelivery, doneAnswer, answer, step, answers}
 use Rattle.store.specs.Rehearsal.{storeAfter}
-use Rattle.rehearsal.specs.Mirror.{callOf, cellOf, shownOf, eventOf, siteOf, noCell, pastEvent, pastSite, freshKept, freshEvent, partOf, Made, Stands}
-use Rattle.rehearsal.specs.declared.Asked.{Asked}
-use Rattle.rehearsal.specs.declared.Kept.{Kept}
-use Rattle.rehearsal.specs.declared.KeptCell.{KeptCell}
-use Rattle.rehearsal.specs.declared.KeptEvent.{KeptEvent}
-use Rattle.rehearsal.specs.declared.Served.{Served}
+use Rattle.calls.specs.Mirror.{callOf, cellOf, shownOf, eventOf, siteOf, partOf, Made}
+use Rattle.rehearsal.specs.Arrays.{noCell, pastEvent, pastSite, freshKept, freshEvent, Stands}
+use Rattle.calls.specs.declared.Asked.{Asked}
+use Rattle.calls.specs.declared.Kept.{Kept}
+use Rattle.calls.specs.declared.KeptCell.{KeptCell}
+use Rattle.calls.specs.declared.KeptEvent.{KeptEvent}
+use Rattle.calls.specs.declared.Served.{Served}
 use Rattle.store.proofs.Invariant.{StoreInv}
 use Rattle.store.proofs.RunKeeps.{Doable}
 use Rattle.store.proofs.Sizes.{Limits, Sizes}
 use Rattle.store.proofs.WholeList.{storeUpTo, answersUpTo, store-none, store-more, answers-none, answers-more, up-to-keeps, up-to-limits, up-to-sizes, store-whole, answers-whole, answer-length, answers-up-to-length}
-use Rattle.rehearsal.proofs.ServeLaws.{same-refusal, some-kind, put-fits, get-fits, deliver-fits, deliver-site, deliver-call}
-use Rattle.rehearsal.proofs.MirrorLaws.{Arrays, storeIn, Sized, fresh-store, store-count, site-at, event-at, site-found, cell-at, found, withSite, withMade, site-sized, made-sized, refused-step, delivered-step, made-step}
+use Rattle.calls.proofs.ServeLaws.{same-refusal, some-kind, put-fits, get-fits, deliver-fits, deliver-site, deliver-call}
+use Rattle.rehearsal.proofs.ArrayLaws.{Arrays, storeIn, Sized, fresh-store, store-count, site-at, event-at, site-found, cell-at, found, withSite, withMade, site-sized, made-sized, refused-step, delivered-step, made-step}
 
 -- ---- stores one after the other
 

@@ -4,7 +4,7 @@ ghost use mathlib.Core.Path.{_≡_};
 ghost use Prim.Native.Nat.{_*_, _-_, _≤_};
 ghost use Rattle.store.specs.Store.{Store};
 ghost use Rattle.store.specs.Rehearsal.{puts};
-ghost use Rattle.rehearsal.specs.Mirror.{Stands};
+ghost use Rattle.rehearsal.specs.Arrays.{Stands};
 
 pub fn puts(ran: Ran) -> usize
     requires { ⌜ ran .count ≤ 256 ⌝ }

@@ -11,7 +11,7 @@ ghost use Rattle.record.specs.Layout.{gcr1};
 ghost use Rattle.record.specs.Encode.{blocksFor, withSlots};
 ghost use Rattle.store.specs.Store.{Store};
 ghost use Rattle.store.specs.Recorded.{recorded, storeRecord};
-ghost use Rattle.rehearsal.specs.Mirror.{Stands, Bounded, Distinct};
+ghost use Rattle.rehearsal.specs.Arrays.{Stands, Bounded, Distinct};
 
 // What event k sees.
 fn row_of(sees: &[u64], k: usize) -> [u64; 4]

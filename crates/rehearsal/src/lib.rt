@@ -1,16 +1,13 @@
 // The rehearsal of the store: a script of calls at one to eight fresh sites, its answers, and the record that it leaves.
 
-pub mod calls;
 pub mod copies;
-pub mod host;
 pub mod image;
 pub mod ranks;
 pub mod refuse;
 pub mod run;
-pub mod serve;
-pub mod sites;
 pub mod slots;
 
+use calls::KeptEvent;
 use store::Rehearsed;
 ghost use mathlib.Core.Path.{_≡_};
 ghost use Rattle.record.specs.Layout.{gcr1};
@@ -19,45 +16,6 @@ ghost use Rattle.judge.specs.Judgments.{modelJudgment};
 ghost use Rattle.judge.specs.declared.Judgment.the-variants.{Judged};
 ghost use Rattle.store.specs.Rehearsal.{rehearsalRefusal, recordOf};
 ghost use Rattle.store.specs.Demand.{Rehearses};
-
-// A call as it was decoded: kind 1 put, 2 get, 3 deliver, 0 malformed.
-pub struct Asked {
-    pub kind: u8,
-    pub site: u8,
-    pub object: u8,
-    pub value: u32,
-    pub event: u16,
-}
-
-// What a site keeps beside its cells and its known events: its clock, and the count of held puts from each site.
-pub struct Kept {
-    pub clock: u32,
-    pub counts: [u16; 8],
-}
-
-// A cell. Its order is (stamp, site) as one number, 8 × stamp + site, and 0 while the cell is empty.
-pub struct KeptCell {
-    pub value: u32,
-    pub order: u32,
-}
-
-// An event, with its order. The object is as wide as it is so that an event takes 32 bytes.
-pub struct KeptEvent {
-    pub order: u32,
-    pub value: u32,
-    pub object: u32,
-    pub put: bool,
-    pub present: bool,
-    pub needs: [u16; 8],
-}
-
-// What a put or get left of its site and of the cell that it concerns, the event that it became, and its answer.
-pub struct Served {
-    pub site: Kept,
-    pub cell: KeptCell,
-    pub event: KeptEvent,
-    pub answer: [u8; 8],
-}
 
 // What a script came to: the events done, what each sees, and how many deliveries.
 pub struct Ran {

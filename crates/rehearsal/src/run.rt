@@ -1,12 +1,12 @@
 // A whole script, from fresh sites: each call gets the store that the one before left.
-use super::Kept;
-use super::KeptCell;
-use super::KeptEvent;
 use super::Ran;
-use super::calls;
-use super::refuse;
-use super::serve;
-use super::sites;
+use calls::Kept;
+use calls::KeptCell;
+use calls::KeptEvent;
+use calls::refuse;
+use calls::script;
+use calls::serve;
+use calls::sites;
 ghost use mathlib.Core.Path.{_≡_};
 ghost use mathlib.Core.List.{_++_};
 ghost use Prim.Native.Nat.{_+_, _%_, _≤_};
@@ -16,7 +16,7 @@ ghost use Rattle.store.specs.Store.{fresh};
 ghost use Rattle.store.specs.Calls.{callsOf};
 ghost use Rattle.store.specs.Rules.{answers};
 ghost use Rattle.store.specs.Rehearsal.{storeAfter};
-ghost use Rattle.rehearsal.specs.Mirror.{noCell, freshKept, freshEvent, Stands};
+ghost use Rattle.rehearsal.specs.Arrays.{noCell, freshKept, freshEvent, Stands};
 
 fn fresh_site() -> Kept
     ensures { λ r. ⌜ r ≡ freshKept ⌝ }
@@ -73,7 +73,7 @@ pub fn run(n: usize, script: &[u8], out: &mut [u8]) -> Ran
     let mut deliveries: usize = 0;
     let mut k: usize = 0;
     while k < script.len() / 8 {
-        let c = calls::asked_at(script, 8 * k);
+        let c = script::asked_at(script, 8 * k);
         let s = c.site as usize % 8;
         let w = c.event as usize % 256;
         let a = kept[s];

@@ -1,5 +1,5 @@
 // What the record says of an event.
-use super::KeptEvent;
+use calls::KeptEvent;
 use record::Slot;
 ghost use mathlib.Core.Path.{_≡_};
 ghost use Prim.Native.Nat.{_<_};
@@ -7,7 +7,7 @@ ghost use Rattle.rows.specs.Row.{has};
 ghost use Rattle.record.specs.Encode.{SlotOf};
 ghost use Rattle.store.specs.Store.{Store};
 ghost use Rattle.store.specs.Recorded.{rank, recorded};
-ghost use Rattle.rehearsal.specs.Mirror.{eventOf};
+ghost use Rattle.calls.specs.Mirror.{eventOf};
 
 // Event k, kept as e, which sees the events of a row, at its position in ar. It starts at 2 × k and returns at 2 × k + 1; none is pending.
 pub fn slot(k: usize, e: KeptEvent, sees: [u64; 4], position: u16) -> Slot

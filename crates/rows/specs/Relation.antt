@@ -1,10 +1,9 @@
 -- Relations between numbered events, one or more steps of one, and relations held in rows.
 use mathlib.Core.Path.{_≡_}
-use mathlib.Core.Bool.{Bool, true, false, _&&_, _||_}
+use mathlib.Core.Bool.{Bool, true, _&&_, _||_}
 use mathlib.Core.List.{List}
 use Prim.Native.Nat.{ℕ, zero, suc, _*_, _^_, _<_, _≤_}
 use lib.ListN.{length}
-use Rattle.rows.specs.Lowest.{some}
 use Rattle.rows.specs.Row.{has, rowAt, Row}
 
 abbrev pub Rel : Type 0
@@ -40,33 +39,11 @@ pub record Graph (g : List ℕ) (n w : ℕ) : Type 0 where
   pub fits : 64 * w < 2 ^ 64
   pub inside : (b x : ℕ) → b < n → has (rowAt g w b) x ≡ true → x < n
 
--- no member of l reaches itself, and the row of a member has members only
-pub record Settled (g : List ℕ) (n : ℕ) (l : List ℕ) : Type 0 where
-  pub below : (b : ℕ) → has l b ≡ true → b < n
-  pub closed : (b x : ℕ) → has l b ≡ true → has (rowAt g (length l) b) x ≡ true → has l x ≡ true
-  pub ringless : (b : ℕ) → has l b ≡ true → reaches n (related g (length l)) b b ≡ false
-
 -- a table of n rows of w words, whatever they hold
 pub record Room (g : List ℕ) (n w : ℕ) : Type 0 where
   pub size : n * w ≤ length g
   pub wide : n ≤ 64 * w
   pub fits : 64 * w < 2 ^ 64
-
--- two steps of r from x to b, over an event below n
-abbrev pub over : ℕ → Rel → Rel
-over n r x b = some n (λ a. r a b && r x a)
-
--- the row of a member of l has what the rows of its own members have
-pub record Nested (g : List ℕ) (n w : ℕ) (l : List ℕ) : Type 0 where
-  pub below : (a : ℕ) → has l a ≡ true → a < n
-  pub nested : (a c x : ℕ) → has l a ≡ true → related g w c a ≡ true → related g w x c ≡ true → related g w x a ≡ true
-
--- g is g₀ with the rows of the members of l closed: such a row has members only
-pub record Closed (n w : ℕ) (g₀ g l : List ℕ) : Type 0 where
-  pub below : (b : ℕ) → has l b ≡ true → b < n
-  pub inside : (b x : ℕ) → has l b ≡ true → related g w x b ≡ true → has l x ≡ true
-  pub closed : (b x : ℕ) → has l b ≡ true → related g w x b ≡ reaches n (related g₀ w) x b
-  pub left : (b x : ℕ) → b < n → has l b ≡ false → related g w x b ≡ related g₀ w x b
 
 -- q is between r and one or more steps of it
 pub record Between (n : ℕ) (r q : Rel) : Type 0 where

@@ -65,3 +65,9 @@ rowAt g w b = take w (drop (b * w) g)
 -- the members of the row l are the numbers below n at which f holds
 abbrev pub Row : ℕ → (ℕ → Bool) → List ℕ → Type 0
 Row n f l = (x : ℕ) → has l x ≡ (ltb x n && f x)
+
+-- row c is replaced by m
+pub record RowPut (w c : ℕ) (m old new : List ℕ) : Type 0 where
+  pub size : length new ≡ length old
+  pub same : rowAt new w c ≡ m
+  pub other : (d : ℕ) → (d ≡ c → ⊥) → rowAt new w d ≡ rowAt old w d

@@ -1,6 +1,5 @@
 // Bit rows of any width in lent slices: a row of w words is a set of numbers below 64 * w.
 pub mod octets;
-pub mod reach;
 
 ghost use mathlib.Core.Path.{_≡_};
 ghost use mathlib.Core.Bool.{not, _&&_, _||_};

@@ -1,5 +1,4 @@
 -- Laws that the proofs of functions, here and in the crates above, cite.
-pub mod SliceLaws
 pub mod TableFill
 pub mod ArbitrationLaws
 pub mod KeyLaws

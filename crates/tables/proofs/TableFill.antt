@@ -8,14 +8,14 @@ use native.Mathlib.Nat.{add-sub-cancel-left}
 use native.Mathlib.Omega.{arith}
 use borrow.Author.Tests.{ltb-true, ltb-false}
 use lib.Dec.{ltb}
-use lib.ListN.{length, take, drop, replicate}
+use lib.ListN.{length, drop, replicate}
 use Rattle.rows.specs.Row.{insert, orRow, rowAt, Row}
 use Rattle.rows.specs.Relation.{Rel, Table}
 use Rattle.rows.proofs.Tests.{split}
 use Rattle.rows.proofs.RowLaws.{length-insert, row-none, row-set, row-skip, row-or}
 use Rattle.rows.proofs.TableLaws.{row-room, length-row, length-row-le, row-copied, putRow, length-put, row-put-same, row-put-other}
 use Rattle.tables.specs.Tables.{joined}
-use Rattle.tables.proofs.SliceLaws.{sliceAt, slice-row, length-slice}
+use Rattle.rows.proofs.SliceLaws.{sliceAt, slice-row, length-slice, giveBack}
 
 -- ---- a row that is filled by a test of each number
 
@@ -33,10 +33,6 @@ pub tested-all : (f : ℕ → Bool) (k n : ℕ) (l : List ℕ) → k ≡ n → R
 tested-all f k n l e r = subst (λ (j : ℕ). Row j f l) e r
 
 -- ---- a table that is filled row by row
-
--- the table with m given back in the place of row b
-abbrev pub giveBack : List ℕ → ℕ → ℕ → List ℕ → List ℕ
-giveBack g w b m = take (b * w) g ++ (m ++ drop (b * w + w - b * w) (drop (b * w) g))
 
 -- each of the first b rows is as P says, and g has the room that g₀ had
 pub record Filled (w : ℕ) (P : ℕ → List ℕ → Type 0) (g₀ : List ℕ) (b : ℕ) (g : List ℕ) : Type 0 where

@@ -37,5 +37,5 @@ pub fn fill_hb(
 {
     let w = row.len();
     join(n, w, sos, v, hbs);
-    rows::reach::close_fast(hbs, n, settled, rest, row, path);
+    reach::closure::close_fast(hbs, n, settled, rest, row, path);
 }

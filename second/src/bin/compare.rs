@@ -11,7 +11,7 @@ const USAGE: &str = "compare WHAT [--seeds N] [--from K] [--seconds T] [--keep F
   programs:  inspect | verdict | rehearse   [--bin FOLDER, by default ../target/bin]
   libraries: reader | models | rehearsal    [--against linked | baseline | itself]
              [--exact-outstanding]
-  linked needs a build with --features reader, judge or rehearsal";
+  linked needs a build with --features linked";
 
 struct Options {
     seeds: Seeds,
@@ -101,25 +101,25 @@ fn run(what: &str, options: &Options, tally: &mut Tally) -> Result<(), String> {
 
 /// The subject that `--against` names, as one of the three traits.
 macro_rules! subject {
-    ($against:expr, $feature:literal) => {
+    ($against:expr) => {
         match $against {
             "baseline" => Box::new(Baseline),
             "itself" => Box::new(Itself),
-            #[cfg(feature = $feature)]
+            #[cfg(feature = "linked")]
             "linked" => Box::new(second::compare::linked::Linked),
-            other => return Err(format!("no {other:?} here (linked needs --features {})", $feature)),
+            other => return Err(format!("no {other:?} here (linked needs --features linked)")),
         }
     };
 }
 
 fn reading(against: &str) -> Result<Box<dyn Reader>, String> {
-    Ok(subject!(against, "reader"))
+    Ok(subject!(against))
 }
 
 fn judging(against: &str) -> Result<Box<dyn Judge>, String> {
-    Ok(subject!(against, "judge"))
+    Ok(subject!(against))
 }
 
 fn rehearsing(against: &str) -> Result<Box<dyn Rehearser>, String> {
-    Ok(subject!(against, "rehearsal"))
+    Ok(subject!(against))
 }

@@ -1,12 +1,10 @@
-//! The static libraries of the proved side, called as C would.
+//! The static library of the proved side, called as C would.
 
-#[cfg(any(feature = "reader", feature = "judge", feature = "rehearsal"))]
 use super::subject::*;
 
-/// The library this build was linked with.
+/// The library that this build was linked with.
 pub struct Linked;
 
-#[cfg(feature = "reader")]
 impl Reader for Linked {
     fn read(&self, record: &[u8], work: &mut [u64]) -> u64 {
         extern "C" {
@@ -17,7 +15,6 @@ impl Reader for Linked {
     }
 }
 
-#[cfg(feature = "judge")]
 impl Judge for Linked {
     fn judge_model(&self, model: u32, record: &[u8]) -> u64 {
         extern "C" {
@@ -28,7 +25,6 @@ impl Judge for Linked {
     }
 }
 
-#[cfg(feature = "rehearsal")]
 impl Rehearser for Linked {
     fn rehearse(&self, sites: u32, script: &[u8], record: &mut [u8], answers: &mut [u8]) -> u64 {
         extern "C" {

@@ -1,5 +1,6 @@
 //! Holds another implementation against the second checker.
 
+#[cfg(feature = "linked")]
 pub mod linked;
 pub mod models;
 pub mod programs;

@@ -1,7 +1,7 @@
 -- `rehearsal::accepted` meets its contract: the answers of the run, and the record of the store that the run stands for. Assumes nothing.
 use native.Mathlib.Omega.{arith}
 use borrow.Author.Needs.{needs}
-use Rattle.rehearsal.specs.Mirror.{Bounded}
+use Rattle.rehearsal.specs.Arrays.{Bounded}
 use Rattle.store.specs.Rehearsal.{storeAfter}
 use Rattle.rehearsal.proofs.RehearsalLaws.{Accepted, accepted, store-distinct, run-bounded, accepted-rehearses}
 use Rattle.rehearsal.proofs.accepted.Statement.{statement}

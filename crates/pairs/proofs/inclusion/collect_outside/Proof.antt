@@ -10,7 +10,7 @@ use lib.ListN.{length}
 use Rattle.rows.specs.Lowest.{some}
 use Rattle.rows.specs.Row.{has}
 use Rattle.rows.proofs.TableLaws.{row-room}
-use Rattle.tables.proofs.SliceLaws.{length-slice}
+use Rattle.rows.proofs.SliceLaws.{length-slice}
 use Rattle.pairs.specs.Searches.{lacks}
 use Rattle.pairs.proofs.InclusionLaws.{collected-none, collected-more, collected-skip}
 use Rattle.pairs.proofs.inclusion.collect_outside.Statement.{statement}

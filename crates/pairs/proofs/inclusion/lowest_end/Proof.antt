@@ -12,7 +12,7 @@ use Rattle.rows.proofs.LowestLaws.{Searched, searched-start, searched-more, sea
 use Rattle.rows.proofs.TableLaws.{row-room}
 use Rattle.consistency.specs.Relations.{to}
 use Rattle.consistency.specs.Predicates.{outside}
-use Rattle.tables.proofs.SliceLaws.{length-slice}
+use Rattle.rows.proofs.SliceLaws.{length-slice}
 use Rattle.pairs.proofs.InclusionLaws.{end-hit, end-none, end-before, end-held}
 use Rattle.pairs.proofs.inclusion.lowest_end.Statement.{statement}
 use Rattle.pairs.proofs.inclusion.lowest_end.Tie as tie

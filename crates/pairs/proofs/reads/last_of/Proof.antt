@@ -7,7 +7,7 @@ use borrow.Author.Needs.{needs}
 use lib.ListN.{length}
 use Rattle.rows.proofs.TableLaws.{row-room}
 use Rattle.record.specs.Words.{positionIn}
-use Rattle.tables.proofs.SliceLaws.{length-slice}
+use Rattle.rows.proofs.SliceLaws.{length-slice}
 use Rattle.pairs.proofs.LatestLaws.{Following, following-start, latest-found, following-more}
 use Rattle.pairs.proofs.reads.last_of.Statement.{statement}
 use Rattle.pairs.proofs.reads.last_of.Tie as tie

@@ -6,8 +6,9 @@ use mathlib.Core.Path.{_≡_, sym, ap, _∙_}
 use Prim.Native.Nat.{ℕ, _≤_, _-_}
 use native.Mathlib.Omega.{arith}
 use lib.ListN.{getD}
-use Rattle.rehearsal.specs.Mirror.{eventOf, pastEvent}
-use Rattle.rehearsal.specs.declared.KeptEvent.{KeptEvent}
+use Rattle.calls.specs.Mirror.{eventOf}
+use Rattle.rehearsal.specs.Arrays.{pastEvent}
+use Rattle.calls.specs.declared.KeptEvent.{KeptEvent}
 use Rattle.store.specs.Rehearsal.{puts}
 use Rattle.store.specs.Store.{Event}
 use Rattle.rehearsal.proofs.EventLaws.{puts-none, puts-more, puts-same}

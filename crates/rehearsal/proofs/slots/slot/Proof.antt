@@ -1,7 +1,7 @@
 -- `rehearsal::slots::slot` meets its contract: the value is 0 where none is present. Assumes nothing.
 use mathlib.Core.Logic.{⊎-elim}
 use mathlib.Core.Path.{_≡_}
-use Rattle.rehearsal.specs.Mirror.{shownOf}
+use Rattle.calls.specs.Mirror.{shownOf}
 use Rattle.store.specs.Rules.{valueOr0}
 use Rattle.rehearsal.proofs.EventLaws.{slot-of}
 use borrow.Author.Needs.{needs}

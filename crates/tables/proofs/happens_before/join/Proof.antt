@@ -7,8 +7,8 @@ use lib.ListN.{length}
 use Rattle.rows.specs.Row.{orRow, rowAt}
 use Rattle.rows.proofs.RowLaws.{length-or}
 use Rattle.rows.proofs.TableLaws.{row-room}
-use Rattle.tables.proofs.SliceLaws.{sliceAt, slice-row, length-slice}
-use Rattle.tables.proofs.TableFill.{Filled, filled-none, filled-room, filled-all, filled-changed, copy-room, giveBack, table-joined}
+use Rattle.rows.proofs.SliceLaws.{sliceAt, slice-row, length-slice, giveBack}
+use Rattle.tables.proofs.TableFill.{Filled, filled-none, filled-room, filled-all, filled-changed, copy-room, table-joined}
 use Rattle.tables.proofs.happens_before.join.Statement.{statement}
 use Rattle.tables.proofs.happens_before.join.Tie as tie
 use Rattle.tables.proofs.happens_before.join.Reads as reads

@@ -9,8 +9,8 @@ use Rattle.rows.specs.Row.{andRow, rowAt}
 use Rattle.rows.proofs.RowLaws.{length-and}
 use Rattle.rows.proofs.TableLaws.{row-room}
 use Rattle.tables.specs.Tables.{keyIn}
-use Rattle.tables.proofs.SliceLaws.{sliceAt, slice-row, length-slice}
-use Rattle.tables.proofs.TableFill.{Filled, filled-none, filled-room, filled-all, filled-changed, copy-room, giveBack}
+use Rattle.rows.proofs.SliceLaws.{sliceAt, slice-row, length-slice, giveBack}
+use Rattle.tables.proofs.TableFill.{Filled, filled-none, filled-room, filled-all, filled-changed, copy-room}
 use Rattle.tables.proofs.KeyLaws.{table-cut}
 use Rattle.tables.proofs.keys.keep_same_key.Statement.{statement}
 use Rattle.tables.proofs.keys.keep_same_key.Tie as tie

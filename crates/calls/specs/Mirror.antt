@@ -1,0 +1,63 @@
+-- What the structs of the code stand for in the store. Only contracts of inner functions cite this.
+use mathlib.Core.Path.{_≡_}
+use mathlib.Core.Bool.{Bool, true, false, cond}
+use Prim.Native.Nat.{ℕ, suc, _/_, _%_}
+use lib.Dec.{eqb}
+use lib.ListN.{getD}
+use Rattle.consistency.specs.Reads.{Held, none, value}
+use Rattle.store.specs.Store.{upd, Cell, empty, full, Site, Event, Store}
+use Rattle.store.specs.Calls.{Call, put, get, deliver, malformed}
+use Rattle.store.specs.Rules.{effect, doneAnswer}
+use Rattle.calls.specs.declared.Asked.{Asked}
+use Rattle.calls.specs.declared.Kept.{Kept}
+use Rattle.calls.specs.declared.KeptCell.{KeptCell}
+use Rattle.calls.specs.declared.KeptEvent.{KeptEvent}
+use Rattle.calls.specs.declared.Served.{Served}
+
+-- a call as it was decoded: kind 1 put, 2 get, 3 deliver, 0 malformed
+abbrev pub callOf : Asked → Call
+callOf c =
+    cond (eqb (c .kind) 1) (put (c .site) (c .object) (c .value))
+    (cond (eqb (c .kind) 2) (get (c .site) (c .object))
+    (cond (eqb (c .kind) 3) (deliver (c .event) (c .site)) malformed))
+
+-- a cell's order is 8 × stamp + site, and 0 while it is empty
+abbrev pub cellOf : KeptCell → Cell
+cellOf x = cond (eqb (x .order) 0) empty (full (x .value) (x .order / 8) (x .order % 8))
+
+-- a value, where one is present
+abbrev pub shownOf : Bool → ℕ → Held
+shownOf present v = cond present (value v) none
+
+-- an event that sees these events
+abbrev pub eventOf : KeptEvent → (ℕ → Bool) → Event
+eventOf e sees = record {
+  site = e .order % 8;
+  isPut = e .put;
+  object = e .object;
+  shown = shownOf (e .present) (e .value);
+  stamp = e .order / 8;
+  sees = sees;
+  needs = λ i. getD (e .needs) i 0;
+}
+
+-- a site that knows these events and has these cells
+abbrev pub siteOf : Kept → (ℕ → Bool) → (ℕ → Cell) → Site
+siteOf a known cell = record { clock = a .clock; held = λ i. getD (a .counts) i 0; known = known; cell = cell }
+
+-- a store of which a call sees no more than one site and one event
+abbrev pub partOf : ℕ → Kept → (ℕ → Bool) → KeptEvent → Store
+partOf count a known e = record { count = count; event = λ w. eventOf e (λ x. false); site = λ s. siteOf a known (λ o. empty) }
+
+-- st after a put or get at site s, which knew the events of `known`, on object o
+abbrev pub withEvent : Store → ℕ → ℕ → (ℕ → Bool) → Served → Store
+withEvent st s o known r = record {
+  count = suc (st .count);
+  event = upd (st .event) (st .count) (eventOf (r .event) known);
+  site = upd (st .site) s (siteOf (r .site) (upd known (st .count) true) (upd (st .site s .cell) o (cellOf (r .cell))));
+}
+
+-- what a put or a get came to that was done
+pub record Made (st : Store) (call : Call) (s o : ℕ) (known : ℕ → Bool) (r : Served) : Type 0 where
+  pub answer : r .answer ≡ doneAnswer st call
+  pub store : effect st call ≡ withEvent st s o known r

@@ -1,0 +1,2 @@
+-- Laws that the proofs of the host calls cite.
+pub mod PackedLaws

@@ -1,0 +1,27 @@
+-- `gcr::judging::gcr_judge_model` meets its contract: the parts of a judgment fit into a host's number. Assumes nothing.
+use mathlib.Core.Path.{ap, _∙_}
+use borrow.Author.Needs.{needs}
+use Rattle.record.specs.Layout.{gcr1}
+use Rattle.judge.specs.Judgments.{modelJudgment, packed}
+use Rattle.judge.proofs.JudgmentLaws.{model-fits, fitting-small}
+use Rattle.gcr.proofs.judging.gcr_judge_model.Statement.{statement}
+use Rattle.gcr.proofs.judging.gcr_judge_model.Tie as tie
+
+slice-aggregate-judge-model : tie.Need-slice-aggregate-judge-model
+slice-aggregate-judge-model c = search needs
+
+judge-model-requires : tie.Need-judge-model-requires
+judge-model-requires c κs = search needs
+
+packed-judgment-requires : tie.Need-packed-judgment-requires
+packed-judgment-requires c κs =
+    let a = c .before .before .before .before .args in
+    rw (c .before .judge-model .ensures .0) (fitting-small (modelJudgment gcr1 1024 (a .model) (a .s .now)) (model-fits (a .s .now) 1024 (a .model)))
+
+returns : tie.Need-returns
+returns c = c .packed-judgment .ensures ∙ ap packed (c .before .before .judge-model .ensures .0)
+
+pub gcr-judge-model-spec : {M : Type 1} → statement M
+gcr-judge-model-spec =
+    tie.close
+    (tie.spec slice-aggregate-judge-model judge-model-requires packed-judgment-requires returns)
