@@ -1,10 +1,12 @@
 -- One call on the values that it concerns is that call on the store that they are of. Assumes nothing.
 use mathlib.Core.Path.{_≡_, refl, sym, ap, _∙_}
-use mathlib.Core.Bool.{Bool, true, false, not, cond, _&&_}
+use mathlib.Core.Bool.{Bool, true, false, not, cond, _&&_, and-false}
 use mathlib.Core.List.{List, _∷_, _++_}
 use Prim.Native.Nat.{ℕ, suc, _+_, _*_, _/_, _%_, _≤_, _<_}
+use native.Mathlib.Decide.{ℕ-discrete}
 use native.Mathlib.Omega.{arith}
-use lib.Dec.{eqb, ltb}
+use lib.Dec.{eqb, leb, ltb}
+use lib.ListN.{getD}
 use borrow.Author.Tests.{ltb-true, ne-eqb}
 use Rattle.rows.proofs.Tests.{split}
 use Rattle.record.specs.Encode.{littleBytes}
@@ -12,7 +14,7 @@ use Rattle.consistency.specs.Reads.{Held, value}
 use Rattle.store.specs.Store.{upd, Cell, empty, full, cellValue, Site, Event, Store}
 use Rattle.store.specs.Calls.{put, get, deliver}
 use Rattle.store.specs.Rules.{ask, reached, refusal, made, afterPut, afterGet, valueOr0, isFound, effect, doneAnswer}
-use Rattle.calls.specs.Mirror.{callOf, cellOf, shownOf, eventOf, siteOf, partOf, Made}
+use Rattle.calls.specs.Mirror.{callOf, cellOf, shownOf, eventOf, siteOf, partOf, withCounts, Made}
 use Rattle.calls.specs.declared.Asked.{Asked}
 use Rattle.calls.specs.declared.Kept.{Kept}
 use Rattle.calls.specs.declared.KeptCell.{KeptCell}
@@ -64,6 +66,53 @@ get-call c k = rw k
 
 pub deliver-call : (c : Asked) → c .kind ≡ 3 → callOf c ≡ deliver (c .event) (c .site)
 deliver-call c k = rw k
+
+-- 36 is asked last, and of a delivery alone
+module _ (c : Asked) (a : Kept) (e : KeptEvent) where
+  abbrev enough : Bool
+  enough = reached 8 (λ i. getD (e .needs) i 0) (λ i. getD (a .counts) i 0)
+
+  late : (s p k : Bool) (r : ℕ) → c .kind ≡ 3 → r ≡ ask s 32 (ask p 33 (ask k 35 0)) → ask s 32 (ask p 33 (ask k 35 (ask enough 36 0))) ≡ withCounts r c a e
+  late true true true r q i = rw (q, i)
+  late true true false r q i = rw (q, i)
+  late true false k r q i = rw (q, i)
+  late false p k r q i = rw (q, i)
+
+  module _ (n count : ℕ) (known : ℕ → Bool) where
+    pub malformed-asked : c .kind ≡ 0 → refusal n (partOf count a known e) (callOf c) ≡ withCounts 31 c a e
+    unfolding refusal
+    malformed-asked k = rw k
+
+    pub delivery-asked : (r : ℕ) → c .kind ≡ 3 → (isPut : Bool) → e .put ≡ isPut → r ≡ ask (ltb (c .site) n) 32 (ask (ltb (c .event) count && isPut) 33 (ask (not (known (c .event))) 35 0))
+        → refusal n (partOf count a known e) (callOf c) ≡ withCounts r c a e
+    unfolding refusal
+    delivery-asked r k isPut p i =
+        ap (refusal n (partOf count a known e)) (deliver-call c k)
+        ∙ rw p (late (ltb (c .site) n) (ltb (c .event) count && isPut) (not (known (c .event))) r k i)
+
+    pub event-asked : (r : ℕ) → (c .kind ≡ 0 → ⊥) → (c .kind ≡ 3 → ⊥) → c .kind ≤ 3 → r ≡ ask (ltb (c .site) n) 32 (ask (leb (c .object) 31) 33 (ask (ltb count 256) 34 0))
+        → refusal n (partOf count a known e) (callOf c) ≡ withCounts r c a e
+    unfolding refusal
+    event-asked r some other most i =
+        let same : refusal n (partOf count a known e) (callOf c) ≡ r =
+        elim (ℕ-discrete (c .kind) 1) [
+          | yes k ↦ ap (refusal n (partOf count a known e)) (put-call c k) ∙ sym i
+          | no ne ↦ ap (refusal n (partOf count a known e)) (get-call c (omega arith)) ∙ sym i
+        ] in
+        same ∙ rw (ne-eqb (c .kind) 3 other, and-false (eqb r 0))
+
+  -- so where a number is given before, it is the call's
+  pub refused-before : (r : ℕ) → (r ≡ 0 → ⊥) → withCounts r c a e ≡ r
+  refused-before r q = rw (ne-eqb r 0 q)
+
+  pub refused-late : (r : ℕ) → r ≡ 0 → c .kind ≡ 3 → enough ≡ false → withCounts r c a e ≡ 36
+  refused-late r z q i = rw (z, q, i)
+
+  pub delivery-done : (r : ℕ) → r ≡ 0 → c .kind ≡ 3 → enough ≡ true → withCounts r c a e ≡ 0
+  delivery-done r z q i = rw (z, q, i)
+
+  pub event-done : (r : ℕ) → r ≡ 0 → (c .kind ≡ 3 → ⊥) → withCounts r c a e ≡ 0
+  event-done r z q = rw (z, ne-eqb (c .kind) 3 q)
 
 -- a malformed call is refused
 pub some-kind : (n : ℕ) (st : Store) (c : Asked) → refusal n st (callOf c) ≡ 0 → c .kind ≡ 0 → ⊥

@@ -1,13 +1,13 @@
 -- What the structs of the code stand for in the store. Only contracts of inner functions cite this.
 use mathlib.Core.Path.{_≡_}
-use mathlib.Core.Bool.{Bool, true, false, cond}
+use mathlib.Core.Bool.{Bool, true, false, cond, _&&_}
 use Prim.Native.Nat.{ℕ, suc, _/_, _%_}
 use lib.Dec.{eqb}
 use lib.ListN.{getD}
 use Rattle.consistency.specs.Reads.{Held, none, value}
 use Rattle.store.specs.Store.{upd, Cell, empty, full, Site, Event, Store}
 use Rattle.store.specs.Calls.{Call, put, get, deliver, malformed}
-use Rattle.store.specs.Rules.{effect, doneAnswer}
+use Rattle.store.specs.Rules.{ask, reached, effect, doneAnswer}
 use Rattle.calls.specs.declared.Asked.{Asked}
 use Rattle.calls.specs.declared.Kept.{Kept}
 use Rattle.calls.specs.declared.KeptCell.{KeptCell}
@@ -48,6 +48,10 @@ siteOf a known cell = record { clock = a .clock; held = λ i. getD (a .counts) i
 -- a store of which a call sees no more than one site and one event
 abbrev pub partOf : ℕ → Kept → (ℕ → Bool) → KeptEvent → Store
 partOf count a known e = record { count = count; event = λ w. eventOf e (λ x. false); site = λ s. siteOf a known (λ o. empty) }
+
+-- what refuses a call, where r answers all questions before 36: a delivery of e is asked too whether the counts of its site a reach its needs
+abbrev pub withCounts : ℕ → Asked → Kept → KeptEvent → ℕ
+withCounts r c a e = cond (eqb r 0 && eqb (c .kind) 3) (ask (reached 8 (λ i. getD (e .needs) i 0) (λ i. getD (a .counts) i 0)) 36 0) r
 
 -- st after a put or get at site s, which knew the events of `known`, on object o
 abbrev pub withEvent : Store → ℕ → ℕ → (ℕ → Bool) → Served → Store

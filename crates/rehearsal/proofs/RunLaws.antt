@@ -15,9 +15,9 @@ use Rattle.rows.proofs.Tests.{split}
 use Rattle.consistency.specs.Reads.{value}
 use Rattle.store.specs.Store.{upd, Cell, merge, Site, Event, Store, fresh}
 use Rattle.store.specs.Calls.{Call, deliver, callAt, callsOf}
-use Rattle.store.specs.Rules.{refusal, afterDelivery, doneAnswer, answer, step, answers}
+use Rattle.store.specs.Rules.{reached, refusal, afterDelivery, doneAnswer, answer, step, answers}
 use Rattle.store.specs.Rehearsal.{storeAfter}
-use Rattle.calls.specs.Mirror.{callOf, cellOf, shownOf, eventOf, siteOf, partOf, Made}
+use Rattle.calls.specs.Mirror.{callOf, cellOf, shownOf, eventOf, siteOf, partOf, withCounts, Made}
 use Rattle.rehearsal.specs.Arrays.{noCell, pastEvent, pastSite, freshKept, freshEvent, Stands}
 use Rattle.calls.specs.declared.Asked.{Asked}
 use Rattle.calls.specs.declared.Kept.{Kept}
@@ -28,7 +28,7 @@ use Rattle.store.proofs.Invariant.{StoreInv}
 use Rattle.store.proofs.RunKeeps.{Doable}
 use Rattle.store.proofs.Sizes.{Limits, Sizes}
 use Rattle.store.proofs.WholeList.{storeUpTo, answersUpTo, store-none, store-more, answers-none, answers-more, up-to-keeps, up-to-limits, up-to-sizes, store-whole, answers-whole, answer-length, answers-up-to-length}
-use Rattle.calls.proofs.ServeLaws.{same-refusal, some-kind, put-fits, get-fits, deliver-fits, deliver-site, deliver-call}
+use Rattle.calls.proofs.ServeLaws.{same-refusal, refused-before, refused-late, delivery-done, event-done, some-kind, put-fits, get-fits, deliver-fits, deliver-site, deliver-call}
 use Rattle.rehearsal.proofs.ArrayLaws.{Arrays, storeIn, Sized, fresh-store, store-count, site-at, event-at, site-found, cell-at, found, withSite, withMade, site-sized, made-sized, refused-step, delivered-step, made-step}
 
 -- ---- stores one after the other
@@ -136,7 +136,7 @@ count-few n script out₀ out z deliveries k h =
     let limits : Limits (storeIn z) = rw (h .store) (up-to-limits k n script) in
     rw (store-count z) at (limits .count)
 
--- a turn: call k of the script, at site s and of event w, and the number that refuses it, or 0
+-- a turn: call k of the script, at site s and of event w, and the number that refuses it before 36 is asked, or 0
 pub record Turn : Type 0 where
   pub n : ℕ
   pub script : List ℕ
@@ -165,8 +165,8 @@ pub record Right (t : Turn) : Type 0 where
   pub kind : t .c .kind ≤ 3
   pub site : t .s ≡ t .c .site % 8
   pub event : t .w ≡ t .c .event % 256
-  pub told : t .number
-      ≡ refusal (t .n) (partOf (t .z .count) (keptSite t) (has (rowAt (t .z .known) 4 (t .c .site))) (keptEvent t)) (callOf (t .c))
+  pub told : refusal (t .n) (partOf (t .z .count) (keptSite t) (has (rowAt (t .z .known) 4 (t .c .site))) (keptEvent t)) (callOf (t .c))
+      ≡ withCounts (t .number) (t .c) (keptSite t) (keptEvent t)
   pub short : length (t .script) ≤ length (t .out₀)
   pub next : t .k < length (t .script) / 8
 
@@ -220,15 +220,33 @@ module _ (t : Turn) (h : Right t) where
   clock-few : a .clock ≤ 256
   clock-few = omega (arith, sizes .clock (t .s), ap (λ (x : Site). x .clock) (site-at (t .z) (t .s) (omega (arith, h .site))), limits .count)
 
-  number-is : t .number ≡ refusal (t .n) st call
-  number-is =
-      h .told
-      ∙ rw (h .site, h .event)
-      (same-refusal (t .n) st (t .c) _ _ _ _ (found (t .z) (t .n) (h .sites) few (t .c)) (t .z .count) (store-count (t .z)))
+  -- the number that refuses the call is i
+  abbrev pub Answered : ℕ → Type 0
+  Answered i = refusal (t .n) st call ≡ i
 
-  pub delivers : t .number ≡ 0 → t .c .kind ≡ 3 → Delivered (t .n) (t .z .count) (t .c) (keptSite t) (keptEvent t)
-  delivers q kind =
-      let r : refusal (t .n) st call ≡ 0 = sym number-is ∙ q in
+  refusal-is : Answered (withCounts (t .number) (t .c) a e)
+  refusal-is =
+      sym (rw (h .site, h .event)
+      (same-refusal (t .n) st (t .c) _ _ _ _ (found (t .z) (t .n) (h .sites) few (t .c)) (t .z .count) (store-count (t .z))))
+      ∙ h .told
+
+  abbrev enough : Bool
+  enough = reached 8 (λ i. getD (e .needs) i 0) (λ i. getD (a .counts) i 0)
+
+  pub is-refused : (t .number ≡ 0 → ⊥) → Answered (t .number)
+  is-refused q = refusal-is ∙ refused-before (t .c) a e (t .number) q
+
+  pub is-early : t .number ≡ 0 → t .c .kind ≡ 3 → enough ≡ false → Answered 36
+  is-early q kind i = refusal-is ∙ refused-late (t .c) a e (t .number) q kind i
+
+  pub is-delivered : t .number ≡ 0 → t .c .kind ≡ 3 → enough ≡ true → Answered 0
+  is-delivered q kind i = refusal-is ∙ delivery-done (t .c) a e (t .number) q kind i
+
+  pub is-made : t .number ≡ 0 → (t .c .kind ≡ 3 → ⊥) → Answered 0
+  is-made q other = refusal-is ∙ event-done (t .c) a e (t .number) q other
+
+  pub delivers : Answered 0 → t .c .kind ≡ 3 → Delivered (t .n) (t .z .count) (t .c) (keptSite t) (keptEvent t)
+  delivers r kind =
       let w : ℕ = t .c .event in
       let d = deliver-fits (t .n) st (t .c) r kind in
       let l : w < t .z .count = rw (store-count (t .z)) at (d .done) in
@@ -245,9 +263,8 @@ module _ (t : Turn) (h : Right t) where
         held = held-few;
       }
 
-  pub makes : t .number ≡ 0 → (t .c .kind ≡ 3 → ⊥) → Makes (t .n) (t .z .count) (t .c) (keptSite t)
-  makes q other =
-      let r : refusal (t .n) st call ≡ 0 = sym number-is ∙ q in
+  pub makes : Answered 0 → (t .c .kind ≡ 3 → ⊥) → Makes (t .n) (t .z .count) (t .c) (keptSite t)
+  makes r other =
       let some = some-kind (t .n) st (t .c) r in
       let fits : Doable (t .n) st (t .c .site) (t .c .object) =
       split (eqb (t .c .kind) 1) (λ u. put-fits (t .n) st (t .c) r (eqb-true (t .c .kind) 1 u))
@@ -291,17 +308,14 @@ module _ (t : Turn) (h : Right t) where
               (ap (λ (b : List ℕ). answersUpTo k n script ++ b) right ∙ more);
         }
 
-    pub turned-refused : (t .number ≡ 0 → ⊥) → bytes ≡ t .number ∷ replicate 7 0
+    pub turned-refused : (i : ℕ) → Answered i → (i ≡ 0 → ⊥) → bytes ≡ i ∷ replicate 7 0
         → Turned (t .n) (t .script) (t .out₀) out′ (t .z) (t .deliveries) (t .k + 1)
-    turned-refused d b =
-        let r : refusal (t .n) st call ≡ 0 → ⊥ = λ q. d (number-is ∙ q) in
+    turned-refused i is d b =
+        let r : refusal (t .n) st call ≡ 0 → ⊥ = λ q. d (sym is ∙ q) in
         turned (t .z) (t .deliveries) (omega (arith, h .inv .few)) (h .inv .sized) (h .inv .stamped) (refused-step (t .z) (h .inv .sized) (t .n) call r)
-        (b ∙ ap (λ (i : ℕ). i ∷ replicate 7 0) number-is ∙ sym (refused-answer (t .n) st call r))
+        (b ∙ ap (λ (j : ℕ). j ∷ replicate 7 0) (sym is) ∙ sym (refused-answer (t .n) st call r))
 
-    module _ (q : t .number ≡ 0) where
-      done : refusal (t .n) st call ≡ 0
-      done = sym number-is ∙ q
-
+    module _ (done : Answered 0) where
       pub turned-delivered : t .c .kind ≡ 3 → (b : Kept) (y : KeptCell) (known′ : List ℕ) (o : ℕ) → o ≡ e .object % 32
           → ((known sees : ℕ → Bool) (cells : ℕ → Cell) (w : ℕ)
           → siteOf b (λ x. eqb x w || (sees x || known x)) (upd cells (e .object) (merge (cells (e .object)) (e .value) (e .order / 8) (e .order % 8)))
@@ -313,7 +327,7 @@ module _ (t : Turn) (h : Right t) where
           → bytes ≡ replicate 8 0
           → Turned (t .n) (t .script) (t .out₀) out′ (withSite (t .z) (t .s) b known′ (32 * t .s + o) y) (t .deliveries + 1) (t .k + 1)
       turned-delivered kind b y known′ o at f merged long rows zeros =
-          let d = delivers q kind in
+          let d = delivers done kind in
           let object : o ≡ e .object = omega (arith, d .object) in
           let site : t .s ≡ t .c .site = omega (arith, d .site, h .site, h .sites) in
           let event : t .w ≡ t .c .event = omega (arith, d .event, few, h .event) in
@@ -341,7 +355,7 @@ module _ (t : Turn) (h : Right t) where
       turned-made other r known′ sees′ o at least made long wide rows seen b =
           let z : Arrays = t .z in
           let s : ℕ = t .s in
-          let d = makes q other in
+          let d = makes done other in
           let object : o ≡ t .c .object = omega (arith, d .object) in
           let site : s ≡ t .c .site = omega (arith, d .site, h .site, h .sites) in
           let small : s < 8 = omega (arith, h .site) in

@@ -76,21 +76,26 @@ pub fn run(n: usize, script: &[u8], out: &mut [u8]) -> Ran
         let c = script::asked_at(script, 8 * k);
         let s = c.site as usize % 8;
         let w = c.event as usize % 256;
-        let a = kept[s];
         let e = events[w];
-        let number = refuse::refused(n, count, c, &known, a, e);
+        let number = refuse::refused(n, count, c, &known, e.put);
         if number != 0 {
             write(out, 8 * k, [number, 0, 0, 0, 0, 0, 0, 0]);
         } else if c.kind == 3 {
             let site = kept[s];
             let put = events[w];
-            let at = 32 * s + put.object as usize % 32;
-            let x = cells[at];
-            kept[s] = sites::after_delivery(site, put);
-            cells[at] = sites::merged(x, put);
-            sites::learn(&mut known, s, &sees, w);
-            deliveries += 1;
-            write(out, 8 * k, [0; 8]);
+            let counts = site.counts;
+            let needs = put.needs;
+            if !sites::reaches(counts, needs) {
+                write(out, 8 * k, [36, 0, 0, 0, 0, 0, 0, 0]);
+            } else {
+                let at = 32 * s + put.object as usize % 32;
+                let x = cells[at];
+                kept[s] = sites::after_delivery(site, put);
+                cells[at] = sites::merged(x, put);
+                sites::learn(&mut known, s, &sees, w);
+                deliveries += 1;
+                write(out, 8 * k, [0; 8]);
+            }
         } else {
             let own = kept[s];
             let at = 32 * s + c.object as usize % 32;

@@ -21,8 +21,8 @@ returns-2 c = rw (lt-ltb _ _ (c .before .if1 .left), le-ltb _ _ (c .if2 .taken))
 
 returns-3 : tie.Need-returns-3
 returns-3 c =
-    let g = c .before .before .before .before .before .before .before .args in
-    rw (lt-ltb _ _ (c .before .before .before .if1 .left), lt-ltb _ _ (c .before .before .if2 .left), not-true (g .e .put) (c .if3 .taken))
+    let g = c .before .before .before .before .before .before .args in
+    rw (lt-ltb _ _ (c .before .before .if1 .left), lt-ltb _ _ (c .before .if2 .left), not-true (g .put) (c .if3 .taken))
 
 mul-test : tie.Need-mul-test
 mul-test c = search needs
@@ -35,24 +35,15 @@ test-requires c κs = search needs
 
 returns-4 : tie.Need-returns-4
 returns-4 c =
-    let g = c .before .before .before .before .before .before .before .before .before .args in
-    let small : g .c .event < 256 = omega (arith, c .before .before .before .before .if2 .left, c .before .before .before .before .before .before .before .before .before .pre .1) in
-    rw (lt-ltb _ _ (c .before .before .before .before .before .if1 .left), lt-ltb _ _ (c .before .before .before .before .if2 .left), not-false (g .e .put) (c .before .before .if3 .left), ← (known-row (g .known .now) (g .c .site) (g .c .event) small), ← (c .before .test .ensures), c .if4 .taken)
-
-reaches-requires : tie.Need-reaches-requires
-reaches-requires c κs = search needs
+    let g = c .before .before .before .before .before .before .before .before .args in
+    let small : g .c .event < 256 = omega (arith, c .before .before .before .if2 .left, c .before .before .before .before .before .before .before .before .pre .1) in
+    rw (lt-ltb _ _ (c .before .before .before .before .if1 .left), lt-ltb _ _ (c .before .before .before .if2 .left), not-false (g .put) (c .before .before .if3 .left), ← (known-row (g .known .now) (g .c .site) (g .c .event) small), ← (c .before .test .ensures), c .if4 .taken)
 
 returns-5 : tie.Need-returns-5
 returns-5 c =
-    let g = c .before .before .before .before .before .before .before .before .before .before .before .before .before .args in
-    let small : g .c .event < 256 = omega (arith, c .before .before .before .before .before .before .before .before .if2 .left, c .before .before .before .before .before .before .before .before .before .before .before .before .before .pre .1) in
-    rw (lt-ltb _ _ (c .before .before .before .before .before .before .before .before .before .if1 .left), lt-ltb _ _ (c .before .before .before .before .before .before .before .before .if2 .left), not-false (g .e .put) (c .before .before .before .before .before .before .if3 .left), ← (known-row (g .known .now) (g .c .site) (g .c .event) small), ← (c .before .before .before .before .before .test .ensures), c .before .before .before .before .if4 .left, ← (c .before .reaches .ensures), c .if5 .taken)
-
-returns-6 : tie.Need-returns-6
-returns-6 c =
-    let g = c .before .before .before .before .before .before .before .before .before .before .before .before .before .args in
-    let small : g .c .event < 256 = omega (arith, c .before .before .before .before .before .before .before .before .if2 .left, c .before .before .before .before .before .before .before .before .before .before .before .before .before .pre .1) in
-    rw (lt-ltb _ _ (c .before .before .before .before .before .before .before .before .before .if1 .left), lt-ltb _ _ (c .before .before .before .before .before .before .before .before .if2 .left), not-false (g .e .put) (c .before .before .before .before .before .before .if3 .left), ← (known-row (g .known .now) (g .c .site) (g .c .event) small), ← (c .before .before .before .before .before .test .ensures), c .before .before .before .before .if4 .left, ← (c .before .reaches .ensures), c .if5 .left)
+    let g = c .before .before .before .before .before .before .before .before .args in
+    let small : g .c .event < 256 = omega (arith, c .before .before .before .if2 .left, c .before .before .before .before .before .before .before .before .pre .1) in
+    rw (lt-ltb _ _ (c .before .before .before .before .if1 .left), lt-ltb _ _ (c .before .before .before .if2 .left), not-false (g .put) (c .before .before .if3 .left), ← (known-row (g .known .now) (g .c .site) (g .c .event) small), ← (c .before .test .ensures), c .if4 .left)
 
 pub delivery-refused-spec : {M : Type 1} → statement M
 delivery-refused-spec =
@@ -67,6 +58,4 @@ delivery-refused-spec =
     add-test
     test-requires
     returns-4
-    reaches-requires
-    returns-5
-    returns-6)
+    returns-5)

@@ -1,11 +1,12 @@
 -- `rehearsal::run::run` meets its contract: after k calls the arrays stand for the store of those calls, and their answers are written. Assumes nothing.
-use mathlib.Core.Path.{_≡_, refl, sym}
+use mathlib.Core.Path.{_≡_, refl, sym, _∙_}
 use mathlib.Core.Logic.{inl, inr}
 use Prim.Native.Nat.{_+_, _*_, _/_, _%_, _-_, _≤_, _<_}
 use native.Mathlib.Omega.{arith}
 use lib.ListN.{length}
 use borrow.Author.Needs.{needs}
-use Rattle.rehearsal.proofs.RunLaws.{Turned, turned-none, count-few, Turn, keptSite, keptEvent, Right, Delivered, Makes, delivers, makes, carried, turned-refused, turned-delivered, turned-made, whole-answers, whole-stands}
+use borrow.Author.Tests.{not-true, not-false}
+use Rattle.rehearsal.proofs.RunLaws.{Turned, turned-none, count-few, Turn, keptSite, keptEvent, Right, Delivered, Makes, is-refused, is-early, is-delivered, is-made, delivers, makes, carried, turned-refused, turned-delivered, turned-made, whole-answers, whole-stands}
 use Rattle.rehearsal.proofs.run.run.Statement.{statement}
 use Rattle.rehearsal.proofs.run.run.Tie as tie
 
@@ -24,16 +25,16 @@ abbrev Here : Type 0
 Here = tie.After-refused Inv-loop μ-loop
 
 abbrev entry : Here → tie.Start Inv-loop μ-loop
-entry c = c .before .before .before .before .before .before .before .before .before .before .before .before .before .before
+entry c = c .before .before .before .before .before .before .before .before .before .before .before .before .before
 
 abbrev turn : Here → tie.At-loop Inv-loop μ-loop
-turn c = c .before .before .before .before .before .before .before .before
+turn c = c .before .before .before .before .before .before .before
 
 abbrev here : Here → Turn
 here c =
     let g = entry c .args in
     let l = turn c .loop in
-    let a = c .before .before .before .before .before .before .asked-at .result in
+    let a = c .before .before .before .before .before .asked-at .result in
     record {
       n = g .n;
       script = g .script .now;
@@ -52,13 +53,13 @@ right : (c : Here) → Right (here c)
 right c = record {
   sites = entry c .pre .0;
   inv = turn c .loop .inv;
-  asked = c .before .before .before .before .before .before .asked-at .ensures .0;
-  kind = c .before .before .before .before .before .before .asked-at .ensures .1;
+  asked = c .before .before .before .before .before .asked-at .ensures .0;
+  kind = c .before .before .before .before .before .asked-at .ensures .1;
   site = refl;
   event = refl;
-  told = c .refused .ensures;
+  told = c .refused .ensures (keptSite (here c)) (keptEvent (here c)) refl;
   short = entry c .pre .1 .1 .1;
-  next = c .before .before .before .before .before .before .before .loop-test .taken;
+  next = c .before .before .before .before .before .before .loop-test .taken;
 }
 
 -- there is room for the answer
@@ -69,11 +70,16 @@ few : (c : Here) → turn c .loop .k < 4096
 few c = omega (arith, right c .next, entry c .pre .1 .1 .0)
 
 -- a delivery, and a put or a get, that is not refused
-delivery : (c : tie.Then2 Inv-loop μ-loop) → let t = here (c .before .before .before) in Delivered (t .n) (t .z .count) (t .c) (keptSite t) (keptEvent t)
-delivery c = delivers (here (c .before .before .before)) (right (c .before .before .before)) (c .before .before .if1 .left) (c .if2 .taken)
+delivery : (c : tie.Else3 Inv-loop μ-loop) → let t = here (c .before .before .before .before .before .before .before .before .before) in Delivered (t .n) (t .z .count) (t .c) (keptSite t) (keptEvent t)
+delivery c =
+    let h = c .before .before .before .before .before .before .before .before .before in
+    let kind = c .before .before .before .before .before .before .if2 .taken in
+    delivers (here h) (right h) (is-delivered (here h) (right h) (c .before .before .before .before .before .before .before .before .if1 .left) kind (sym (c .before .reaches .ensures) ∙ not-false _ (c .if3 .left))) kind
 
 making : (c : tie.Else2 Inv-loop μ-loop) → let t = here (c .before .before .before) in Makes (t .n) (t .z .count) (t .c) (keptSite t)
-making c = makes (here (c .before .before .before)) (right (c .before .before .before)) (c .before .before .if1 .left) (c .if2 .left)
+making c =
+    let h = c .before .before .before in
+    makes (here h) (right h) (is-made (here h) (right h) (c .before .before .if1 .left) (c .if2 .left)) (c .if2 .left)
 
 fresh-site-requires : tie.Need-fresh-site-requires Inv-loop μ-loop
 fresh-site-requires c κs = search needs
@@ -102,12 +108,6 @@ cast-s c = omega arith
 cast-w : tie.Need-cast-w Inv-loop μ-loop
 cast-w c = omega arith
 
-mul-a : tie.Need-mul-a Inv-loop μ-loop
-mul-a c = omega arith
-
-array-copy-out-a : tie.Need-array-copy-out-a Inv-loop μ-loop
-array-copy-out-a c = omega arith
-
 mul-e : tie.Need-mul-e Inv-loop μ-loop
 mul-e c = omega arith
 
@@ -119,12 +119,12 @@ slice-aggregate-refused c = omega arith
 
 refused-requires : tie.Need-refused-requires Inv-loop μ-loop
 refused-requires c κs =
-    let g = c .before .before .before .before .before .before .before .before .before .before .before .before .before .args in
-    let l = c .before .before .before .before .before .before .before .loop in (
-      c .before .before .before .before .before .before .before .before .before .before .before .before .before .pre .0,
+    let g = c .before .before .before .before .before .before .before .before .before .before .before .before .args in
+    let l = c .before .before .before .before .before .before .loop in (
+      c .before .before .before .before .before .before .before .before .before .before .before .before .pre .0,
       count-few (g .n) (g .script .now) (g .out .now) (l .out) _ (l .deliveries) (l .k) (l .inv),
       l .inv .sized .known,
-      c .before .before .before .before .before .asked-at .ensures .1,
+      c .before .before .before .before .asked-at .ensures .1,
     )
 
 mul-write : tie.Need-mul-write Inv-loop μ-loop
@@ -145,6 +145,15 @@ mul-put c = omega arith
 array-copy-out-put : tie.Need-array-copy-out-put Inv-loop μ-loop
 array-copy-out-put c = omega arith
 
+reaches-requires : tie.Need-reaches-requires Inv-loop μ-loop
+reaches-requires c κs = search needs
+
+mul-write-2 : tie.Need-mul-write-2 Inv-loop μ-loop
+mul-write-2 c = omega (arith, few (c .before .before .before .before .before .before .before .before .before .before))
+
+write-requires-2 : tie.Need-write-requires-2 Inv-loop μ-loop
+write-requires-2 c κs = answered (c .before .before .before .before .before .before .before .before .before .before)
+
 mul-at : tie.Need-mul-at Inv-loop μ-loop
 mul-at c = omega arith
 
@@ -161,7 +170,7 @@ array-copy-out-x : tie.Need-array-copy-out-x Inv-loop μ-loop
 array-copy-out-x c = omega arith
 
 after-delivery-requires : tie.Need-after-delivery-requires Inv-loop μ-loop
-after-delivery-requires c κs = (delivery (c .before .before .before .before) .present, delivery (c .before .before .before .before) .held)
+after-delivery-requires c κs = (delivery (c .before .before) .present, delivery (c .before .before) .held)
 
 mul-kept : tie.Need-mul-kept Inv-loop μ-loop
 mul-kept c = omega arith
@@ -170,7 +179,7 @@ array-set-from-kept : tie.Need-array-set-from-kept Inv-loop μ-loop
 array-set-from-kept c = omega arith
 
 merged-requires : tie.Need-merged-requires Inv-loop μ-loop
-merged-requires c κs = delivery (c .before .before .before .before .before) .order
+merged-requires c κs = delivery (c .before .before .before) .order
 
 mul-cells : tie.Need-mul-cells Inv-loop μ-loop
 mul-cells c = omega arith
@@ -179,24 +188,24 @@ array-set-from-cells : tie.Need-array-set-from-cells Inv-loop μ-loop
 array-set-from-cells c = omega arith
 
 slice-aggregate-learn : tie.Need-slice-aggregate-learn Inv-loop μ-loop
-slice-aggregate-learn c = sym (turn (c .before .before .before .before .before .before .before .before .before .before) .loop .inv .sized .known)
+slice-aggregate-learn c = sym (turn (c .before .before .before .before .before .before .before .before .before .before .before .before .before .before) .loop .inv .sized .known)
 
 slice-aggregate-learn-2 : tie.Need-slice-aggregate-learn-2 Inv-loop μ-loop
-slice-aggregate-learn-2 c = sym (turn (c .before .before .before .before .before .before .before .before .before .before .before) .loop .inv .sized .sees)
+slice-aggregate-learn-2 c = sym (turn (c .before .before .before .before .before .before .before .before .before .before .before .before .before .before .before) .loop .inv .sized .sees)
 
 learn-requires : tie.Need-learn-requires Inv-loop μ-loop
 learn-requires c κs =
-    let l = turn (c .before .before .before .before .before .before .before .before .before .before .before) .loop in
+    let l = turn (c .before .before .before .before .before .before .before .before .before .before .before .before .before .before .before) .loop in
     (l .inv .sized .known, l .inv .sized .sees, omega arith, omega arith)
 
 add-deliveries : tie.Need-add-deliveries Inv-loop μ-loop
-add-deliveries c = omega (arith, few (c .before .before .before .before .before .before .before .before .before .before .before .before .before), turn (c .before .before .before .before .before .before .before .before .before .before .before .before .before) .loop .inv .few)
+add-deliveries c = omega (arith, few (c .before .before .before .before .before .before .before .before .before .before .before .before .before .before .before .before .before), turn (c .before .before .before .before .before .before .before .before .before .before .before .before .before .before .before .before .before) .loop .inv .few)
 
-mul-write-2 : tie.Need-mul-write-2 Inv-loop μ-loop
-mul-write-2 c = omega (arith, few (c .before .before .before .before .before .before .before .before .before .before .before .before .before .before))
+mul-write-3 : tie.Need-mul-write-3 Inv-loop μ-loop
+mul-write-3 c = omega (arith, few (c .before .before .before .before .before .before .before .before .before .before .before .before .before .before .before .before .before .before))
 
-write-requires-2 : tie.Need-write-requires-2 Inv-loop μ-loop
-write-requires-2 c κs = answered (c .before .before .before .before .before .before .before .before .before .before .before .before .before .before)
+write-requires-3 : tie.Need-write-requires-3 Inv-loop μ-loop
+write-requires-3 c κs = answered (c .before .before .before .before .before .before .before .before .before .before .before .before .before .before .before .before .before .before)
 
 mul-own : tie.Need-mul-own Inv-loop μ-loop
 mul-own c = omega arith
@@ -256,17 +265,17 @@ see-requires c κs =
 add-count : tie.Need-add-count Inv-loop μ-loop
 add-count c = omega (arith, making (c .before .before .before .before .before .before .before .before .before .before .before .before .before) .room)
 
-mul-write-3 : tie.Need-mul-write-3 Inv-loop μ-loop
-mul-write-3 c = omega (arith, few (c .before .before .before .before .before .before .before .before .before .before .before .before .before .before .before .before .before))
+mul-write-4 : tie.Need-mul-write-4 Inv-loop μ-loop
+mul-write-4 c = omega (arith, few (c .before .before .before .before .before .before .before .before .before .before .before .before .before .before .before .before .before))
 
-write-requires-3 : tie.Need-write-requires-3 Inv-loop μ-loop
-write-requires-3 c κs = answered (c .before .before .before .before .before .before .before .before .before .before .before .before .before .before .before .before .before)
+write-requires-4 : tie.Need-write-requires-4 Inv-loop μ-loop
+write-requires-4 c κs = answered (c .before .before .before .before .before .before .before .before .before .before .before .before .before .before .before .before .before)
 
 add-k : tie.Need-add-k Inv-loop μ-loop
 add-k c = omega (arith, few (c .before))
 
 loop-less : tie.Need-loop-less Inv-loop μ-loop
-loop-less c = omega (arith, c .before .before .before .before .before .before .before .before .loop-test .taken)
+loop-less c = omega (arith, c .before .before .before .before .before .before .before .loop-test .taken)
 
 loop-again : tie.Need-loop-again Inv-loop μ-loop
 loop-again c =
@@ -274,14 +283,17 @@ loop-again c =
     elim (c .if1 .came) [
       | inl w ↦
           carried (w .5) (w .6) (w .7) (w .8) (w .9) (w .10) (w .11) (w .12)
-          (turned-refused (here h) (right h) _ _ (w .2 .ensures) (w .0 .taken) refl)
+          (turned-refused (here h) (right h) _ _ (w .2 .ensures) _ (is-refused (here h) (right h) (w .0 .taken)) (w .0 .taken) refl)
       | inr (inl w) ↦
-          carried (w .17) (w .18) (w .19) (w .20) (w .21) (w .22) (w .23) (w .24)
-          (turned-delivered (here h) (right h) _ _ (w .14 .ensures) (w .0 .left) (w .2 .taken) (w .7 .result) (w .8 .result) _ _ refl
-          (w .7 .ensures) (w .8 .ensures) (w .11 .ensures .0) (w .11 .ensures .1) refl)
-      | inr (inr w) ↦
+          carried (w .13) (w .14) (w .15) (w .16) (w .17) (w .18) (w .19) (w .20)
+          (turned-refused (here h) (right h) _ _ (w .10 .ensures) _ (is-early (here h) (right h) (w .0 .left) (w .2 .taken) (sym (w .7 .ensures) ∙ not-true _ (w .8 .taken))) (λ e. omega arith) refl)
+      | inr (inr (inl w)) ↦
+          carried (w .21) (w .22) (w .23) (w .24) (w .25) (w .26) (w .27) (w .28)
+          (turned-delivered (here h) (right h) _ _ (w .18 .ensures) (is-delivered (here h) (right h) (w .0 .left) (w .2 .taken) (sym (w .7 .ensures) ∙ not-false _ (w .8 .left))) (w .2 .taken) (w .11 .result) (w .12 .result) _ _ refl
+          (w .11 .ensures) (w .12 .ensures) (w .15 .ensures .0) (w .15 .ensures .1) refl)
+      | inr (inr (inr w)) ↦
           carried (w .20) (w .21) (w .22) (w .23) (w .24) (w .25) (w .26) (w .27)
-          (turned-made (here h) (right h) _ _ (w .17 .ensures) (w .0 .left) (w .2 .left) (w .6 .result) _ _ _ refl
+          (turned-made (here h) (right h) _ _ (w .17 .ensures) (is-made (here h) (right h) (w .0 .left) (w .2 .left)) (w .2 .left) (w .6 .result) _ _ _ refl
           (w .6 .ensures .0) (w .6 .ensures .1) (w .13 .ensures .0 .0) (w .13 .ensures .0 .1) (w .13 .ensures .1 .0) (w .13 .ensures .1 .1) refl)
     ]
 
@@ -311,8 +323,6 @@ run-spec =
     asked-at-requires
     cast-s
     cast-w
-    mul-a
-    array-copy-out-a
     mul-e
     array-copy-out-e
     slice-aggregate-refused
@@ -323,6 +333,9 @@ run-spec =
     array-copy-out-site
     mul-put
     array-copy-out-put
+    reaches-requires
+    mul-write-2
+    write-requires-2
     mul-at
     cast-at
     add-at
@@ -338,8 +351,8 @@ run-spec =
     slice-aggregate-learn-2
     learn-requires
     add-deliveries
-    mul-write-2
-    write-requires-2
+    mul-write-3
+    write-requires-3
     mul-own
     array-copy-out-own
     mul-at-2
@@ -358,8 +371,8 @@ run-spec =
     slice-aggregate-see-2
     see-requires
     add-count
-    mul-write-3
-    write-requires-3
+    mul-write-4
+    write-requires-4
     add-k
     loop-less
     loop-again
