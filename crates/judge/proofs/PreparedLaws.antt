@@ -1,4 +1,5 @@
 -- Laws of the tables that predicates are judged from: what each filling leaves. Assumes nothing.
+use mathlib.Core.Path.{refl}
 use mathlib.Core.Bool.{true}
 use mathlib.Core.List.{List}
 use Prim.Native.Nat.{ℕ}
@@ -11,7 +12,7 @@ use Rattle.record.specs.History.{History, vis}
 use Rattle.record.specs.Words.{historyFrom}
 use Rattle.consistency.specs.Relations.{rb, ss, ob, so, ar, step, hb, both}
 use Rattle.tables.specs.Tables.{Given, fieldsOf, sameKey, joined, Room, Timed}
-use Rattle.tables.specs.Sweep.{FromSweep}
+use Rattle.tables.specs.Sweep.{Sizes, FromSweep}
 use Rattle.tables.proofs.SweepLaws.{sweep-through}
 
 module _ (n : ℕ) (l v : List ℕ) where
@@ -26,6 +27,19 @@ module _ (n : ℕ) (l v : List ℕ) where
   -- room for 256 rows is room for all events
   pub rooms-of : Given n 4 l v → Room n 4 (replicate 1024 0) × Room n 4 (replicate 1024 0) × Room n 4 (replicate 1024 0) × Room n 4 (replicate 1024 0) × Room n 4 (replicate 1024 0) × Room n 4 (replicate 1024 0)
   rooms-of g = let r : Room n 4 (replicate 1024 0) = omega (arith, g .rows .wide) in (r, r, r, r, r, r)
+
+  -- and rows of four words, one and twice eight of them, are room for the sweep
+  pub sizes-of : Given n 4 l v → Sizes l v n 4 (replicate 4 0) (replicate 32 0) (replicate 32 0)
+  sizes-of g = record {
+    heads = g .heads;
+    views = g .rows .size;
+    wide = g .rows .wide;
+    one = refl;
+    sites = g .sites;
+    heres = omega arith;
+    seens = omega arith;
+    fits = omega arith;
+  }
 
   -- ar is a matter of the fields alone
   pub ars-fields : (ars : List ℕ) → Table n 4 (ar h) ars → Table n 4 (ar (fieldsOf l)) ars

@@ -18,7 +18,7 @@ use Rattle.record.proofs.StoresLaws.{Bytes}
 use Rattle.record.proofs.SlotWords.{length-slot-words}
 use Rattle.record.proofs.WorkLaws.{length-visible}
 use Rattle.record.proofs.WordsLaws.{words-agree}
-use Rattle.record.proofs.QuestionsAnswered.{passed-count, passed-blocks, passed-position, passed-distinct, passed-graph}
+use Rattle.record.proofs.QuestionsAnswered.{passed-count, passed-blocks, passed-site, passed-position, passed-distinct, passed-graph}
 use Rattle.tables.specs.Tables.{Given}
 
 -- the words l and v, four an event each, have the n events of the record s
@@ -90,6 +90,7 @@ module _ (s : List ℕ) (passed : questions gcr1 s ≡ Passed) where
       given = record {
         heads = omega (arith, ap length loaded, length-append (slotWords gcr1 0 4 s n) (drop (n * 4) d), length-slot-words gcr1 0 4 s n);
         rows = rw (counted, sets) (passed-graph s passed bytes (drop 1024 v));
+        sites = λ e i. omega (arith, passed-site s passed e (omega arith), same .site e (omega arith));
         placed = record {
           below = λ e i. omega (arith, passed-position s passed e (omega arith), same .position e (omega arith));
           distinct = λ d e i j q. passed-distinct s passed d e (omega arith) (omega arith) (same .position d (omega arith) ∙ q ∙ sym (same .position e (omega arith)));

@@ -42,8 +42,8 @@ fn fill_timed(
     let mut starts = [0u64; 256];
     let mut returns = [0u64; 256];
     let mut all = [0u64; 4];
-    let mut here = [0u64; 1024];
-    let mut seen = [0u64; 1024];
+    let mut here = [0u64; 32];
+    let mut seen = [0u64; 32];
     sweep::sweep(
         l,
         v,

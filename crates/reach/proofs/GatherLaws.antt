@@ -3,20 +3,20 @@ use mathlib.Core.Path.{_≡_, refl, sym, ap, ap₂, _∙_}
 use mathlib.Core.Bool.{Bool, true, false, not, _&&_, _||_}
 use mathlib.Core.List.{List}
 use Prim.Native.Nat.{ℕ, _+_, _-_, _*_, _/_, _^_, _≤_, _<_}
-use native.Mathlib.Nat.{add-sub-cancel-left}
 use native.Mathlib.Omega.{arith}
 use borrow.Author.Tests.{eq-eqb, eqb-true}
 use lib.Dec.{eqb}
-use lib.ListN.{length, getD, take, drop, replicate, length-replicate}
+use lib.ListN.{length, getD, replicate, length-replicate}
 use Rattle.rows.specs.Lowest.{lowest, some}
-use Rattle.rows.specs.Row.{has, erase, orRow, orPart, minusRow, rowAt}
+use Rattle.rows.specs.Row.{has, insert, orRow, orPart, minusRow, rowAt}
 use Rattle.rows.specs.Relation.{related}
 use Rattle.reach.specs.Walks.{over, Nested}
 use Rattle.rows.proofs.Tests.{split, tell, same-test, or-elim, or-left, or-right, and-both, and-left, and-right}
 use Rattle.rows.proofs.LowestLaws.{some-of, some-at}
 use Rattle.reach.proofs.ManyLaws.{howMany, many-less}
-use Rattle.rows.proofs.RowLaws.{has-or, has-erase, has-minus, has-within, has-cleared}
+use Rattle.rows.proofs.RowLaws.{has-or, has-insert, insert-words, has-minus, has-within, has-cleared}
 use Rattle.rows.proofs.TableLaws.{length-row-le, row-words, has-row-or}
+use Rattle.rows.proofs.SliceLaws.{sliceAt, slice-row}
 
 -- ---- row a joins a row, and a leaves `rest` with the members of row a
 
@@ -24,10 +24,17 @@ module _ (g : List ℕ) (w a : ℕ) where
   pub row-taken : (row : List ℕ) {row' : List ℕ} → length row ≡ w → row' ≡ orRow row (rowAt g w a) → (x : ℕ) → has row' x ≡ has row x || related g w x a
   row-taken row wide e x = rw e (has-or row (rowAt g w a) x (omega (arith, length-row-le g w a)))
 
-  pub rest-taken : (rest : List ℕ) {less rest' : List ℕ} → ((k : ℕ) → getD g k 0 < 2 ^ 64) → a / 64 < length rest → less ≡ erase rest a
-      → rest' ≡ minusRow less (take (a * w + w - a * w) (drop (a * w) g)) → (x : ℕ) → has rest' x ≡ (not (eqb a x) && has rest x) && not (related g w x a)
-  rest-taken rest words inside p q x = rw (q, p, add-sub-cancel-left)
-      (has-minus (erase rest a) (rowAt g w a) x (row-words g w a words) ∙ ap (λ (t : Bool). t && not (related g w x a)) (has-erase rest a x inside))
+  pub rest-taken : (rest : List ℕ) {rest' : List ℕ} → ((k : ℕ) → getD g k 0 < 2 ^ 64) → a / 64 < length (rowAt g w a)
+      → rest' ≡ minusRow rest (insert (sliceAt g w a) a) → (x : ℕ) → has rest' x ≡ (not (eqb a x) && has rest x) && not (related g w x a)
+  rest-taken rest words inside q x = rw (q, slice-row)
+      (has-minus rest (insert (rowAt g w a) a) x (insert-words (rowAt g w a) a inside (row-words g w a words))
+      ∙ ap (λ (t : Bool). has rest x && not t) (has-insert (rowAt g w a) a x inside)
+      ∙ apart (eqb a x) (has rest x) (related g w x a))
+    where
+      apart : (s t u : Bool) → t && not (s || u) ≡ (not s && t) && not u
+      apart true true u = refl
+      apart true false u = refl
+      apart false t u = refl
 
 -- ---- one after the other
 

@@ -50,8 +50,7 @@ fn take_row(table: &[u64], a: usize, rest: &mut [u64], row: &mut [u64])
     let at = a * row.len();
     let end = at + row.len();
     rows::union_at(row, table, at);
-    rows::remove(rest, a);
-    rows::subtract(rest, &table[at..end]);
+    rows::discard(rest, &table[at..end], a);
 }
 
 // The lowest or the highest member, or the first number past the row where there is none.

@@ -1,22 +1,22 @@
 -- Laws of questions 3 to 10: in order, what each answer says, and what follows from a yes. Assumes nothing.
 use mathlib.Core.Path.{_≡_, refl, sym, _∙_, subst}
 use mathlib.Core.Logic.{_≢_}
-use mathlib.Core.Bool.{Bool, true, false, not, _&&_}
+use mathlib.Core.Bool.{Bool, true, false, not, cond, _&&_}
 use mathlib.Core.List.{List}
 use Prim.Native.Nat.{ℕ, _+_, _*_, _-_, _/_, _%_, _<_, _≤_}
 use native.Mathlib.Omega.{arith}
-use borrow.Author.Tests.{eq-eqb, ne-eqb, eqb-true, le-leb, lt-leb, leb-true, not-false}
-use lib.Dec.{eqb, leb}
+use borrow.Author.Tests.{eq-eqb, ne-eqb, eqb-true, le-leb, lt-leb, leb-true, lt-ltb, ltb-true, not-false}
+use lib.Dec.{eqb, leb, ltb}
 use lib.ListN.{length, take}
 use Rattle.rows.specs.Relation.{Rel}
 use Rattle.rows.proofs.Tests.{and-left, and-right}
 use Rattle.rows.proofs.ReachLaws.{reaches-same}
 use Rattle.record.specs.declared.Reading.{Reading}
 use Rattle.record.specs.declared.Reading.the-variants.{Passed, ShortWork, WrongLength, WrongCheck, WrongHeader, WrongBlocks, WrongSlot, WrongPosition, WrongSet, OnRing}
-use Rattle.record.specs.Layout.{Layout, countIn, sitesIn, zeros, same, workWords}
+use Rattle.record.specs.Layout.{Layout, byte, countIn, sitesIn, slotAt, zeros, same, workWords}
 use Rattle.record.specs.Blocks.{blockRight}
 use Rattle.record.specs.History.{historyOf, vis}
-use Rattle.record.specs.Slots.{slotRight}
+use Rattle.record.specs.Slots.{placeRight, valueRight, timesRight, gapsRight, eventRight, tailRight, slotRight}
 use Rattle.record.specs.Questions.{numberOf, lengthRight, headerRight, blocksRight, slotsIn, wrongPosition, wrongSet, onRing, ask, askEach, byteQuestions, setQuestions, questions, reading}
 use Rattle.record.proofs.SetLaws.{set-same}
 use Rattle.record.proofs.AskLaws.{First, ask-yes, ask-no, ask-into, each-into, each-same}
@@ -42,6 +42,28 @@ module _ (L : Layout) (s : List ℕ) where
   header-says t =
       let rest : Bool = leb 1 (sitesIn s) && (leb (sitesIn s) 8 && zeros 501 s 7) in
       leb-true (countIn s) (L .events) (and-left (leb (countIn s) (L .events)) rest (and-right (same (take 4 s) (L .letters)) (leb (countIn s) (L .events) && rest) t))
+
+  pub sites-say : headerRight L s ≡ true → sitesIn s ≤ 8
+  unfolding headerRight
+  sites-say t =
+      let tail : Bool = leb (sitesIn s) 8 && zeros 501 s 7 in
+      let rest : Bool = leb 1 (sitesIn s) && tail in
+      leb-true (sitesIn s) 8
+      (and-left (leb (sitesIn s) 8) (zeros 501 s 7)
+      (and-right (leb 1 (sitesIn s)) tail
+      (and-right (leb (countIn s) (L .events)) rest (and-right (same (take 4 s) (L .letters)) (leb (countIn s) (L .events) && rest) t))))
+
+  -- an event's site is below the site count
+  pub slot-site : (e : ℕ) → e < countIn s → slotRight L s e ≡ true → byte s (slotAt L e + 1) < sitesIn s
+  unfolding slotRight eventRight placeRight
+  slot-site e l t =
+      let at : ℕ = slotAt L e in
+      let right : eventRight s at ≡ true =
+      rw (lt-ltb e (countIn s) l) at (and-left (cond (ltb e (countIn s)) (eventRight s at) (zeros (L .slot) s at)) (tailRight L s e) t) in
+      let placed : placeRight s at ≡ true = and-left (placeRight s at) (valueRight s at && (timesRight s at && gapsRight s at)) right in
+      ltb-true (byte s (at + 1)) (sitesIn s)
+      (and-left (ltb (byte s (at + 1)) (sitesIn s)) (leb (byte s (at + 3)) 1)
+      (and-right (leb (byte s at) 1) (ltb (byte s (at + 1)) (sitesIn s) && leb (byte s (at + 3)) 1) placed))
 
   pub blocks-say : blocksRight L s ≡ true → blocksIn s ≡ 1 + (countIn s + (L .perBlock - 1)) / L .perBlock
   unfolding blocksRight

@@ -30,7 +30,7 @@ use Rattle.record.proofs.WordsLaws.{visible-vis}
 use Rattle.record.proofs.PositionLaws.{position-says, positions-distinct}
 use Rattle.record.proofs.SetLaws.{set-inside}
 use Rattle.record.proofs.AskLaws.{First, ask-yes, ask-no, ask-into, each-yes, each-first, ask-then, each-then}
-use Rattle.record.proofs.QuestionLaws.{blocksIn, length-says, header-says, blocks-say, fromPositions, fromSlots, fromBlocks, fromHeader, fromChecks, fromLength, ChecksRight, SlotsRight, BytesRight, BytesAnswer, bytes-asked, bytes-answered, SetsRight, RingsRight, SetsAnswer, sets-answered}
+use Rattle.record.proofs.QuestionLaws.{blocksIn, length-says, header-says, sites-say, slot-site, blocks-say, fromPositions, fromSlots, fromBlocks, fromHeader, fromChecks, fromLength, ChecksRight, SlotsRight, BytesRight, BytesAnswer, bytes-asked, bytes-answered, SetsRight, RingsRight, SetsAnswer, sets-answered}
 
 -- ---- each answer
 
@@ -245,6 +245,11 @@ module _ (s : List ℕ) (passed : questions gcr1 s ≡ Passed) where
   -- each event's slot lies in the record
   pub passed-slot : (e : ℕ) → e < countIn s → slotAt gcr1 e + 64 ≤ length s
   passed-slot e l = omega (arith, passed-blocks)
+
+  pub passed-site : (e : ℕ) → e < countIn s → historyOf gcr1 s .site e < 8
+  unfolding historyOf
+  passed-site e l =
+      omega (arith, sites-say gcr1 s (right .header), slot-site gcr1 s e l (right .slots e (omega (arith, passed-blocks))))
 
   pub passed-position : (e : ℕ) → e < countIn s → historyOf gcr1 s .position e < countIn s
   unfolding historyOf

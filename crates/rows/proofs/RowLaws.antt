@@ -9,8 +9,9 @@ use native.Mathlib.Numerals.{add-one}
 use native.Mathlib.Omega.{arith}
 use native.Mathlib.Decide.{ℕ-discrete, decLt}
 use borrow.Author.Tests.{eq-eqb, ne-eqb, eqb-true, ltb-true, ltb-false, lt-ltb, not-true, not-false}
+use mir.Val.{boolByte}
 use lib.Dec.{eqb, ltb}
-use lib.Bits.{bitAnd, bitOr, or-zero-r, and-zero-l, and-le-l}
+use lib.Bits.{bitAnd, bitOr, or-lt, or-zero-r, and-zero-l, and-le-l}
 use lib.Count.{leadingZeros, trailingZeros, trailing-le, ones, ones-le}
 use lib.ListN.{length, getD, set, take, replicate, length-set, List·getD-eq-default}
 use lib.Pow.{pow-lt}
@@ -19,7 +20,7 @@ use Rattle.rows.specs.Lowest.{lowest, highest, some}
 use Rattle.rows.specs.Row.{bitOf, has, insert, erase, orRow, andRow, minusRow, countRow, onlyFirst, Row}
 use Rattle.rows.proofs.Tests.{split, tell, same-test, never, or-elim, or-left, or-right, and-both, and-left, and-right, not-of}
 use Rattle.rows.proofs.LowestLaws.{lowest-hit, lowest-low, some-none, none-some, some-cut, lowest-cut, highest-hit}
-use Rattle.rows.proofs.Digits.{bit-or, bit-and, bit-minus, bit-pow, bit-none, bit-one, none-bit, bit-of-zero, trailing-below, trailing-at, trailing-lt, leading-lt, leading-at, leading-above, ones-or-pow}
+use Rattle.rows.proofs.Digits.{shl-one, bit-or, bit-and, bit-minus, bit-pow, bit-none, bit-one, none-bit, bit-of-zero, trailing-below, trailing-at, trailing-lt, leading-lt, leading-at, leading-above, ones-or-pow}
 
 -- ---- one bit of a list of numbers, after a store: bit m of the number at j
 
@@ -61,6 +62,22 @@ pub has-insert : (l : List ℕ) (b c : ℕ) → b / 64 < length l → has (inser
 unfolding has insert
 has-insert l b c h =
     bit-put l (b / 64) (b % 64) (c / 64) (c % 64) h ∙ ap (λ (t : Bool). t || bitOf (getD l (c / 64) 0) (c % 64)) (word-and-bit b c)
+
+-- word i of a row with b put in, as a loop makes it that asks each word whether it is b's
+pub word-insert : (l : List ℕ) (b i : ℕ) → b / 64 < length l → getD (insert l b) i 0 ≡ bitOr (getD l i 0) ((boolByte (eqb i (b / 64)) * 2 ^ (b % 64)) % 2 ^ 64)
+unfolding insert
+word-insert l b i h = elim (ℕ-discrete i (b / 64)) [
+  | yes q ↦ rw (eq-eqb i (b / 64) q, q, shl-one 64 (b % 64) (omega arith)) (getD-set-same l (b / 64) (bitOr (getD l (b / 64) 0) (2 ^ (b % 64))) 0 h)
+  | no n ↦
+      let none : (0 * 2 ^ (b % 64)) % 2 ^ 64 ≡ 0 = omega arith in
+      getD-set-other l (b / 64) i (bitOr (getD l (b / 64) 0) (2 ^ (b % 64))) 0 n ∙ rw (ne-eqb i (b / 64) n, none) (sym (or-zero-r (getD l i 0)))
+]
+
+pub insert-words : (l : List ℕ) (b : ℕ) → b / 64 < length l → ((i : ℕ) → getD l i 0 < 2 ^ 64) → (i : ℕ) → getD (insert l b) i 0 < 2 ^ 64
+insert-words l b h words i =
+    let y : ℕ = boolByte (eqb i (b / 64)) * 2 ^ (b % 64) in
+    let small : y % 2 ^ 64 < 2 ^ 64 = omega arith in
+    rw (word-insert l b i h) (or-lt 64 (getD l i 0) (y % 2 ^ 64) (words i) small)
 
 pub insert-elim : {C : Type 0} (l : List ℕ) (b c : ℕ) → b / 64 < length l → has (insert l b) c ≡ true → (b ≡ c → C) → (has l c ≡ true → C) → C
 insert-elim l b c h e f g = or-elim (eqb b c) (has l c) (sym (has-insert l b c h) ∙ e) (λ t. f (eqb-true b c t)) g

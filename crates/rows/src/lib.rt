@@ -67,13 +67,13 @@ pub fn intersect(dst: &mut [u64], src: &[u64])
     }
 }
 
-// Of `dst` only the members that `src` lacks stay.
-pub fn subtract(dst: &mut [u64], src: &[u64])
-    requires { ⌜ length (now src) ≤ length (now dst) ⌝ }
-    ensures { λ _. ⌜ now (dst .exit) ≡ minusRow (now (dst .entry)) (now (src .entry)) ⌝ }
+// b leaves `dst` with the members of `src`. The word of b is written once, with the others: written by itself it would be slow to read as part of a row.
+pub fn discard(dst: &mut [u64], src: &[u64], b: usize)
+    requires { ⌜ (length (now src) ≤ length (now dst)) × (b / 64 < length (now src)) ⌝ }
+    ensures { λ _. ⌜ now (dst .exit) ≡ minusRow (now (dst .entry)) (insert (now (src .entry)) b) ⌝ }
 {
     for i in 0..src.len() {
-        dst[i] &= !src[i];
+        dst[i] &= !(src[i] | ((i == b / 64) as u64) << (b % 64));
     }
 }
 

@@ -19,10 +19,11 @@ pub record Placed (n : ℕ) (l : List ℕ) : Type 0 where
   pub below : (e : ℕ) → e < n → positionIn l e < n
   pub distinct : (d e : ℕ) → d < n → e < n → positionIn l d ≡ positionIn l e → d ≡ e
 
--- the words of n events: four of fields each, and w of its visible set, with positions as question 8 asks
+-- the words of n events: four of fields each, and w of its visible set, with sites as questions 5 and 7 ask and positions as question 8 does
 pub record Given (n w : ℕ) (l v : List ℕ) : Type 0 where
   pub heads : 4 * n ≤ length l
   pub rows : Graph v n w
+  pub sites : (e : ℕ) → e < n → siteIn l e < 8
   pub placed : Placed n l
 
 -- the fields alone

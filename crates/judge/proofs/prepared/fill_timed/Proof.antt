@@ -1,6 +1,6 @@
 -- `judge::prepared::fill_timed` meets its contract. Assumes nothing.
 use mathlib.Core.Path.{refl}
-use Rattle.judge.proofs.PreparedLaws.{timed-of}
+use Rattle.judge.proofs.PreparedLaws.{sizes-of, timed-of}
 use borrow.Author.Needs.{needs}
 use Rattle.judge.proofs.prepared.fill_timed.Statement.{statement}
 use Rattle.judge.proofs.prepared.fill_timed.Tie as tie
@@ -21,7 +21,9 @@ slice-aggregate-sweep-5 : tie.Need-slice-aggregate-sweep-5
 slice-aggregate-sweep-5 c = search needs
 
 sweep-requires : tie.Need-sweep-requires
-sweep-requires c κs = search needs
+sweep-requires c κs =
+    let s = c .before .before .before .before .before .before .before .before .before .before .before .before .before .before in
+    (sizes-of (s .args .n) (s .args .l .now) (s .args .v .now) (s .pre .0), search needs)
 
 slice-aggregate-fill-ar : tie.Need-slice-aggregate-fill-ar
 slice-aggregate-fill-ar c = search needs

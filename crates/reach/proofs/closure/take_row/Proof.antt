@@ -3,6 +3,7 @@ use mathlib.Core.Path.{refl}
 use native.Mathlib.Omega.{arith}
 use borrow.Author.Needs.{needs}
 use lib.ListN.{length}
+use Rattle.rows.proofs.TableLaws.{length-row}
 use Rattle.reach.proofs.GatherLaws.{row-taken, rest-taken}
 use Rattle.reach.proofs.closure.take_row.Statement.{statement}
 use Rattle.reach.proofs.closure.take_row.Tie as tie
@@ -16,23 +17,20 @@ add-end c = search needs
 union-at-requires : tie.Need-union-at-requires
 union-at-requires c κs = search needs
 
-remove-requires : tie.Need-remove-requires
-remove-requires c κs = search needs
+mul-discard : tie.Need-mul-discard
+mul-discard c = search needs
 
-mul-subtract : tie.Need-mul-subtract
-mul-subtract c = search needs
+sub-discard : tie.Need-sub-discard
+sub-discard c = search needs
 
-sub-subtract : tie.Need-sub-subtract
-sub-subtract c = search needs
+part-discard-start : tie.Need-part-discard-start
+part-discard-start c = search needs
 
-part-subtract-start : tie.Need-part-subtract-start
-part-subtract-start c = search needs
+part-discard-end : tie.Need-part-discard-end
+part-discard-end c = search needs
 
-part-subtract-end : tie.Need-part-subtract-end
-part-subtract-end c = search needs
-
-subtract-requires : tie.Need-subtract-requires
-subtract-requires c κs = search needs
+discard-requires : tie.Need-discard-requires
+discard-requires c κs = search needs
 
 same-length : tie.Need-same-length
 same-length c = search needs
@@ -42,14 +40,12 @@ same-length-2 c = search needs
 
 returns : tie.Need-returns
 returns c =
-    let b = c .before .before .subtract .ensures in
-    let r = c .before .before .before .before .before .before .before in
-    let u = r .before .before .before .before in
+    let u = c .before .before .before .before .before .before .before in
     let s = u .before .before .before .before .before in
     let a = s .args in
     let w = length (a .row .now) in (
       row-taken (a .table .now) w (a .a) (a .row .now) refl (u .union-at .ensures),
-      rest-taken (a .table .now) w (a .a) (a .rest .now) (λ k. u .before .before .before .before .shared-slice-known .given k .fits) (omega (arith, s .pre .1)) (r .remove .ensures) b,
+      rest-taken (a .table .now) w (a .a) (a .rest .now) (λ k. u .before .before .before .before .shared-slice-known .given k .fits) (omega (arith, s .pre .1, length-row (a .table .now) w (a .a) (s .pre .0))) (c .before .before .discard .ensures),
     )
 
 pub take-row-spec : {M : Type 1} → statement M
@@ -59,12 +55,11 @@ take-row-spec =
     mul-at
     add-end
     union-at-requires
-    remove-requires
-    mul-subtract
-    sub-subtract
-    part-subtract-start
-    part-subtract-end
-    subtract-requires
+    mul-discard
+    sub-discard
+    part-discard-start
+    part-discard-end
+    discard-requires
     same-length
     same-length-2
     returns)
