@@ -6,7 +6,7 @@ use Prim.Native.Nat.{ℕ, suc, _+_, _-_, _*_, _/_, _%_, _≤_, _<_, max}
 use native.Mathlib.Numerals.{add-one}
 use native.Mathlib.Omega.{arith}
 use lib.Dec.{eqb, leb, ltb}
-use lib.ListN.{length, getD, set, take, drop, length-set}
+use lib.ListN.{length, getD, set, take, drop}
 use lib.Seq.{getD-set-same, getD-set-other}
 use mir.Val.{boolByte}
 use borrow.Author.Tests.{lt-ltb, le-ltb, eq-eqb, ne-eqb, ltb-true, ltb-false}
@@ -14,6 +14,7 @@ use Rattle.rows.specs.Row.{has, insert, orRow, orPart, rowAt}
 use Rattle.rows.proofs.Tests.{split, same-test}
 use Rattle.rows.proofs.RowLaws.{has-insert, has-or, length-or}
 use Rattle.rows.proofs.TableLaws.{length-row, has-row, row-insert-same, row-insert-other, row-or-same, row-or-other}
+use Rattle.rows.proofs.StoredLaws.{Stored}
 use Rattle.rows.proofs.SliceLaws.{sliceAt, slice-row, giveBack, row-put}
 use Rattle.consistency.specs.Reads.{none, value}
 use Rattle.store.specs.Store.{upd, Cell, empty, full, before, merge}
@@ -34,61 +35,38 @@ set-upd {A} l i v d h j =
     (λ q. ap (λ (k : ℕ). getD (set l i v) k d) q ∙ getD-set-same l i v d h)
     (λ q. getD-set-other l i j v d q)
 
--- a loop that stores f i at each i: one more
-stored-more : (l : List ℕ) (f : ℕ → ℕ) (i : ℕ) → i < length l → ((j : ℕ) → j < i → getD l j 0 ≡ f j)
-    → (j : ℕ) → j < i + 1 → getD (set l i (f i)) j 0 ≡ f j
-stored-more l f i h below j k =
-    set-upd l i (f i) 0 h j
-    ∙ upd-elim (λ (x : ℕ). x ≡ f j) (λ (k : ℕ). getD l k 0) i (f i) j (λ q. ap f (sym q)) (λ q. below j (omega arith))
-
 -- the counts with one more held of site s
 abbrev pub OneMore : List ℕ → List ℕ → ℕ → Type 0
 OneMore counts all s = (λ (i : ℕ). getD all i 0) ≡ upd (λ (i : ℕ). getD counts i 0) s (suc (getD counts s 0))
 
--- the counts below i are those with one more held of site j, and the others are as they were
-pub record Raised (counts : List ℕ) (j : ℕ) (all : List ℕ) (i : ℕ) : Type 0 where
-  pub within : i ≤ 8
-  pub long : length all ≡ 8
-  pub below : (k : ℕ) → k < i → getD all k 0 ≡ upd (λ (m : ℕ). getD counts m 0) j (suc (getD counts j 0)) k
-  pub above : (k : ℕ) → i ≤ k → getD all k 0 ≡ getD counts k 0
-
+-- a loop that adds one where the test holds
 module _ (counts : List ℕ) (j : ℕ) where
-  pub raised-none : length counts ≡ 8 → Raised counts j counts 0
-  raised-none long = record { within = omega arith; long = long; below = λ k l. absurd (omega arith); above = λ k l. refl }
+  abbrev pub raised : ℕ → ℕ
+  raised = upd (λ (m : ℕ). getD counts m 0) j (suc (getD counts j 0))
 
-  -- one is added where the test holds
-  raised-at : (i : ℕ) → getD counts i 0 + boolByte (eqb i j) ≡ upd (λ (m : ℕ). getD counts m 0) j (suc (getD counts j 0)) i
-  raised-at i = upd-elim (λ (x : ℕ). getD counts i 0 + boolByte (eqb i j) ≡ x) (λ (m : ℕ). getD counts m 0) j (suc (getD counts j 0)) i
+  pub raised-at : (all : List ℕ) (i : ℕ) → Stored raised counts all i → getD all i 0 + boolByte (eqb i j) ≡ raised i
+  raised-at all i s = ap (λ (x : ℕ). x + boolByte (eqb i j)) (s .above i (omega arith))
+      ∙ upd-elim (λ (x : ℕ). getD counts i 0 + boolByte (eqb i j) ≡ x) (λ (m : ℕ). getD counts m 0) j (suc (getD counts j 0)) i
       (λ q. omega (arith, ap boolByte (eq-eqb i j q), ap (λ (m : ℕ). getD counts m 0) q))
       (λ q. omega (arith, ap boolByte (ne-eqb i j q)))
 
-  pub raised-small : (all : List ℕ) (i : ℕ) → Raised counts j all i → getD counts i 0 ≤ 256 → getD all i 0 + boolByte (eqb i j) ≤ 257
-  raised-small all i r small = go (eqb i j)
+  pub raised-small : (all : List ℕ) (i : ℕ) → Stored raised counts all i → getD counts i 0 ≤ 256 → getD all i 0 + boolByte (eqb i j) ≤ 257
+  raised-small all i s small = go (eqb i j)
     where
       go : (t : Bool) → getD all i 0 + boolByte t ≤ 257
-      go true = omega (arith, r .above i (omega arith))
-      go false = omega (arith, r .above i (omega arith))
-
-  pub raised-more : (all : List ℕ) (i : ℕ) → Raised counts j all i → i < 8 → Raised counts j (set all i (getD all i 0 + boolByte (eqb i j))) (i + 1)
-  raised-more all i r l =
-      let f : ℕ → ℕ = upd (λ (m : ℕ). getD counts m 0) j (suc (getD counts j 0)) in
-      let new : getD all i 0 + boolByte (eqb i j) ≡ f i = ap (λ (x : ℕ). x + boolByte (eqb i j)) (r .above i (omega arith)) ∙ raised-at i in record {
-        within = omega arith;
-        long = length-set all i (getD all i 0 + boolByte (eqb i j)) ∙ r .long;
-        below = λ k q. ap (λ (x : ℕ). getD (set all i x) k 0) new ∙ stored-more all f i (omega (arith, r .long)) (r .below) k q;
-        above = λ k q. getD-set-other all i k (getD all i 0 + boolByte (eqb i j)) 0 (λ e. omega arith) ∙ r .above k (omega arith);
-      }
+      go true = omega (arith, s .above i (omega arith))
+      go false = omega (arith, s .above i (omega arith))
 
   -- past the eighth there is no count
-  pub raised-all : (all : List ℕ) → Raised counts j all 8 → j < 8 → OneMore counts all j
-  raised-all all r h = fun-ext (λ k.
+  pub raised-all : (all : List ℕ) → Stored raised counts all 8 → j < 8 → OneMore counts all j
+  raised-all all s h = fun-ext (λ k.
       split (ltb k 8)
-      (λ t. r .below k (ltb-true k 8 t))
+      (λ t. s .below k (ltb-true k 8 t))
       (λ t.
       let past : 8 ≤ k = ltb-false k 8 t in
       upd-elim (λ (x : ℕ). getD all k 0 ≡ x) (λ (i : ℕ). getD counts i 0) j (suc (getD counts j 0)) k
       (λ q. absurd (omega arith))
-      (λ q. r .above k past)))
+      (λ q. s .above k past)))
 
 -- ---- known sets
 

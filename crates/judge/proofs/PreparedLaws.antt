@@ -1,13 +1,14 @@
 -- Laws of the tables that predicates are judged from: what each filling leaves. Assumes nothing.
-use mathlib.Core.Path.{refl}
-use mathlib.Core.Bool.{true}
+use mathlib.Core.Path.{_≡_, refl, _∙_}
+use mathlib.Core.Bool.{Bool, true, false, not, _&&_, _||_}
 use mathlib.Core.List.{List}
 use Prim.Native.Nat.{ℕ}
 use native.Mathlib.Omega.{arith}
+use lib.Dec.{ltb}
 use lib.ListN.{replicate}
-use Rattle.rows.specs.Row.{rowAt}
+use Rattle.rows.specs.Row.{has, rowAt, Row}
 use Rattle.rows.specs.Relation.{Rel, reaches, Table}
-use Rattle.rows.proofs.RowLaws.{row-of}
+use Rattle.rows.proofs.RowLaws.{has-cleared, row-of}
 use Rattle.record.specs.History.{History, vis}
 use Rattle.record.specs.Words.{historyFrom}
 use Rattle.consistency.specs.Relations.{rb, ss, ob, so, ar, step, hb, both}
@@ -62,3 +63,12 @@ module _ (n : ℕ) (l v : List ℕ) where
   pub chains-of : (sos hbs : List ℕ) → Given n 4 l v → Table n 4 (so h) sos → ((x y : Rel) → Table n 4 x sos → Table n 4 y v → Table n 4 (reaches n (joined x y)) hbs) → Table n 4 (hb h) hbs
   unfolding hb step historyFrom
   chains-of sos hbs g t f = f (so h) (vis h) t (seen-table g)
+
+-- the reads are all events but the writes
+pub reads-of : (n k : ℕ) (f : ℕ → Bool) (writes every none reads : List ℕ) → Row n f writes → Row n (λ e. true) every → none ≡ replicate k 0
+    → ((x : ℕ) → has reads x ≡ has none x || (has every x && (has every x && not (has writes x)))) → Row n (λ e. not (f e)) reads
+reads-of n k f writes every none reads w e z r x = r x ∙ rw (z, has-cleared k x, w x, e x) (go (ltb x n) (f x))
+  where
+    go : (s t : Bool) → false || ((s && true) && ((s && true) && not (s && t))) ≡ s && not t
+    go true t = refl
+    go false t = refl

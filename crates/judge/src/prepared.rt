@@ -4,14 +4,13 @@ use consistency::Verdict;
 use pairs::inclusion;
 use pairs::order;
 use pairs::reads;
-use tables::Kind;
 use tables::arbitration;
 use tables::happens_before;
 use tables::keys;
 use tables::kinds;
 use tables::sweep;
 ghost use mathlib.Core.Path.{_≡_};
-ghost use mathlib.Core.Bool.{Bool, true};
+ghost use mathlib.Core.Bool.{Bool, true, not};
 ghost use Prim.Native.Nat.{ℕ, _*_, _^_, _<_, _≤_};
 ghost use lib.ListN.{length};
 ghost use Rattle.rows.specs.Row.{Row};
@@ -21,7 +20,7 @@ ghost use Rattle.consistency.specs.FirstPair.{first};
 ghost use Rattle.consistency.specs.Relations.{ar, from, to};
 ghost use Rattle.consistency.specs.Reads.{wrong};
 ghost use Rattle.consistency.specs.Predicates.{outside, verdict};
-ghost use Rattle.tables.specs.Tables.{Given, fieldsOf, ofKind, keyIn, KeyRows, Room, Timed, Prepared};
+ghost use Rattle.tables.specs.Tables.{Given, fieldsOf, keyIn, KeyRows, Room, Timed, Prepared};
 ghost use Rattle.pairs.specs.Searches.{misplaced, Whole};
 
 // The tables that come of times and positions.
@@ -63,16 +62,17 @@ fn fill_timed(
     arbitration::fill_ar(l, n, 4, &mut placed, &mut before, ars);
 }
 
-// The events of each kind.
+// The writes, the reads and all events.
 fn fill_kinds(l: &[u64], n: usize, writes: &mut [u64], reads: &mut [u64], every: &mut [u64])
     requires { ⌜ (4 * n ≤ length (now l)) × (n ≤ 256) × (length (now writes) ≡ 4) × (length (now reads) ≡ 4) × (length (now every) ≡ 4) ⌝ }
-    ensures { λ _. ⌜ Row n (ofKind Kind.Writes (now (l .entry))) (now (writes .exit)) × (length (now (writes .exit)) ≡ 4) ⌝ }
-    ensures { λ _. ⌜ Row n (ofKind Kind.Reads (now (l .entry))) (now (reads .exit)) × (length (now (reads .exit)) ≡ 4) ⌝ }
-    ensures { λ _. ⌜ Row n (ofKind Kind.Every (now (l .entry))) (now (every .exit)) × (length (now (every .exit)) ≡ 4) ⌝ }
+    ensures { λ _. ⌜ Row n (isWriteIn (now (l .entry))) (now (writes .exit)) × (length (now (writes .exit)) ≡ 4) ⌝ }
+    ensures { λ _. ⌜ Row n (λ e. not (isWriteIn (now (l .entry)) e)) (now (reads .exit)) × (length (now (reads .exit)) ≡ 4) ⌝ }
+    ensures { λ _. ⌜ Row n (λ e. true) (now (every .exit)) × (length (now (every .exit)) ≡ 4) ⌝ }
 {
-    kinds::fill_kind(l, n, Kind::Writes, writes);
-    kinds::fill_kind(l, n, Kind::Reads, reads);
-    kinds::fill_kind(l, n, Kind::Every, every);
+    kinds::fill_writes(l, n, writes);
+    rows::fill_below(every, n);
+    rows::clear(reads);
+    rows::join_outside(reads, every, every, writes);
 }
 
 // All tables, the events of each object, and those of each kind.

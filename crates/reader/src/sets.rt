@@ -2,26 +2,12 @@
 use reach::rings;
 use record::Reading;
 ghost use mathlib.Core.Path.{_≡_};
-ghost use mathlib.Core.Bool.{true};
 ghost use Prim.Native.Nat.{_*_, _≤_, _<_, _^_};
 ghost use lib.ListN.{length};
 ghost use Rattle.rows.specs.Lowest.{lowest};
-ghost use Rattle.rows.specs.Row.{Row};
 ghost use Rattle.rows.specs.Relation.{related};
 ghost use Rattle.record.specs.Layout.{gcr1};
 ghost use Rattle.record.specs.Questions.{wrongSet, setQuestions};
-
-// The row of the events below n.
-pub fn fill_below(n: usize, below: &mut [u64])
-    requires { ⌜ n ≤ 64 * length (now below) ⌝ }
-    ensures { λ _. ⌜ Row n (λ x. true) (now (below .exit)) ⌝ }
-    ensures { λ _. ⌜ length (now (below .exit)) ≡ length (now (below .entry)) ⌝ }
-{
-    rows::clear(below);
-    for b in 0..n {
-        rows::set(below, b);
-    }
-}
 
 // The lowest event whose row has an event from n on, or itself; or n. Rows are as wide as `below`.
 pub fn wrong_set(table: &[u64], n: usize, below: &mut [u64]) -> usize
@@ -32,7 +18,7 @@ pub fn wrong_set(table: &[u64], n: usize, below: &mut [u64]) -> usize
     ensures { λ _. ⌜ length (now (below .exit)) ≡ length (now (below .entry)) ⌝ }
 {
     let w = below.len();
-    fill_below(n, below);
+    rows::fill_below(below, n);
     for e in 0..n {
         let at = e * w;
         let end = at + w;

@@ -3,12 +3,12 @@ use mathlib.Core.Path.{_≡_, refl, sym, ap, ap₂, _∙_}
 use mathlib.Core.Logic.{_⊎_, inl, inr, ⊎-elim}
 use mathlib.Core.Bool.{Bool, true, false, not, _&&_, _||_}
 use Prim.Native.Nat.{ℕ, zero, suc, _+_, _-_, _*_, _/_, _%_, _^_, _≤_, _<_, min, max}
-use native.Mathlib.Nat.{mod-lt, div-one, div-div-eq-div-mul, pow-succ', not-suc-le-zero, le-of-suc-le-suc, suc-ne-zero, zero-lt-suc, one-mul, mod-eq-of-lt}
+use native.Mathlib.Nat.{sub-zero, mod-lt, div-one, div-div-eq-div-mul, pow-succ', not-suc-le-zero, le-of-suc-le-suc, suc-ne-zero, zero-lt-suc, one-mul, mod-eq-of-lt}
 use native.Mathlib.Omega.{arith}
-use borrow.Author.Tests.{eq-eqb, eqb-true, eqb-false, ne-eqb}
-use lib.Dec.{eqb}
+use borrow.Author.Tests.{eq-eqb, eqb-true, eqb-false, ne-eqb, ltb-true, ltb-false}
+use lib.Dec.{eqb, ltb}
 use lib.Bits.{bitAnd, bitOr, and-step, or-step, and-mask, block-half, block-odd, or-zero-r}
-use lib.Pow.{pow-pos, pow-lt, pow-mono, shr-shr, high}
+use lib.Pow.{pow-pos, pow-lt, pow-mono, ones-lt, shr-shr, high}
 use lib.Count.{leadingZeros, leading-top, trailingZeros, under, ones, ones-step}
 use Rattle.rows.specs.Row.{digit, bitOf}
 use Rattle.rows.proofs.Tests.{split}
@@ -257,6 +257,13 @@ pub bit-not : (w a k : ℕ) → k < w → a < 2 ^ w → bitOf ((2 ^ w - 1) - a) 
 unfolding bitOf
 bit-not w a k l h =
     ap (λ (d : ℕ). eqb d 1) (digit-not w k a l h) ∙ by-digit (λ d. eqb (1 - d) 1 ≡ not (eqb d 1)) refl refl (digit a k) (digit-lt a k)
+
+-- the first m bits
+pub bit-below : (m k : ℕ) → bitOf (2 ^ m - 1) k ≡ ltb k m
+bit-below m k =
+    split (ltb k m)
+    (λ t. ap (λ (x : ℕ). bitOf x k) (sym (sub-zero (2 ^ m - 1))) ∙ bit-not m 0 k (ltb-true k m t) (pow-pos m) ∙ ap not (bit-of-zero k) ∙ sym t)
+    (λ t. bit-none (2 ^ m - 1) k (digit-past k (2 ^ m - 1) (omega (arith, ones-lt m, pow-mono (ltb-false k m t)))) ∙ sym t)
 
 -- `a & !b`
 pub bit-minus : (w a b k : ℕ) → k < w → b < 2 ^ w → bitOf (bitAnd a ((2 ^ w - 1) - b)) k ≡ bitOf a k && not (bitOf b k)

@@ -3,6 +3,7 @@ pub mod Tests
 pub mod LowestLaws
 pub mod Digits
 pub mod FrontLaws
+pub mod StoredLaws
 pub mod RowLaws
 pub mod JoinLaws
 pub mod TableLaws

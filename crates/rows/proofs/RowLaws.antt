@@ -8,7 +8,7 @@ use native.Mathlib.Nat.{not-suc-le-zero, le-of-suc-le-suc}
 use native.Mathlib.Numerals.{add-one}
 use native.Mathlib.Omega.{arith}
 use native.Mathlib.Decide.{ℕ-discrete, decLt}
-use borrow.Author.Tests.{eq-eqb, ne-eqb, eqb-true, ltb-true, ltb-false, lt-ltb, not-true, not-false}
+use borrow.Author.Tests.{eq-eqb, ne-eqb, eqb-true, ltb-true, ltb-false, lt-ltb, le-ltb, not-true, not-false}
 use mir.Val.{boolByte}
 use lib.Dec.{eqb, ltb}
 use lib.Bits.{bitAnd, bitOr, or-lt, or-zero-r, and-zero-l, and-le-l}
@@ -17,10 +17,10 @@ use lib.ListN.{length, getD, set, take, replicate, length-set, List·getD-eq-def
 use lib.Pow.{pow-lt}
 use lib.Seq.{getD-set-same, getD-set-other, take-all}
 use Rattle.rows.specs.Lowest.{lowest, highest, some}
-use Rattle.rows.specs.Row.{bitOf, has, insert, erase, orRow, andRow, minusRow, countRow, onlyFirst, Row}
+use Rattle.rows.specs.Row.{bitOf, has, insert, erase, orRow, andRow, minusRow, countRow, onlyFirst, belowWord, Row}
 use Rattle.rows.proofs.Tests.{split, tell, same-test, never, or-elim, or-left, or-right, and-both, and-left, and-right, not-of}
 use Rattle.rows.proofs.LowestLaws.{lowest-hit, lowest-low, some-none, none-some, some-cut, lowest-cut, highest-hit}
-use Rattle.rows.proofs.Digits.{shl-one, bit-or, bit-and, bit-minus, bit-pow, bit-none, bit-one, none-bit, bit-of-zero, trailing-below, trailing-at, trailing-lt, leading-lt, leading-at, leading-above, ones-or-pow}
+use Rattle.rows.proofs.Digits.{shl-one, bit-below, bit-or, bit-and, bit-minus, bit-pow, bit-none, bit-one, none-bit, bit-of-zero, trailing-below, trailing-at, trailing-lt, leading-lt, leading-at, leading-above, ones-or-pow}
 
 -- ---- one bit of a list of numbers, after a store: bit m of the number at j
 
@@ -431,3 +431,25 @@ module _ (n : ℕ) (f : ℕ → Bool) (l : List ℕ) (r : Row n f l) (g : ℕ �
       less : (t u v : Bool) → (t && u) && not (t && v) ≡ t && (u && not v)
       less true u v = refl
       less false u v = refl
+
+-- ---- the numbers below n, word by word
+
+pub below-full : (n i : ℕ) → i < n / 64 → 2 ^ 64 - 1 ≡ belowWord n i
+below-full n i h = let whole : min 64 (n - 64 * i) ≡ 64 = omega arith in ap (λ (k : ℕ). 2 ^ k - 1) (sym whole)
+
+pub below-none : (n i : ℕ) → n / 64 < i → 0 ≡ belowWord n i
+below-none n i h = let none : min 64 (n - 64 * i) ≡ 0 = omega arith in ap (λ (k : ℕ). 2 ^ k - 1) (sym none)
+
+pub below-part : (n i : ℕ) → (i < n / 64 → ⊥) → (n / 64 < i → ⊥) → 2 ^ (n % 64) - 1 ≡ belowWord n i
+below-part n i p q = let part : min 64 (n - 64 * i) ≡ n % 64 = omega arith in ap (λ (k : ℕ). 2 ^ k - 1) (sym part)
+
+pub row-below : (n : ℕ) (l : List ℕ) → n ≤ 64 * length l → ((i : ℕ) → i < length l → getD l i 0 ≡ belowWord n i) → Row n (λ x. true) l
+unfolding has
+row-below n l h e x = elim (decLt (x / 64) (length l)) [
+  | yes k ↦
+      ap (λ (y : ℕ). bitOf y (x % 64)) (e (x / 64) k) ∙ bit-below (min 64 (n - 64 * (x / 64))) (x % 64)
+      ∙ same-test (ltb (x % 64) (min 64 (n - 64 * (x / 64)))) (ltb x n && true)
+      (λ t. let low : x % 64 < min 64 (n - 64 * (x / 64)) = ltb-true (x % 64) (min 64 (n - 64 * (x / 64))) t in rw (lt-ltb x n (omega arith)))
+      (λ t. let low : x < n = ltb-true x n (and-left (ltb x n) true t) in lt-ltb (x % 64) (min 64 (n - 64 * (x / 64))) (omega arith))
+  | no k ↦ ap (λ (y : ℕ). bitOf y (x % 64)) (List·getD-eq-default l 0 (omega arith)) ∙ bit-of-zero (x % 64) ∙ sym (ap (λ (t : Bool). t && true) (le-ltb x n (omega arith)))
+]

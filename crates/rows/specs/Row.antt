@@ -2,7 +2,7 @@
 use mathlib.Core.Path.{_≡_}
 use mathlib.Core.Bool.{Bool, not, _&&_}
 use mathlib.Core.List.{List, [], _∷_, _++_}
-use Prim.Native.Nat.{ℕ, _+_, _-_, _*_, _/_, _%_, _^_}
+use Prim.Native.Nat.{ℕ, _+_, _-_, _*_, _/_, _%_, _^_, min}
 use lib.Dec.{eqb, ltb}
 use lib.Bits.{bitAnd, bitOr}
 use lib.Count.{ones}
@@ -57,6 +57,10 @@ countRow (x ∷ l) = ones x + countRow l
 -- x is a member of l and not of m
 abbrev pub onlyFirst : List ℕ → List ℕ → ℕ → Bool
 onlyFirst l m x = has l x && not (has m x)
+
+-- word i of the row of the numbers below n
+abbrev pub belowWord : ℕ → ℕ → ℕ
+belowWord n i = 2 ^ min 64 (n - 64 * i) - 1
 
 -- row b of a table g of rows of w words, one after the other
 abbrev pub rowAt : List ℕ → ℕ → ℕ → List ℕ

@@ -2,12 +2,12 @@
 pub mod octets;
 
 ghost use mathlib.Core.Path.{_≡_};
-ghost use mathlib.Core.Bool.{not, _&&_, _||_};
+ghost use mathlib.Core.Bool.{true, not, _&&_, _||_};
 ghost use mathlib.Core.List.{_++_};
 ghost use Prim.Native.Nat.{ℕ, _+_, _*_, _/_, _^_, _<_, _≤_};
 ghost use lib.ListN.{length, take, drop, replicate};
 ghost use Rattle.rows.specs.Lowest.{lowest, highest, some};
-ghost use Rattle.rows.specs.Row.{has, insert, erase, orRow, andRow, minusRow, orPart, onlyFirst};
+ghost use Rattle.rows.specs.Row.{has, insert, erase, orRow, andRow, minusRow, orPart, onlyFirst, belowWord, Row};
 
 pub fn test(row: &[u64], b: usize) -> bool
     requires { ⌜ b / 64 < length (now row) ⌝ }
@@ -23,6 +23,16 @@ pub fn set(row: &mut [u64], b: usize)
     row[b / 64] |= 1 << (b % 64);
 }
 
+// `set`, but every word is written, for a row that is read whole right after: one word written by itself would be slow to read as part of it.
+pub fn insert(row: &mut [u64], b: usize)
+    requires { ⌜ b / 64 < length (now row) ⌝ }
+    ensures { λ _. ⌜ now (row .exit) ≡ insert (now (row .entry)) b ⌝ }
+{
+    for i in 0..row.len() {
+        row[i] |= ((i == b / 64) as u64) << (b % 64);
+    }
+}
+
 pub fn remove(row: &mut [u64], b: usize)
     requires { ⌜ b / 64 < length (now row) ⌝ }
     ensures { λ _. ⌜ now (row .exit) ≡ erase (now (row .entry)) b ⌝ }
@@ -35,6 +45,29 @@ pub fn clear(row: &mut [u64])
 {
     for i in 0..row.len() {
         row[i] = 0;
+    }
+}
+
+fn word_below(n: usize, i: usize) -> u64
+    ensures { λ r. ⌜ r ≡ belowWord n i ⌝ }
+{
+    if i < n / 64 {
+        return 0xffff_ffff_ffff_ffff;
+    }
+    if n / 64 < i {
+        return 0;
+    }
+    (1 << (n % 64)) - 1
+}
+
+// The numbers below n.
+pub fn fill_below(row: &mut [u64], n: usize)
+    requires { ⌜ n ≤ 64 * length (now row) ⌝ }
+    ensures { λ _. ⌜ Row n (λ x. true) (now (row .exit)) ⌝ }
+    ensures { λ _. ⌜ length (now (row .exit)) ≡ length (now (row .entry)) ⌝ }
+{
+    for i in 0..row.len() {
+        row[i] = word_below(n, i);
     }
 }
 
@@ -67,7 +100,7 @@ pub fn intersect(dst: &mut [u64], src: &[u64])
     }
 }
 
-// b leaves `dst` with the members of `src`. The word of b is written once, with the others: written by itself it would be slow to read as part of a row.
+// b leaves `dst` with the members of `src`. As in `insert`, no word is written by itself.
 pub fn discard(dst: &mut [u64], src: &[u64], b: usize)
     requires { ⌜ (length (now src) ≤ length (now dst)) × (b / 64 < length (now src)) ⌝ }
     ensures { λ _. ⌜ now (dst .exit) ≡ minusRow (now (dst .entry)) (insert (now (src .entry)) b) ⌝ }

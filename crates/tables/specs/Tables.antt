@@ -1,18 +1,16 @@
 -- The tables of rows from which inclusions are judged: row b of a table has the events related to b. Only contracts of inner functions cite this.
 use mathlib.Core.Path.{_≡_}
-use mathlib.Core.Bool.{Bool, true, false, not, cond, _&&_, _||_}
-use mathlib.Core.List.{List, [], _∷_}
+use mathlib.Core.Bool.{Bool, true, false, not, _&&_, _||_}
+use mathlib.Core.List.{List, []}
 use Prim.Native.Nat.{ℕ, suc, _*_, _<_, _≤_}
 use lib.Dec.{eqb}
 use lib.ListN.{length, getD}
 use Rattle.rows.specs.Lowest.{some}
-use Rattle.rows.specs.Row.{has, onlyFirst, rowAt, Row}
+use Rattle.rows.specs.Row.{rowAt, Row}
 use Rattle.rows.specs.Relation.{Rel, Graph, Table}
 use Rattle.record.specs.History.{History, vis}
 use Rattle.record.specs.Words.{isWriteIn, siteIn, objectIn, positionIn, historyFrom}
 use Rattle.consistency.specs.Relations.{rb, ob, so, ar, hb, read, both, through}
-use Rattle.tables.specs.declared.Kind.{Kind}
-use Rattle.tables.specs.declared.Kind.the-variants.{Every, Writes, Reads}
 
 -- n events have positions below n, and no two have one, as question 8 asks
 pub record Placed (n : ℕ) (l : List ℕ) : Type 0 where
@@ -34,12 +32,6 @@ fieldsOf l = historyFrom 0 0 l []
 pub record Ordered (k : ℕ) (l order : List ℕ) : Type 0 where
   pub there : (e : ℕ) → e < k → getD order (positionIn l e) 0 ≡ suc e
   pub only : (p e : ℕ) → getD order p 0 ≡ suc e → (e < k) × (positionIn l e ≡ p)
-
--- every event, the writes, or the reads
-abbrev pub ofKind : Kind → List ℕ → ℕ → Bool
-ofKind Every l e = true
-ofKind Writes l e = isWriteIn l e
-ofKind Reads l e = not (isWriteIn l e)
 
 -- an event's site, or its object
 abbrev pub keyIn : Bool → List ℕ → ℕ → ℕ
@@ -81,7 +73,7 @@ pub record Prepared (n w : ℕ) (l v rbs sos ars objects middles hbs keys writes
   pub keys-room : 256 * w ≤ length keys
   pub writes-hold : Row n (isWriteIn l) writes
   pub writes-long : length writes ≡ w
-  pub reads-hold : Row n (ofKind Reads l) reads
+  pub reads-hold : Row n (λ e. not (isWriteIn l e)) reads
   pub reads-long : length reads ≡ w
-  pub every-hold : Row n (ofKind Every l) every
+  pub every-hold : Row n (λ e. true) every
   pub every-long : length every ≡ w

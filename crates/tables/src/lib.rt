@@ -4,10 +4,3 @@ pub mod happens_before;
 pub mod keys;
 pub mod kinds;
 pub mod sweep;
-
-// Every event, the writes, or the reads.
-pub enum Kind {
-    Every,
-    Writes,
-    Reads,
-}

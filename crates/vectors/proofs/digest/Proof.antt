@@ -1,10 +1,9 @@
+-- `vectors::digest` meets its contract. Assumes nothing.
 use borrow.Author.Needs.{needs}
 use Prim.Native.Nat.{_≤_, _-_}
 use lib.ListN.{length}
 use Rattle.vectors.proofs.digest.Statement.{statement}
 use Rattle.vectors.proofs.digest.Tie as tie
-use Rattle.vectors.proofs.digest.Reads as reads
-use Rattle.vectors.proofs.digest.Lts as lts
 
 abbrev Inv-loop : tie.InvT-loop
 Inv-loop work d₀ i₀ i-end d i = (i ≤ length work)
@@ -12,31 +11,24 @@ Inv-loop work d₀ i₀ i-end d i = (i ≤ length work)
 abbrev μ-loop : tie.MeasureT-loop
 μ-loop work d₀ i₀ i-end d i = length work - i
 
--- src/main.rt:19:5
 loop-holds : tie.Need-loop-holds Inv-loop μ-loop
 loop-holds c = search needs
 
--- src/main.rt:20:38
 mul-d : tie.Need-mul-d Inv-loop μ-loop
 mul-d c = search needs
 
--- src/main.rt:20:38
 shared-slice-read-d : tie.Need-shared-slice-read-d Inv-loop μ-loop
 shared-slice-read-d c = search needs
 
--- src/main.rt:19:9
 add-i : tie.Need-add-i Inv-loop μ-loop
 add-i c = search needs
 
--- src/main.rt:19:5
 loop-less : tie.Need-loop-less Inv-loop μ-loop
 loop-less c = search needs
 
--- src/main.rt:19:5
 loop-again : tie.Need-loop-again Inv-loop μ-loop
 loop-again c = search needs
 
--- src/main.rt:17:1
 returns : tie.Need-returns Inv-loop μ-loop
 returns c = search needs
 

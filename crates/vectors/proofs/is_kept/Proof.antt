@@ -1,11 +1,9 @@
+-- `vectors::is_kept` meets its contract. Assumes nothing.
 use borrow.Author.Needs.{needs}
 use Prim.Native.Nat.{_-_}
 use lib.ListN.{length}
 use Rattle.vectors.proofs.is_kept.Statement.{statement}
 use Rattle.vectors.proofs.is_kept.Tie as tie
-use Rattle.vectors.proofs.is_kept.Reads as reads
-use Rattle.vectors.proofs.is_kept.Lts as lts
-use Rattle.vectors.proofs.noise.Reads as noise-reads
 
 abbrev Inv-loop : tie.InvT-loop
 Inv-loop work from i₀ i-end i = Unit
@@ -13,39 +11,30 @@ Inv-loop work from i₀ i-end i = Unit
 abbrev μ-loop : tie.MeasureT-loop
 μ-loop work from i₀ i-end i = length work - i
 
--- src/main.rt:26:5
 loop-holds : tie.Need-loop-holds Inv-loop μ-loop
 loop-holds c = search needs
 
--- src/main.rt:27:12
 mul-if1 : tie.Need-mul-if1 Inv-loop μ-loop
 mul-if1 c = search needs
 
--- src/main.rt:27:12
 shared-slice-read-if1 : tie.Need-shared-slice-read-if1 Inv-loop μ-loop
 shared-slice-read-if1 c = search needs
 
--- src/main.rt:27:23
 noise-requires : tie.Need-noise-requires Inv-loop μ-loop
 noise-requires c κs = search needs
 
--- src/main.rt:28:13
 returns : tie.Need-returns Inv-loop μ-loop
 returns c = search needs
 
--- src/main.rt:26:9
 add-i : tie.Need-add-i Inv-loop μ-loop
 add-i c = search needs
 
--- src/main.rt:26:5
 loop-less : tie.Need-loop-less Inv-loop μ-loop
 loop-less c = search needs
 
--- src/main.rt:26:5
 loop-again : tie.Need-loop-again Inv-loop μ-loop
 loop-again c = search needs
 
--- src/main.rt:25:1
 returns-2 : tie.Need-returns-2 Inv-loop μ-loop
 returns-2 c = search needs
 

@@ -1,16 +1,15 @@
 -- `judge::prepared::judge` meets its contract. In each arm the two tables hold the two sides of the predicate's rule. Assumes nothing.
 use mathlib.Core.Path.{_≡_, sym, ap, _∙_}
-use mathlib.Core.Bool.{Bool, true, false≢true}
+use mathlib.Core.Bool.{Bool, true, false≢true, not}
 use Prim.Native.Nat.{ℕ}
 use Rattle.rows.specs.Relation.{Table}
 use Rattle.rows.proofs.RowLaws.{row-has}
 use Rattle.record.specs.History.{History, vis}
-use Rattle.record.specs.Words.{historyFrom}
+use Rattle.record.specs.Words.{historyFrom, isWriteIn}
 use Rattle.consistency.specs.Relations.{rb, ob, so, ar, hb, read, both, through}
 use Rattle.consistency.specs.Predicates.{rule, breaks, verdict}
-use Rattle.tables.specs.Tables.{fieldsOf, ofKind, Room}
+use Rattle.tables.specs.Tables.{fieldsOf, Room}
 use Rattle.pairs.specs.Searches.{Whole}
-use Rattle.tables.specs.declared.Kind.the-variants.{Every, Writes, Reads}
 use Rattle.consistency.specs.declared.Predicate.{Predicate}
 use Rattle.consistency.specs.declared.Predicate.the-variants.{RVal, SingleOrder, RealTime, RealTimeWrites, MonotonicReads, ReadYourWrites, MonotonicWrites, WritesFollowReads, Pram, CausalVisibility, CausalArbitration, PerObjectPram, PerObjectSingleOrder}
 use Rattle.consistency.specs.declared.Verdict.{Verdict}
@@ -28,13 +27,13 @@ as-is s q e f = f ∙ ap (λ (x : Predicate). verdict x (history s)) (sym e)
 
 -- the events of each kind
 abbrev writes : tie.Start → ℕ → Bool
-writes s = ofKind Writes (s .args .l .now)
+writes s = isWriteIn (s .args .l .now)
 
 abbrev reads : tie.Start → ℕ → Bool
-reads s = ofKind Reads (s .args .l .now)
+reads s = λ e. not (isWriteIn (s .args .l .now) e)
 
 abbrev every : tie.Start → ℕ → Bool
-every s = ofKind Every (s .args .l .now)
+every s = λ e. true
 
 whole : (s : tie.Start) → Whole true (s .args .n) (s .args .every .now)
 whole s e b h = row-has (s .args .n) (every s) (s .args .every .now) (s .pre .1 .every-hold) b h

@@ -1,13 +1,12 @@
 -- `pairs::inclusion::lowest_end` meets its contract. The invariant: none of the events passed ends such a pair. Assumes nothing.
 use borrow.Author.Needs.{needs}
-use mathlib.Core.Path.{_≡_, sym, _∙_}
 use mathlib.Core.Bool.{Bool}
 use mathlib.Core.Logic.{⊎-elim}
 use Prim.Native.Nat.{ℕ, _-_, _+_, _*_, _≤_}
 use native.Mathlib.Omega.{arith}
 use lib.ListN.{length}
 use Rattle.rows.specs.Row.{has}
-use Rattle.rows.specs.Relation.{Rel, related}
+use Rattle.rows.specs.Relation.{related}
 use Rattle.rows.proofs.LowestLaws.{Searched, searched-start, searched-more, searched-hit, searched-end}
 use Rattle.rows.proofs.TableLaws.{row-room}
 use Rattle.consistency.specs.Relations.{to}

@@ -7,7 +7,6 @@ use borrow.Author.Needs.{needs}
 use lib.ListN.{length}
 use Rattle.rows.specs.Row.{has}
 use Rattle.rows.proofs.TableLaws.{row-room}
-use Rattle.pairs.specs.Searches.{Member}
 use Rattle.pairs.proofs.LatestLaws.{highest-none, highest-member, lowest-member}
 use Rattle.pairs.proofs.reads.likely_last.Statement.{statement}
 use Rattle.pairs.proofs.reads.likely_last.Tie as tie

@@ -1,3 +1,4 @@
+-- `reach::closure::close` meets its contract: after k rounds the table has the steps over events below k. Assumes nothing.
 use borrow.Author.Needs.{needs}
 use Prim.Native.Nat.{_+_, _-_, _*_, _≤_}
 use mathlib.Core.Path.{_≡_, refl, ap, _∙_}
@@ -9,10 +10,6 @@ use Rattle.rows.proofs.TableLaws.{row-room, row-copied, length-row}
 use Rattle.reach.proofs.ClosureLaws.{Rounds, rounds-none, rounds-more, rounds-all}
 use Rattle.reach.proofs.closure.close.Statement.{statement}
 use Rattle.reach.proofs.closure.close.Tie as tie
-use Rattle.reach.proofs.closure.close.Reads as reads
-use Rattle.reach.proofs.closure.close.Lts as lts
-use Rattle.rows.proofs.copy.Reads as copy-reads
-use Rattle.reach.proofs.closure.take_in.Reads as take-in-reads
 
 abbrev Inv-loop : tie.InvT-loop
 Inv-loop table₀ n row₀ w k₀ table row k = (k ≤ n) × (length table ≡ length table₀) × (length row ≡ length row₀) × Rounds n (length row₀) table₀ k table
@@ -39,44 +36,35 @@ copied-length c =
     let l = c .before .before .before .before .before .loop in
     ap length (copied c) ∙ length-row (l .table) (length (s .args .row .now)) (l .k) (place (c .before .before .before .before))
 
--- src/reach.rt:32:5
 loop-holds : tie.Need-loop-holds Inv-loop μ-loop
 loop-holds c =
     let s = c .before .before in
     (omega arith, refl, refl, rounds-none (s .args .n) (length (s .args .row .now)) (s .args .table .now))
 
--- src/reach.rt:33:18
 mul-at : tie.Need-mul-at Inv-loop μ-loop
 mul-at c = omega (arith, place c)
 
--- src/reach.rt:34:19
 add-end : tie.Need-add-end Inv-loop μ-loop
 add-end c = omega (arith, place c)
 
--- src/reach.rt:35:26
 mul-copy : tie.Need-mul-copy Inv-loop μ-loop
 mul-copy c = omega (arith, place (c .before))
 
--- src/reach.rt:35:26
 sub-copy : tie.Need-sub-copy Inv-loop μ-loop
 sub-copy c = search needs
 
--- src/reach.rt:35:26
 part-copy-start : tie.Need-part-copy-start Inv-loop μ-loop
 part-copy-start c = search needs
 
--- src/reach.rt:35:26
 part-copy-end : tie.Need-part-copy-end Inv-loop μ-loop
 part-copy-end c = omega (arith, place (c .before .before))
 
--- src/reach.rt:35:9
 copy-requires : tie.Need-copy-requires Inv-loop μ-loop
 copy-requires c κs =
     let s = c .before .before .before .before .before .before .before in
     let l = c .before .before .before .before .loop in
     rw add-sub-cancel-left (omega (arith, length-row (l .table) (length (s .args .row .now)) (l .k) (place (c .before .before .before)), l .inv .2))
 
--- src/reach.rt:36:9
 take-in-requires : tie.Need-take-in-requires Inv-loop μ-loop
 take-in-requires c κs =
     let s = c .before .before .before .before .before .before .before .before .before .before .before .before in
@@ -84,15 +72,12 @@ take-in-requires c κs =
     let e = copied-length (c .before .before .before .before) in
     rw e (omega (arith, s .pre .0, l .inv .1), omega (arith, s .pre .1))
 
--- src/reach.rt:32:9
 add-k : tie.Need-add-k Inv-loop μ-loop
 add-k c = search needs
 
--- src/reach.rt:32:5
 loop-less : tie.Need-loop-less Inv-loop μ-loop
 loop-less c = search needs
 
--- src/reach.rt:32:5
 loop-again : tie.Need-loop-again Inv-loop μ-loop
 loop-again c =
     let s = c .before .before .before .before .before .before .before .before .before .before .before .before .before .before .before in
@@ -101,15 +86,12 @@ loop-again c =
     let t = c .before .before .take-in in
     (omega arith, t .ensures .1 ∙ l .inv .1, copied-length k, rounds-more (s .args .n) (length (s .args .row .now)) (s .args .table .now) (l .k) (l .table) (l .inv .3) (k .copy .last .0) (t .last .0) (omega arith) (copied k) (rw (copied-length k) at (t .ensures .0)))
 
--- src/reach.rt:26:1
 same-length : tie.Need-same-length Inv-loop μ-loop
 same-length c = search needs
 
--- src/reach.rt:26:1
 same-length-2 : tie.Need-same-length-2 Inv-loop μ-loop
 same-length-2 c = search needs
 
--- src/reach.rt:26:1
 returns : tie.Need-returns Inv-loop μ-loop
 returns c =
     let s = c .before .before .before .before in

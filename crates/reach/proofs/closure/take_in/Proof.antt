@@ -1,3 +1,4 @@
+-- `reach::closure::take_in` meets its contract: the rows passed that have k have taken in the row of k. Assumes nothing.
 use Rattle.rows.proofs.TableLaws.{row-room, length-row}
 use borrow.Author.Needs.{needs}
 use Prim.Native.Nat.{_+_, _-_, _*_, _≤_}
@@ -9,10 +10,6 @@ use lib.ListN.{length}
 use Rattle.reach.proofs.ClosureLaws.{Taken, taken-none, taken-in, taken-skip}
 use Rattle.reach.proofs.closure.take_in.Statement.{statement}
 use Rattle.reach.proofs.closure.take_in.Tie as tie
-use Rattle.reach.proofs.closure.take_in.Reads as reads
-use Rattle.reach.proofs.closure.take_in.Lts as lts
-use Rattle.rows.proofs.test.Reads as test-reads
-use Rattle.rows.proofs.union_into.Reads as union-into-reads
 
 abbrev Inv-loop : tie.InvT-loop
 Inv-loop table₀ n k row w b₀ table b = (b ≤ n) × Taken table₀ k row b table
@@ -26,54 +23,42 @@ place c =
     let l = c .before .loop in
     row-room (s .args .n) (length (s .args .row .now)) (l .b) (length (l .table)) (c .loop-test .taken) (omega (arith, l .inv .1 .size, s .pre .0))
 
--- src/reach.rt:16:5
 loop-holds : tie.Need-loop-holds Inv-loop μ-loop
 loop-holds c = let a = c .before .before .args in (omega arith, taken-none (a .table .now) (a .k) (a .row .now))
 
--- src/reach.rt:17:18
 mul-at : tie.Need-mul-at Inv-loop μ-loop
 mul-at c = omega (arith, place c)
 
--- src/reach.rt:18:19
 add-end : tie.Need-add-end Inv-loop μ-loop
 add-end c = omega (arith, place c)
 
--- src/reach.rt:19:24
 mul-test : tie.Need-mul-test Inv-loop μ-loop
 mul-test c = omega (arith, place c)
 
--- src/reach.rt:19:24
 sub-test : tie.Need-sub-test Inv-loop μ-loop
 sub-test c = search needs
 
--- src/reach.rt:19:24
 part-test-start : tie.Need-part-test-start Inv-loop μ-loop
 part-test-start c = search needs
 
--- src/reach.rt:19:24
 part-test-end : tie.Need-part-test-end Inv-loop μ-loop
 part-test-end c = omega (arith, place (c .before))
 
--- src/reach.rt:19:12
 test-requires : tie.Need-test-requires Inv-loop μ-loop
 test-requires c κs =
     let s = c .before .before .before .before .before .before in
     let l = c .before .before .before .loop in
     rw add-sub-cancel-left (omega (arith, length-row (l .table) (length (s .args .row .now)) (l .b) (place (c .before .before)), s .pre .1))
 
--- src/reach.rt:20:13
 union-into-requires : tie.Need-union-into-requires Inv-loop μ-loop
 union-into-requires c κs = place (c .before .before .before .before .before)
 
--- src/reach.rt:16:9
 add-b : tie.Need-add-b Inv-loop μ-loop
 add-b c = search needs
 
--- src/reach.rt:16:5
 loop-less : tie.Need-loop-less Inv-loop μ-loop
 loop-less c = search needs
 
--- src/reach.rt:16:5
 loop-again : tie.Need-loop-again Inv-loop μ-loop
 loop-again c =
     let s = c .before .before .before .before .before .before .before .before in
@@ -84,11 +69,9 @@ loop-again c =
     (λ w. (omega arith, taken-skip (s .args .table .now) (s .args .k) (s .args .row .now) (l .b) (l .table) (l .inv .1) (c .if1 .table) (w .1) (sym t ∙ w .0 .left)))
     (c .if1 .came)
 
--- src/reach.rt:10:1
 same-length : tie.Need-same-length Inv-loop μ-loop
 same-length c = search needs
 
--- src/reach.rt:10:1
 returns : tie.Need-returns Inv-loop μ-loop
 returns c =
     let n = c .before .before .before .before .args .n in

@@ -64,7 +64,7 @@ returns c =
     let f = l .before .before .before in
     let a = f .before .before .before .before .args in (
       searched-hit (l .loop .inv) (c .before .before .before .before .loop-test .taken)
-          (row-outside (a .table .now) (length (a .below .now)) (a .n) (l .loop .e) (f .fill-below .last .1 .0) (f .fill-below .ensures .0)
+          (row-outside (a .table .now) (length (a .below .now)) (a .n) (l .loop .e) (f .fill-below .last .0) (f .fill-below .ensures .0)
           (rw add-sub-cancel-left at (told-false (c .before .is-subset .ensures) (c .if1 .taken)))),
       search needs,
     )
@@ -100,7 +100,7 @@ loop-again c =
     let f = l .before .before .before in
     let a = f .before .before .before .before .args in
     searched-more (l .loop .inv) (k .before .before .before .before .loop-test .taken)
-    (row-right (a .table .now) (length (a .below .now)) (a .n) (l .loop .e) (f .fill-below .last .1 .0) (f .fill-below .ensures .0)
+    (row-right (a .table .now) (length (a .below .now)) (a .n) (l .loop .e) (f .fill-below .last .0) (f .fill-below .ensures .0)
     (rw add-sub-cancel-left at (told-true (k .before .is-subset .ensures) (k .if1 .left)))
     (rw add-sub-cancel-left at (sym (c .before .test .ensures) ∙ c .if2 .left)))
 

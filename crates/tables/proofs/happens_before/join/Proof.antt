@@ -1,3 +1,4 @@
+-- `tables::happens_before::join` meets its contract: the rows passed are joined. Assumes nothing.
 use borrow.Author.Needs.{needs}
 use Prim.Native.Nat.{ℕ, _+_, _-_, _*_, _≤_}
 use mathlib.Core.Path.{_≡_, ap}
@@ -11,10 +12,6 @@ use Rattle.rows.proofs.SliceLaws.{sliceAt, slice-row, length-slice, giveBack}
 use Rattle.tables.proofs.TableFill.{Filled, filled-none, filled-room, filled-all, filled-changed, copy-room, table-joined}
 use Rattle.tables.proofs.happens_before.join.Statement.{statement}
 use Rattle.tables.proofs.happens_before.join.Tie as tie
-use Rattle.tables.proofs.happens_before.join.Reads as reads
-use Rattle.tables.proofs.happens_before.join.Lts as lts
-use Rattle.rows.proofs.copy.Reads as copy-reads
-use Rattle.rows.proofs.union.Reads as union-reads
 
 -- row c of the table
 abbrev Wanted : ℕ → List ℕ → List ℕ → ℕ → List ℕ → Type 0
@@ -49,92 +46,71 @@ place-again c =
     let i = c .before .before .before in
     copy-room (s .args .w) (Wanted (s .args .w) (s .args .q .now) (s .args .r .now)) (s .args .out .now) (l .b) (l .out) (l .inv .1) (s .args .q .now) (c .copy .last .0) (place i) (place-q i) (c .copy .ensures)
 
--- src/tables.rt:88:5
 loop-holds : tie.Need-loop-holds Inv-loop μ-loop
 loop-holds c =
     let s = c .before .before .before in
     (omega arith, filled-none (s .args .w) (Wanted (s .args .w) (s .args .q .now) (s .args .r .now)) (s .args .out .now))
 
--- src/tables.rt:89:18
 mul-at : tie.Need-mul-at Inv-loop μ-loop
 mul-at c = omega (arith, place c)
 
--- src/tables.rt:90:19
 add-end : tie.Need-add-end Inv-loop μ-loop
 add-end c = omega (arith, place c)
 
--- src/tables.rt:91:20
 mul-copy : tie.Need-mul-copy Inv-loop μ-loop
 mul-copy c = omega (arith, place c)
 
--- src/tables.rt:91:20
 sub-copy : tie.Need-sub-copy Inv-loop μ-loop
 sub-copy c = search needs
 
--- src/tables.rt:91:20
 part-copy-start : tie.Need-part-copy-start Inv-loop μ-loop
 part-copy-start c = search needs
 
--- src/tables.rt:91:20
 part-copy-end : tie.Need-part-copy-end Inv-loop μ-loop
 part-copy-end c = omega (arith, place c)
 
--- src/tables.rt:91:39
 mul-copy-2 : tie.Need-mul-copy-2 Inv-loop μ-loop
 mul-copy-2 c = omega (arith, place (c .before))
 
--- src/tables.rt:91:39
 sub-copy-2 : tie.Need-sub-copy-2 Inv-loop μ-loop
 sub-copy-2 c = search needs
 
--- src/tables.rt:91:39
 part-copy-start-2 : tie.Need-part-copy-start-2 Inv-loop μ-loop
 part-copy-start-2 c = search needs
 
--- src/tables.rt:91:39
 part-copy-end-2 : tie.Need-part-copy-end-2 Inv-loop μ-loop
 part-copy-end-2 c = omega (arith, place-q (c .before))
 
--- src/tables.rt:91:9
 copy-requires : tie.Need-copy-requires Inv-loop μ-loop
 copy-requires c κs =
     let s = c .before .before .before .before .before .before .before in
     let l = c .before .before .before .loop in
     omega (arith, length-slice (s .args .q .now) (s .args .w) (l .b) (place-q (c .before .before)), length-slice (l .out) (s .args .w) (l .b) (place (c .before .before)))
 
--- src/tables.rt:92:21
 mul-union : tie.Need-mul-union Inv-loop μ-loop
 mul-union c = omega (arith, place (c .before .before .before .before .before))
 
--- src/tables.rt:92:21
 sub-union : tie.Need-sub-union Inv-loop μ-loop
 sub-union c = search needs
 
--- src/tables.rt:92:21
 part-union-start : tie.Need-part-union-start Inv-loop μ-loop
 part-union-start c = search needs
 
--- src/tables.rt:92:21
 part-union-end : tie.Need-part-union-end Inv-loop μ-loop
 part-union-end c = omega (arith, place (c .before .before .before .before .before))
 
--- src/tables.rt:92:40
 mul-union-2 : tie.Need-mul-union-2 Inv-loop μ-loop
 mul-union-2 c = omega (arith, place (c .before .before .before .before .before .before))
 
--- src/tables.rt:92:40
 sub-union-2 : tie.Need-sub-union-2 Inv-loop μ-loop
 sub-union-2 c = search needs
 
--- src/tables.rt:92:40
 part-union-start-2 : tie.Need-part-union-start-2 Inv-loop μ-loop
 part-union-start-2 c = search needs
 
--- src/tables.rt:92:40
 part-union-end-2 : tie.Need-part-union-end-2 Inv-loop μ-loop
 part-union-end-2 c = omega (arith, place-r (c .before .before .before .before .before .before))
 
--- src/tables.rt:92:9
 union-requires : tie.Need-union-requires Inv-loop μ-loop
 union-requires c κs =
     let s = c .before .before .before .before .before .before .before .before .before .before .before .before in
@@ -142,15 +118,12 @@ union-requires c κs =
     let k = c .before .before .before .before in
     omega (arith, length-slice (s .args .r .now) (s .args .w) (l .b) (place-r (k .before .before .before)), length-slice (giveBack (l .out) (s .args .w) (l .b) (k .copy .last .0)) (s .args .w) (l .b) (place-again k))
 
--- src/tables.rt:88:9
 add-b : tie.Need-add-b Inv-loop μ-loop
 add-b c = search needs
 
--- src/tables.rt:88:5
 loop-less : tie.Need-loop-less Inv-loop μ-loop
 loop-less c = search needs
 
--- src/tables.rt:88:5
 loop-again : tie.Need-loop-again Inv-loop μ-loop
 loop-again c =
     let s = c .before .before .before .before .before .before .before .before .before .before .before .before .before .before .before in
@@ -160,11 +133,9 @@ loop-again c =
     let u = c .before .before .union in
     (omega arith, filled-changed (s .args .w) (Wanted (s .args .w) (s .args .q .now) (s .args .r .now)) (s .args .out .now) (l .b) (l .out) (l .inv .1) (s .args .q .now) (k .last .0) (place i) (place-q i) (k .ensures) orRow length-or (sliceAt (s .args .r .now) (s .args .w) (l .b)) (u .last .0) (u .ensures) (ap (orRow (rowAt (s .args .q .now) (s .args .w) (l .b))) (slice-row (s .args .r .now) (s .args .w) (l .b))))
 
--- src/tables.rt:83:1
 same-length : tie.Need-same-length Inv-loop μ-loop
 same-length c = search needs
 
--- src/tables.rt:83:1
 returns : tie.Need-returns Inv-loop μ-loop
 returns c =
     let s = c .before .before .before .before .before in

@@ -1,3 +1,4 @@
+-- `tables::keys::fill_keys` meets its contract: the rows have the events passed. Assumes nothing.
 use borrow.Author.Needs.{needs}
 use Prim.Native.Nat.{_+_, _-_, _*_, _^_, _<_, _≤_}
 use mathlib.Core.Path.{_≡_, refl, _∙_}
@@ -8,11 +9,6 @@ use Rattle.tables.specs.Tables.{keyIn, KeyRows}
 use Rattle.tables.proofs.KeyLaws.{keys-none, keys-more, keys-all}
 use Rattle.tables.proofs.keys.fill_keys.Statement.{statement}
 use Rattle.tables.proofs.keys.fill_keys.Tie as tie
-use Rattle.tables.proofs.keys.fill_keys.Reads as reads
-use Rattle.tables.proofs.keys.fill_keys.Lts as lts
-use Rattle.tables.proofs.keys.key.Reads as key-reads
-use Rattle.rows.proofs.clear.Reads as clear-reads
-use Rattle.rows.proofs.set.Reads as set-reads
 
 abbrev Inv-loop : tie.InvT-loop
 Inv-loop l n w object g₀ e₀ g e = (e ≤ n) × (length g ≡ length g₀) × KeyRows e w (keyIn object l) g
@@ -35,46 +31,36 @@ short c = omega (arith, c .before .before .before .before .before .before .befor
 inside : (c : tie.After-key Inv-loop μ-loop) → c .before .before .loop .e < 64 * c .before .before .before .before .before .before .before .before .before .args .w
 inside c = omega (arith, c .before .loop-test .taken, c .before .before .before .before .before .before .before .before .before .pre .1 .0)
 
--- src/keys.rt:31:5
 clear-requires : tie.Need-clear-requires Inv-loop μ-loop
 clear-requires c κs = search needs
 
--- src/keys.rt:32:5
 loop-holds : tie.Need-loop-holds Inv-loop μ-loop
 loop-holds c =
     let s = c .before .before .before .before .before .before in
     let e = c .before .before .clear in
     (omega arith, refl, keys-none (s .args .w) (keyIn (s .args .object) (s .args .l .now)) (length (s .args .g .now)) (e .last .0) (e .ensures))
 
--- src/keys.rt:33:13
 key-requires : tie.Need-key-requires Inv-loop μ-loop
 key-requires c κs = search needs
 
--- src/keys.rt:34:28
 mul-set : tie.Need-mul-set Inv-loop μ-loop
 mul-set c = omega (arith, place (c .before), short (c .before))
 
--- src/keys.rt:34:22
 mul-set-2 : tie.Need-mul-set-2 Inv-loop μ-loop
 mul-set-2 c = omega (arith, place (c .before), short (c .before))
 
--- src/keys.rt:34:22
 add-set : tie.Need-add-set Inv-loop μ-loop
 add-set c = omega (arith, place (c .before), short (c .before), inside (c .before))
 
--- src/keys.rt:34:9
 set-requires : tie.Need-set-requires Inv-loop μ-loop
 set-requires c κs = omega (arith, place (c .before), inside (c .before))
 
--- src/keys.rt:32:9
 add-e : tie.Need-add-e Inv-loop μ-loop
 add-e c = search needs
 
--- src/keys.rt:32:5
 loop-less : tie.Need-loop-less Inv-loop μ-loop
 loop-less c = search needs
 
--- src/keys.rt:32:5
 loop-again : tie.Need-loop-again Inv-loop μ-loop
 loop-again c =
     let s = c .before .before .before .before .before .before .before .before .before .before .before .before .before in
@@ -83,11 +69,9 @@ loop-again c =
     let t = c .before .before .set in
     (omega arith, c .before .g2 .given ∙ l .inv .1, keys-more (s .args .w) (keyIn (s .args .object) (s .args .l .now)) (l .e) (l .g) (k .key .result) (t .last .0) (l .inv .2) (inside k) (omega (arith, s .pre .1 .1 .0, sized (k .before .before))) (k .key .ensures .0) (k .key .ensures .1) (t .ensures))
 
--- src/keys.rt:23:1
 same-length : tie.Need-same-length Inv-loop μ-loop
 same-length c = sized (c .before)
 
--- src/keys.rt:23:1
 returns : tie.Need-returns Inv-loop μ-loop
 returns c =
     let s = c .before .before .before .before .before .before .before .before in

@@ -1,3 +1,4 @@
+-- `tables::keys::keep_same_key` meets its contract: the rows passed are cut to the events with their key. Assumes nothing.
 use borrow.Author.Needs.{needs}
 use Prim.Native.Nat.{ℕ, _+_, _-_, _*_, _≤_}
 use mathlib.Core.Path.{_≡_, ap, _∙_}
@@ -14,11 +15,6 @@ use Rattle.tables.proofs.TableFill.{Filled, filled-none, filled-room, f
 use Rattle.tables.proofs.KeyLaws.{table-cut}
 use Rattle.tables.proofs.keys.keep_same_key.Statement.{statement}
 use Rattle.tables.proofs.keys.keep_same_key.Tie as tie
-use Rattle.tables.proofs.keys.keep_same_key.Reads as reads
-use Rattle.tables.proofs.keys.keep_same_key.Lts as lts
-use Rattle.tables.proofs.keys.key.Reads as key-reads
-use Rattle.rows.proofs.copy.Reads as copy-reads
-use Rattle.rows.proofs.intersect.Reads as intersect-reads
 
 -- row c of the table
 abbrev Wanted : List ℕ → ℕ → Bool → List ℕ → List ℕ → ℕ → List ℕ → Type 0
@@ -53,104 +49,80 @@ place-again c =
     let l = i .before .loop in
     copy-room (s .args .w) (Wanted (s .args .l .now) (s .args .w) (s .args .object) (s .args .q .now) (s .args .keys .now)) (s .args .out .now) (l .b) (l .out) (l .inv .1) (s .args .q .now) (c .copy .last .0) (place i) (place-q i) (c .copy .ensures)
 
--- src/keys.rt:54:5
 loop-holds : tie.Need-loop-holds Inv-loop μ-loop
 loop-holds c =
     let s = c .before .before .before .before in
     (omega arith, filled-none (s .args .w) (Wanted (s .args .l .now) (s .args .w) (s .args .object) (s .args .q .now) (s .args .keys .now)) (s .args .out .now))
 
--- src/keys.rt:55:18
 mul-at : tie.Need-mul-at Inv-loop μ-loop
 mul-at c = omega (arith, place c)
 
--- src/keys.rt:56:19
 add-end : tie.Need-add-end Inv-loop μ-loop
 add-end c = omega (arith, place c)
 
--- src/keys.rt:57:20
 key-requires : tie.Need-key-requires Inv-loop μ-loop
 key-requires c κs = search needs
 
--- src/keys.rt:57:20
 mul-from : tie.Need-mul-from Inv-loop μ-loop
 mul-from c = omega (arith, place-keys c)
 
--- src/keys.rt:58:18
 add-to : tie.Need-add-to Inv-loop μ-loop
 add-to c = omega (arith, place-keys c)
 
--- src/keys.rt:59:20
 mul-copy : tie.Need-mul-copy Inv-loop μ-loop
 mul-copy c = omega (arith, place (c .before))
 
--- src/keys.rt:59:20
 sub-copy : tie.Need-sub-copy Inv-loop μ-loop
 sub-copy c = search needs
 
--- src/keys.rt:59:20
 part-copy-start : tie.Need-part-copy-start Inv-loop μ-loop
 part-copy-start c = search needs
 
--- src/keys.rt:59:20
 part-copy-end : tie.Need-part-copy-end Inv-loop μ-loop
 part-copy-end c = omega (arith, place (c .before))
 
--- src/keys.rt:59:39
 mul-copy-2 : tie.Need-mul-copy-2 Inv-loop μ-loop
 mul-copy-2 c = omega (arith, place (c .before .before))
 
--- src/keys.rt:59:39
 sub-copy-2 : tie.Need-sub-copy-2 Inv-loop μ-loop
 sub-copy-2 c = search needs
 
--- src/keys.rt:59:39
 part-copy-start-2 : tie.Need-part-copy-start-2 Inv-loop μ-loop
 part-copy-start-2 c = search needs
 
--- src/keys.rt:59:39
 part-copy-end-2 : tie.Need-part-copy-end-2 Inv-loop μ-loop
 part-copy-end-2 c = omega (arith, place-q (c .before .before))
 
--- src/keys.rt:59:9
 copy-requires : tie.Need-copy-requires Inv-loop μ-loop
 copy-requires c κs =
     let s = c .before .before .before .before .before .before .before .before .before in
     let l = c .before .before .before .before .loop in
     omega (arith, length-slice (s .args .q .now) (s .args .w) (l .b) (place-q (c .before .before .before)), length-slice (l .out) (s .args .w) (l .b) (place (c .before .before .before)))
 
--- src/keys.rt:60:25
 mul-intersect : tie.Need-mul-intersect Inv-loop μ-loop
 mul-intersect c = omega (arith, place (c .before .before .before .before .before .before))
 
--- src/keys.rt:60:25
 sub-intersect : tie.Need-sub-intersect Inv-loop μ-loop
 sub-intersect c = search needs
 
--- src/keys.rt:60:25
 part-intersect-start : tie.Need-part-intersect-start Inv-loop μ-loop
 part-intersect-start c = search needs
 
--- src/keys.rt:60:25
 part-intersect-end : tie.Need-part-intersect-end Inv-loop μ-loop
 part-intersect-end c = omega (arith, place (c .before .before .before .before .before .before))
 
--- src/keys.rt:60:44
 mul-intersect-2 : tie.Need-mul-intersect-2 Inv-loop μ-loop
 mul-intersect-2 c = omega (arith, place-keys (c .before .before .before .before .before .before))
 
--- src/keys.rt:60:44
 sub-intersect-2 : tie.Need-sub-intersect-2 Inv-loop μ-loop
 sub-intersect-2 c = search needs
 
--- src/keys.rt:60:44
 part-intersect-start-2 : tie.Need-part-intersect-start-2 Inv-loop μ-loop
 part-intersect-start-2 c = search needs
 
--- src/keys.rt:60:44
 part-intersect-end-2 : tie.Need-part-intersect-end-2 Inv-loop μ-loop
 part-intersect-end-2 c = omega (arith, place-keys (c .before .before .before .before .before .before))
 
--- src/keys.rt:60:9
 intersect-requires : tie.Need-intersect-requires Inv-loop μ-loop
 intersect-requires c κs =
     let k = c .before .before .before .before in
@@ -159,15 +131,12 @@ intersect-requires c κs =
     let l = y .before .before .loop in
     omega (arith, length-slice (s .args .keys .now) (s .args .w) (y .key .result) (place-keys y), length-slice (giveBack (l .out) (s .args .w) (l .b) (k .copy .last .0)) (s .args .w) (l .b) (place-again k))
 
--- src/keys.rt:54:9
 add-b : tie.Need-add-b Inv-loop μ-loop
 add-b c = search needs
 
--- src/keys.rt:54:5
 loop-less : tie.Need-loop-less Inv-loop μ-loop
 loop-less c = search needs
 
--- src/keys.rt:54:5
 loop-again : tie.Need-loop-again Inv-loop μ-loop
 loop-again c =
     let k = c .before .before .before .before .before .before .before in
@@ -181,11 +150,9 @@ loop-again c =
           (ap (andRow (rowAt (s .args .q .now) (s .args .w) (l .b))) (slice-row (s .args .keys .now) (s .args .w) (y .key .result) ∙ ap (rowAt (s .args .keys .now) (s .args .w)) (y .key .ensures .0))),
     )
 
--- src/keys.rt:39:1
 same-length : tie.Need-same-length Inv-loop μ-loop
 same-length c = search needs
 
--- src/keys.rt:39:1
 returns : tie.Need-returns Inv-loop μ-loop
 returns c =
     let s = c .before .before .before .before .before .before in
