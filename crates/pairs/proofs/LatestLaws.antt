@@ -3,14 +3,14 @@
 use mathlib.Core.Path.{_≡_, refl, sym, ap, ap₂, _∙_}
 use mathlib.Core.Logic.{_≢_}
 use mathlib.Core.Bool.{Bool, true, false, not, _&&_, and-assoc}
-use mathlib.Core.List.{List, _++_}
+use mathlib.Core.List.{List}
 use Prim.Native.Nat.{ℕ, _+_, _-_, _*_, _^_, _≤_, _<_}
 use native.Mathlib.Nat.{pow-succ'}
 use native.Mathlib.Omega.{arith}
 use borrow.Author.Tests.{ltb-true, ltb-false, eqb-true, eq-eqb}
 use lib.Dec.{eqb, ltb}
 use lib.Count.{leadingZeros, leading-top}
-use lib.ListN.{length, getD, drop}
+use lib.ListN.{length, getD}
 use Rattle.rows.specs.Lowest.{lowest, highest}
 use Rattle.rows.specs.Row.{digit, bitOf, has, erase, andRow, onlyFirst, rowAt, Row}
 use Rattle.rows.specs.Relation.{Table}
@@ -18,7 +18,7 @@ use Rattle.rows.proofs.Tests.{split, tell, never, and-right}
 use Rattle.rows.proofs.Digits.{digit-zero, digit-high, bit-one, bit-of-zero}
 use Rattle.rows.proofs.LowestLaws.{lowest-low, highest-at, highest-past}
 use Rattle.rows.proofs.RowLaws.{lacking, only-word, only-none, only-some, has-past, has-erase, length-erase, length-and, row-has, row-in, row-same, row-and}
-use Rattle.rows.proofs.TableLaws.{row-room, length-row, row-copied}
+use Rattle.rows.proofs.TableLaws.{row-room, length-row}
 use Rattle.record.specs.History.{History, vis}
 use Rattle.record.specs.Words.{isWriteIn, objectIn, positionIn, historyFrom}
 use Rattle.consistency.specs.Relations.{ob, ar}
@@ -168,29 +168,23 @@ module _ (n w : ℕ) (l ars s₀ s s' : List ℕ) (x y : ℕ) (places : Placed n
 
 -- ---- the writes that a read sees
 
--- row e of v is copied over s, which gives a; of those the writes stay, b, and of those the ones on object k, e's
-module _ (n w : ℕ) (l v objects writes s a b c : List ℕ) (e k : ℕ) (given : Given n w l v) (h : e < n) (wide : length s ≡ w) (wide-writes : length writes ≡ w)
-    (copied : a ≡ sliceAt v w e ++ drop (length (sliceAt v w e)) s) (wrote : Row n (isWriteIn l) writes) (cut : b ≡ andRow a writes)
-    (keys : KeyRows n w (keyIn true l) objects) (room-objects : 256 * w ≤ length objects) (own : k ≡ objectIn l e) (meet : c ≡ andRow b (sliceAt objects w k)) where
+-- c has what row e of v, the writes and the row of object k, e's, all have
+module _ (n w : ℕ) (l v objects writes c : List ℕ) (e k : ℕ) (given : Given n w l v) (h : e < n) (wide-writes : length writes ≡ w)
+    (wrote : Row n (isWriteIn l) writes) (keys : KeyRows n w (keyIn true l) objects) (room-objects : 256 * w ≤ length objects) (own : k ≡ objectIn l e)
+    (meet : c ≡ andRow (andRow (sliceAt v w e) writes) (sliceAt objects w k)) where
   room : e * w + w ≤ length v
   room = row-room n w e (length v) h (given .rows .size)
-
-  seen : a ≡ rowAt v w e
-  seen = row-copied v w e s a wide room copied
-
-  size-b : length b ≡ w
-  size-b = ap length cut ∙ length-and a writes ∙ ap length seen ∙ length-row v w e room
 
   small : k < 256
   small = omega arith
 
   made : c ≡ andRow (andRow (rowAt v w e) writes) (rowAt objects w k)
-  made = meet ∙ ap₂ andRow (cut ∙ ap (λ (r : List ℕ). andRow r writes) seen) (slice-row objects w k)
+  made = meet ∙ ap₂ andRow (ap (λ (r : List ℕ). andRow r writes) (slice-row v w e)) (slice-row objects w k)
 
   pub row-candidates : (length c ≡ w) × Row n (candidate (historyFrom n w l v) e) c
   unfolding candidate vis ob historyFrom
   row-candidates = (
-    ap length meet ∙ length-and b (sliceAt objects w k) ∙ size-b,
+    ap length made ∙ length-and (andRow (rowAt v w e) writes) (rowAt objects w k) ∙ length-and (rowAt v w e) writes ∙ length-row v w e room,
     rw made (row-same n (λ x. (has (rowAt v w e) x && isWriteIn l x) && eqb (objectIn l x) k) (andRow (andRow (rowAt v w e) writes) (rowAt objects w k))
         (row-and n (λ x. has (rowAt v w e) x && isWriteIn l x) (andRow (rowAt v w e) writes)
         (row-and n (λ x. has (rowAt v w e) x) (rowAt v w e) (seen-table n w l v given e h) (isWriteIn l) writes wrote (omega (arith, length-row v w e room)))

@@ -93,11 +93,9 @@ pub fn last_write(
 {
     let at = e * w;
     let end = at + w;
-    rows::copy(seen, &v[at..end]);
-    rows::intersect(seen, writes);
     let from = events::object(l, e) as usize * w;
     let to = from + w;
-    rows::intersect(seen, &objects[from..to]);
+    rows::meet(seen, &v[at..end], writes, &objects[from..to]);
     last_of(l, n, w, ars, seen)
 }
 

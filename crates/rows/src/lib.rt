@@ -100,6 +100,16 @@ pub fn intersect(dst: &mut [u64], src: &[u64])
     }
 }
 
+// What a, b and c all have.
+pub fn meet(dst: &mut [u64], a: &[u64], b: &[u64], c: &[u64])
+    requires { ⌜ (length (now a) ≡ length (now dst)) × (length (now b) ≡ length (now dst)) × (length (now c) ≡ length (now dst)) ⌝ }
+    ensures { λ _. ⌜ now (dst .exit) ≡ andRow (andRow (now (a .entry)) (now (b .entry))) (now (c .entry)) ⌝ }
+{
+    for i in 0..dst.len() {
+        dst[i] = a[i] & b[i] & c[i];
+    }
+}
+
 // b leaves `dst` with the members of `src`. As in `insert`, no word is written by itself.
 pub fn discard(dst: &mut [u64], src: &[u64], b: usize)
     requires { ⌜ (length (now src) ≤ length (now dst)) × (b / 64 < length (now src)) ⌝ }
