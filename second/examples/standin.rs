@@ -1,5 +1,5 @@
-//! The baseline behind the three C calls: a static library to try the linked
-//! comparers with while the proved side has not landed.
+//! The baseline behind the C calls: a static library to try the linked comparers
+//! with where the proved side is not built.
 
 use second::baseline::{judging, reading, rehearsal};
 use std::slice::{from_raw_parts, from_raw_parts_mut};
@@ -16,6 +16,20 @@ pub unsafe extern "C" fn gcr_read(record: *const u8, len: usize, work: *mut u64,
 #[no_mangle]
 pub unsafe extern "C" fn gcr_judge_model(model: u32, record: *const u8, len: usize) -> u64 {
     unsafe { judging::judge_model(model, from_raw_parts(record, len)) }
+}
+
+/// # Safety
+/// Pointer and length as of a slice.
+#[no_mangle]
+pub unsafe extern "C" fn gcr_judge_predicate(predicate: u32, record: *const u8, len: usize) -> u64 {
+    unsafe { judging::judge_predicate(predicate, from_raw_parts(record, len)) }
+}
+
+/// # Safety
+/// Pointers and lengths as of two slices.
+#[no_mangle]
+pub unsafe extern "C" fn gcr_judge_all(record: *const u8, len: usize, out: *mut u64, words: usize) -> u64 {
+    unsafe { judging::judge_all(from_raw_parts(record, len), from_raw_parts_mut(out, words)) }
 }
 
 /// # Safety

@@ -42,21 +42,44 @@ pub fn answer_of(model: u32, answers: &[Answer]) -> Answer {
     in_turn.find(|&answer| answer != Answer::Met).unwrap_or(Answer::Met)
 }
 
-/// The host call for every model asked, the record read and judged once.
-pub fn judge_models(models: &[u32], bytes: &[u8]) -> Vec<u64> {
-    let answers = ask(bytes).map(|record| Judged::new(&record).answers());
-    models.iter().map(|&model| packed(model, &answers)).collect()
+/// What the thirteen predicates say of a record, in order, or what refuses it.
+pub type Answers = Result<Vec<Answer>, Refusal>;
+
+pub fn answers(bytes: &[u8]) -> Answers {
+    ask(bytes).map(|record| Judged::new(&record).answers())
 }
 
 pub fn judge_model(model: u32, bytes: &[u8]) -> u64 {
-    judge_models(&[model], bytes)[0]
+    packed(model, &answers(bytes))
 }
 
 /// The host call's number for a model, from a record's answers.
-pub fn packed(model: u32, answers: &Result<Vec<Answer>, Refusal>) -> u64 {
+pub fn packed(model: u32, answers: &Answers) -> u64 {
+    packed_by(answer_of, model, answers)
+}
+
+/// The same for a predicate.
+pub fn packed_predicate(predicate: u32, answers: &Answers) -> u64 {
+    packed_by(|predicate, answers| answers[predicate as usize - 1], predicate, answers)
+}
+
+fn packed_by(answer: impl Fn(u32, &[Answer]) -> Answer, number: u32, answers: &Answers) -> u64 {
     match answers {
-        _ if !(1..=13).contains(&model) => refused(Refusal { number: 2, place: 0 }),
+        _ if !(1..=13).contains(&number) => refused(Refusal { number: 2, place: 0 }),
         Err(refusal) => refused(*refusal),
-        Ok(answers) => judged(answer_of(model, answers)),
+        Ok(answers) => judged(answer(number, answers)),
+    }
+}
+
+/// All thirteen over the front of `out`, as many as fit; it stays where the record is refused.
+pub fn packed_all(answers: &Answers, out: &mut [u64]) -> u64 {
+    match answers {
+        Err(refusal) => refused(*refusal),
+        Ok(answers) => {
+            for (word, &answer) in out.iter_mut().zip(answers) {
+                *word = judged(answer);
+            }
+            0
+        }
     }
 }

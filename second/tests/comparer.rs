@@ -1,12 +1,12 @@
 //! The comparers find deliberate faults, and none where there is none.
 
 use second::compare::rehearsal::Outstanding;
-use second::compare::subject::{Itself, Judge, Reader, Rehearser};
+use second::compare::subject::{Baseline, Itself, Judge, Reader, Rehearser};
 use second::compare::tally::Tally;
 use second::compare::{models, programs, reader, rehearsal, Seeds};
-use second::models::packed;
-use second::predicates::{Answer, Judged};
-use second::questions::{ask, Refusal};
+use second::models::{packed, packed_all, packed_predicate, Answers};
+use second::predicates::Judged;
+use second::questions::ask;
 use second::record::Record;
 use second::relations::{Pairs, Relations};
 use std::cell::RefCell;
@@ -28,11 +28,11 @@ type Fault = fn(&mut Record) -> Option<fn(&Record, &mut Relations)>;
 /// Keeps the answers of the last record, as many models are asked of each.
 struct WrongJudge {
     fault: Fault,
-    last: RefCell<(Vec<u8>, Result<Vec<Answer>, Refusal>)>,
+    last: RefCell<(Vec<u8>, Answers)>,
 }
 
 impl WrongJudge {
-    fn answers(&self, bytes: &[u8]) -> Result<Vec<Answer>, Refusal> {
+    fn answers(&self, bytes: &[u8]) -> Answers {
         let mut record = ask(bytes)?;
         let of_relations = (self.fault)(&mut record);
         let mut judged = Judged::new(&record);
@@ -41,15 +41,46 @@ impl WrongJudge {
         }
         Ok(judged.answers())
     }
-}
 
-impl Judge for WrongJudge {
-    fn judge_model(&self, model: u32, bytes: &[u8]) -> u64 {
+    fn asked(&self, bytes: &[u8], answer: impl FnOnce(&Answers) -> u64) -> u64 {
         let mut last = self.last.borrow_mut();
         if last.0 != bytes {
             *last = (bytes.to_vec(), self.answers(bytes));
         }
-        packed(model, &last.1)
+        answer(&last.1)
+    }
+}
+
+impl Judge for WrongJudge {
+    fn judge_model(&self, model: u32, bytes: &[u8]) -> u64 {
+        self.asked(bytes, |answers| packed(model, answers))
+    }
+
+    fn judge_predicate(&self, predicate: u32, bytes: &[u8]) -> u64 {
+        self.asked(bytes, |answers| packed_predicate(predicate, answers))
+    }
+
+    fn judge_all(&self, bytes: &[u8], out: &mut [u64]) -> u64 {
+        self.asked(bytes, |answers| packed_all(answers, out))
+    }
+}
+
+/// The right judge, whose words of all thirteen have something done to them.
+struct WrongWords(fn(u64, &mut [u64]));
+
+impl Judge for WrongWords {
+    fn judge_model(&self, model: u32, bytes: &[u8]) -> u64 {
+        Baseline.judge_model(model, bytes)
+    }
+
+    fn judge_predicate(&self, predicate: u32, bytes: &[u8]) -> u64 {
+        Baseline.judge_predicate(predicate, bytes)
+    }
+
+    fn judge_all(&self, bytes: &[u8], out: &mut [u64]) -> u64 {
+        let right = Baseline.judge_all(bytes, out);
+        self.0(right, out);
+        right
     }
 }
 
@@ -75,10 +106,39 @@ fn judge_failures(fault: Fault) -> u64 {
     tally.failed
 }
 
+fn words_failures(fault: fn(u64, &mut [u64])) -> u64 {
+    let mut tally = Tally::counting();
+    models::compare(&WrongWords(fault), &Seeds::first(30), &mut tally);
+    tally.failed
+}
+
 fn store_failures(fault: fn(u64, &mut [u8], &mut [u8]) -> u64) -> u64 {
     let mut tally = Tally::counting();
     rehearsal::compare(&WrongStore(fault), Outstanding::Bounded, &Seeds::first(100), &mut tally);
     tally.failed
+}
+
+#[test]
+fn faults_of_all_thirteen() {
+    assert_eq!(words_failures(|_, _| ()), 0);
+    let refused_written = |right, out: &mut [u64]| {
+        if right != 0 {
+            out.fill(0);
+        }
+    };
+    assert!(words_failures(refused_written) > 0);
+    let last_lost = |_, out: &mut [u64]| {
+        if let Some(word) = out.get_mut(12) {
+            *word = 1;
+        }
+    };
+    assert!(words_failures(last_lost) > 0);
+    let beyond = |_, out: &mut [u64]| {
+        if let Some(word) = out.get_mut(13) {
+            *word = 0;
+        }
+    };
+    assert!(words_failures(beyond) > 0);
 }
 
 #[test]

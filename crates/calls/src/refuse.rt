@@ -27,7 +27,7 @@ pub fn event_refused(n: usize, count: usize, c: Asked) -> u8
     0
 }
 
-// Of a delivery of an event, a put or not, as far as it is asked without counts; row s of `known` has what site s knows.
+// Of a delivery, as far as it is asked without counts: `put` says whether its event is one, and row s of `known` has what site s knows.
 pub fn delivery_refused(n: usize, count: usize, c: Asked, known: &[u64], put: bool) -> u8
     requires { ⌜ (n ≤ 8) × (count ≤ 256) × (length (now known) ≡ 32) ⌝ }
     ensures { λ r. ⌜ r ≡ ask (ltb (c .site) n) 32 (ask (ltb (c .event) count && put) 33 (ask (not (has (rowAt (now (known .entry)) 4 (c .site)) (c .event))) 35 0)) ⌝ }
@@ -49,7 +49,7 @@ pub fn delivery_refused(n: usize, count: usize, c: Asked, known: &[u64], put: bo
     0
 }
 
-// 0, or the number that refuses a call. 36 is left, asked last, of deliveries alone, and only it reads a site's counts.
+// 0, or the number that refuses a call before 36, which is asked last, of deliveries alone, and reads a site's counts.
 pub fn refused(n: usize, count: usize, c: Asked, known: &[u64], put: bool) -> u8
     requires { ⌜ (n ≤ 8) × (count ≤ 256) × (length (now known) ≡ 32) × (c .kind ≤ 3) ⌝ }
     ensures { λ r. ⌜ ((a : Kept) (e : KeptEvent) → e .put ≡ put → refusal n (partOf count a (has (rowAt (now (known .entry)) 4 (c .site))) e) (callOf c) ≡ withCounts r c a e) ⌝ }

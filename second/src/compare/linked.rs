@@ -23,6 +23,22 @@ impl Judge for Linked {
         // SAFETY: the pointer comes from a slice of the length given.
         unsafe { gcr_judge_model(model, record.as_ptr(), record.len()) }
     }
+
+    fn judge_predicate(&self, predicate: u32, record: &[u8]) -> u64 {
+        extern "C" {
+            fn gcr_judge_predicate(predicate: u32, record: *const u8, len: usize) -> u64;
+        }
+        // SAFETY: the pointer comes from a slice of the length given.
+        unsafe { gcr_judge_predicate(predicate, record.as_ptr(), record.len()) }
+    }
+
+    fn judge_all(&self, record: &[u8], out: &mut [u64]) -> u64 {
+        extern "C" {
+            fn gcr_judge_all(record: *const u8, len: usize, out: *mut u64, words: usize) -> u64;
+        }
+        // SAFETY: both pointers come from slices of the lengths given.
+        unsafe { gcr_judge_all(record.as_ptr(), record.len(), out.as_mut_ptr(), out.len()) }
+    }
 }
 
 impl Rehearser for Linked {

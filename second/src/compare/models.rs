@@ -1,13 +1,16 @@
-//! The host call: every model, and numbers that are none.
+//! The judging calls: every model and predicate, numbers that are none, and all thirteen at once.
 
 use super::subject::Judge;
 use super::tally::{Case, Tally};
 use super::Seeds;
 use crate::generate::{self, Sample};
-use crate::models::judge_models;
+use crate::models::{answers, packed, packed_all, packed_predicate};
 use crate::samples;
 
-const MODELS: [u32; 17] = [0, 1, 2, 3, 4, 5, 6, 7, 8, 9, 10, 11, 12, 13, 14, 256, u32::MAX];
+const NUMBERS: [u32; 17] = [0, 1, 2, 3, 4, 5, 6, 7, 8, 9, 10, 11, 12, 13, 14, 256, u32::MAX];
+
+/// Buffers for all thirteen: none, too short, and longer than they are.
+const OUT_LENGTHS: [usize; 3] = [0, 5, 15];
 
 pub fn compare(subject: &dyn Judge, seeds: &Seeds, tally: &mut Tally) {
     one_record(subject, "models-empty".to_string(), &[], tally);
@@ -23,9 +26,18 @@ pub fn compare(subject: &dyn Judge, seeds: &Seeds, tally: &mut Tally) {
 fn one_record(subject: &dyn Judge, name: String, bytes: &[u8], tally: &mut Tally) {
     let case = Case { name, input: bytes };
     let given = bytes.to_vec();
-    for (model, due) in MODELS.into_iter().zip(judge_models(&MODELS, bytes)) {
-        let result = subject.judge_model(model, &given);
-        tally.equal(&case, &format!("model {model}"), &due, &result);
+    let answers = answers(bytes);
+    for number in NUMBERS {
+        let model = subject.judge_model(number, &given);
+        tally.equal(&case, &format!("model {number}"), &packed(number, &answers), &model);
+        let predicate = subject.judge_predicate(number, &given);
+        tally.equal(&case, &format!("predicate {number}"), &packed_predicate(number, &answers), &predicate);
+    }
+    for words in OUT_LENGTHS {
+        let (mut due, mut out) = (vec![u64::MAX; words], vec![u64::MAX; words]);
+        let result = subject.judge_all(&given, &mut out);
+        tally.equal(&case, &format!("all over {words} words"), &packed_all(&answers, &mut due), &result);
+        tally.equal(&case, &format!("the {words} words"), &due, &out);
     }
     tally.same_bytes(&case, "record afterwards", bytes, &given);
 }

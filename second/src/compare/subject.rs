@@ -8,6 +8,8 @@ pub trait Reader {
 
 pub trait Judge {
     fn judge_model(&self, model: u32, record: &[u8]) -> u64;
+    fn judge_predicate(&self, predicate: u32, record: &[u8]) -> u64;
+    fn judge_all(&self, record: &[u8], out: &mut [u64]) -> u64;
 }
 
 pub trait Rehearser {
@@ -30,6 +32,14 @@ impl Judge for Itself {
     fn judge_model(&self, model: u32, record: &[u8]) -> u64 {
         models::judge_model(model, record)
     }
+
+    fn judge_predicate(&self, predicate: u32, record: &[u8]) -> u64 {
+        models::packed_predicate(predicate, &models::answers(record))
+    }
+
+    fn judge_all(&self, record: &[u8], out: &mut [u64]) -> u64 {
+        models::packed_all(&models::answers(record), out)
+    }
 }
 
 impl Rehearser for Itself {
@@ -47,6 +57,14 @@ impl Reader for Baseline {
 impl Judge for Baseline {
     fn judge_model(&self, model: u32, record: &[u8]) -> u64 {
         baseline::judging::judge_model(model, record)
+    }
+
+    fn judge_predicate(&self, predicate: u32, record: &[u8]) -> u64 {
+        baseline::judging::judge_predicate(predicate, record)
+    }
+
+    fn judge_all(&self, record: &[u8], out: &mut [u64]) -> u64 {
+        baseline::judging::judge_all(record, out)
     }
 }
 
