@@ -1,4 +1,4 @@
-//! Links the proved side's static library, where the feature `linked` asks for it.
+//! Links the proved side's static libraries, where the feature `linked` asks for them.
 
 use std::env;
 use std::path::{Path, PathBuf};
@@ -19,9 +19,11 @@ fn library_folder() -> PathBuf {
 }
 
 fn link(folder: &Path) {
-    println!("cargo:rerun-if-changed={}", folder.join("libgcr.a").display());
     println!("cargo:rustc-link-search=native={}", folder.display());
-    println!("cargo:rustc-link-lib=static:-bundle=gcr");
-    // The archive may carry its own panic handler beside ours.
+    for library in ["gcr", "gcr_reader"] {
+        println!("cargo:rerun-if-changed={}", folder.join(format!("lib{library}.a")).display());
+        println!("cargo:rustc-link-lib=static:-bundle={library}");
+    }
+    // An archive may carry its own panic handler beside ours.
     println!("cargo:rustc-link-arg=-Wl,--allow-multiple-definition");
 }

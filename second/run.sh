@@ -21,11 +21,12 @@ long) share=100 seconds=1800 ;;
 *) echo "run.sh ci|long [COMPARER...]" >&2; exit 2 ;;
 esac
 
-# The file that a comparer needs, and the feature that links it where it is the library.
+# The file that a comparer needs, and the feature that links it where it is a library.
 needs() {
     case $1 in
     inspect | verdict | rehearse) echo "$bin/$1" ;;
-    reader | models | rehearsal) echo "$folder/libgcr.a" ;;
+    reader) echo "$folder/libgcr_reader.a" ;;
+    models | rehearsal) echo "$folder/libgcr.a" ;;
     esac
 }
 

@@ -1,11 +1,12 @@
-//! Links the proved library, and builds it first where it is missing.
-//! `RIZHAKKON_LIB` names another folder to take it from.
+//! Links the proved libraries, and builds them first where one is missing.
+//! `RIZHAKKON_LIB` names another folder to take them from.
 
 use std::env;
 use std::path::{Path, PathBuf};
 use std::process::Command;
 
 const FOLDER: &str = "RIZHAKKON_LIB";
+const LIBRARIES: [&str; 2] = ["gcr", "gcr_reader"];
 
 fn main() {
     println!("cargo:rerun-if-env-changed={FOLDER}");
@@ -14,17 +15,20 @@ fn main() {
         Some(folder) => here.join(folder),
         None => built(&here.join("../..")),
     };
-    link(&folder);
+    println!("cargo:rustc-link-search=native={}", folder.display());
+    for library in LIBRARIES {
+        link(&archive(&folder, library), library);
+    }
 }
 
-fn archive(folder: &Path) -> PathBuf {
-    folder.join("libgcr.a")
+fn archive(folder: &Path, library: &str) -> PathBuf {
+    folder.join(format!("lib{library}.a"))
 }
 
-/// The repository's own folder of the archive, which is built where it is missing.
+/// The repository's own folder of archives, filled where one is missing.
 fn built(root: &Path) -> PathBuf {
     let folder = root.join("target/staticlib");
-    if !archive(&folder).exists() {
+    if LIBRARIES.iter().any(|library| !archive(&folder, library).exists()) {
         build(root);
     }
     folder
@@ -38,10 +42,8 @@ fn build(root: &Path) {
 }
 
 /// Unbundled, so that the archive is read once, by the final link.
-fn link(folder: &Path) {
-    let archive = archive(folder);
+fn link(archive: &Path, library: &str) {
     assert!(archive.exists(), "no {} to link; {FOLDER} may name the folder that has it", archive.display());
     println!("cargo:rerun-if-changed={}", archive.display());
-    println!("cargo:rustc-link-search=native={}", folder.display());
-    println!("cargo:rustc-link-lib=static:-bundle=gcr");
+    println!("cargo:rustc-link-lib=static:-bundle={library}");
 }

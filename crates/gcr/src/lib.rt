@@ -1,4 +1,3 @@
-// The host library: what C and Rust call, on numbers and slices. Nothing is decided here.
+// The host library: what C and Rust call to judge and to rehearse, on numbers and slices. Nothing is decided here.
 pub mod judging;
-pub mod reading;
 pub mod rehearsing;

@@ -1,8 +1,8 @@
-//! The static library of the proved side, called as C would.
+//! The static libraries of the proved side, called as C would.
 
 use super::subject::*;
 
-/// The library that this build was linked with.
+/// The libraries that this build was linked with.
 pub struct Linked;
 
 impl Reader for Linked {

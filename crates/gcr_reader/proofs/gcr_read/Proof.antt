@@ -1,4 +1,4 @@
--- `gcr::reading::gcr_read` meets its contract: an answer's number and place are small enough to be packed. Assumes nothing.
+-- `gcr_reader::gcr_read` meets its contract: an answer's number and place are small enough to be packed. Assumes nothing.
 use mathlib.Core.Path.{_≡_, sym, ap, ap₂, _∙_}
 use Prim.Native.Nat.{_+_, _*_, _≤_}
 use native.Mathlib.Omega.{arith}
@@ -9,8 +9,8 @@ use Rattle.record.specs.Layout.{gcr1}
 use Rattle.record.specs.Questions.{numberOf, placeOf, reading}
 use Rattle.record.specs.Words.{workAfter}
 use Rattle.record.proofs.QuestionsAnswered.{number-most, place-small, packed-passed, packed-refused}
-use Rattle.gcr.proofs.reading.gcr_read.Statement.{statement}
-use Rattle.gcr.proofs.reading.gcr_read.Tie as tie
+use Rattle.gcr_reader.proofs.gcr_read.Statement.{statement}
+use Rattle.gcr_reader.proofs.gcr_read.Tie as tie
 
 -- the places on the way, by name
 abbrev done : tie.After-number → tie.After-read

@@ -1,4 +1,4 @@
-// The reader for hosts, callable from C and Rust on slices.
+// The reader for hosts, callable from C and Rust on slices: it goes to members' sites on its own.
 ghost use mathlib.Core.Path.{_≡_};
 ghost use lib.ListN.{length};
 ghost use Rattle.record.specs.Layout.{gcr1};
