@@ -70,7 +70,7 @@ module _ (counts : List ℕ) (j : ℕ) where
 
 -- ---- known sets
 
-eqb-turn : (a b : ℕ) → eqb a b ≡ eqb b a
+pub eqb-turn : (a b : ℕ) → eqb a b ≡ eqb b a
 eqb-turn a b = upd-elim (λ (t : Bool). eqb a b ≡ t) (λ (x : ℕ). false) a true b (λ q. eq-eqb a b (sym q)) (λ q. ne-eqb a b (λ r. q (sym r)))
     ∙ as-test (eqb b a)
   where
@@ -161,7 +161,7 @@ learn-row known sees s w joined after long wide here small e f t =
 pub see-row : (known sees : List ℕ) (s k : ℕ) (m after : List ℕ) → length known ≡ 32 → length sees ≡ 1024 → s < 8 → k < 256
     → m ≡ take (4 * s + 4 - 4 * s) (drop (4 * s) known) ++ drop (length (take (4 * s + 4 - 4 * s) (drop (4 * s) known))) (take (4 * k + 4 - 4 * k) (drop (4 * k) sees))
     → after ≡ take (4 * k) sees ++ (m ++ drop (4 * k + 4 - 4 * k) (drop (4 * k) sees))
-    → (length after ≡ 1024) × ((e : ℕ) → has (rowAt after 4 e) ≡ upd (λ (r : ℕ). has (rowAt sees 4 r)) k (has (rowAt known 4 s)) e)
+    → (length after ≡ 1024) × ((e : ℕ) → rowAt after 4 e ≡ upd (rowAt sees 4) k (rowAt known 4 s) e)
 see-row known sees s k m after long wide here small copied given =
     let room : k * 4 + 4 ≤ length sees = omega arith in
     let from : s * 4 + 4 ≤ length known = omega arith in
@@ -172,10 +172,10 @@ see-row known sees s k m after long wide here small copied given =
     let back : after ≡ giveBack sees 4 k m = given ∙ ap (λ (i : ℕ). take i sees ++ (m ++ drop (i + 4 - i) (drop i sees))) (four k) in (
       ap length back ∙ put .size ∙ wide,
       λ e.
-          ap (λ (l : List ℕ). has (rowAt l 4 e)) back
-          ∙ upd-elim (λ (f : ℕ → Bool). has (rowAt (giveBack sees 4 k m) 4 e) ≡ f) (λ (r : ℕ). has (rowAt sees 4 r)) k (has (rowAt known 4 s)) e
-          (λ q. ap (λ (r : ℕ). has (rowAt (giveBack sees 4 k m) 4 r)) q ∙ ap has (put .same))
-          (λ q. ap has (put .other e q)),
+          ap (λ (l : List ℕ). rowAt l 4 e) back
+          ∙ upd-elim (λ (r : List ℕ). rowAt (giveBack sees 4 k m) 4 e ≡ r) (rowAt sees 4) k (rowAt known 4 s) e
+          (λ q. ap (rowAt (giveBack sees 4 k m) 4) q ∙ put .same)
+          (λ q. put .other e q),
     )
 
 -- ---- cells

@@ -13,7 +13,8 @@ use Rattle.record.specs.Encode.{littleBytes}
 use Rattle.consistency.specs.Reads.{Held, value}
 use Rattle.store.specs.Store.{upd, Cell, empty, full, cellValue, Site, Event, Store}
 use Rattle.store.specs.Calls.{put, get, deliver}
-use Rattle.store.specs.Rules.{ask, reached, refusal, made, afterPut, afterGet, valueOr0, isFound, effect, doneAnswer}
+use Rattle.record.specs.Questions.{ask}
+use Rattle.store.specs.Rules.{reached, refusal, made, afterPut, afterGet, valueOr0, isFound, effect, doneAnswer}
 use Rattle.calls.specs.Mirror.{callOf, cellOf, shownOf, eventOf, siteOf, partOf, withCounts, Made}
 use Rattle.calls.specs.declared.Asked.{Asked}
 use Rattle.calls.specs.declared.Kept.{Kept}
@@ -72,7 +73,7 @@ module _ (c : Asked) (a : Kept) (e : KeptEvent) where
   abbrev enough : Bool
   enough = reached 8 (λ i. getD (e .needs) i 0) (λ i. getD (a .counts) i 0)
 
-  late : (s p k : Bool) (r : ℕ) → c .kind ≡ 3 → r ≡ ask s 32 (ask p 33 (ask k 35 0)) → ask s 32 (ask p 33 (ask k 35 (ask enough 36 0))) ≡ withCounts r c a e
+  late : (s p k : Bool) (r : ℕ) → c .kind ≡ 3 → r ≡ ask s 32 (ask p 33 (ask k 35 0)) → ask {A = ℕ} s 32 (ask p 33 (ask k 35 (ask enough 36 0))) ≡ withCounts r c a e
   late true true true r q i = rw (q, i)
   late true true false r q i = rw (q, i)
   late true false k r q i = rw (q, i)

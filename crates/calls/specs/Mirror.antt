@@ -7,7 +7,8 @@ use lib.ListN.{getD}
 use Rattle.consistency.specs.Reads.{Held, none, value}
 use Rattle.store.specs.Store.{upd, Cell, empty, full, Site, Event, Store}
 use Rattle.store.specs.Calls.{Call, put, get, deliver, malformed}
-use Rattle.store.specs.Rules.{ask, reached, effect, doneAnswer}
+use Rattle.record.specs.Questions.{ask}
+use Rattle.store.specs.Rules.{reached, effect, doneAnswer}
 use Rattle.calls.specs.declared.Asked.{Asked}
 use Rattle.calls.specs.declared.Kept.{Kept}
 use Rattle.calls.specs.declared.KeptCell.{KeptCell}

@@ -6,13 +6,14 @@ ghost use Prim.Native.Nat.{_≤_, _*_, _+_};
 ghost use lib.Dec.{leb, ltb};
 ghost use lib.ListN.{length};
 ghost use Rattle.rows.specs.Row.{has, rowAt};
-ghost use Rattle.store.specs.Rules.{ask, refusal};
+ghost use Rattle.record.specs.Questions.{ask};
+ghost use Rattle.store.specs.Rules.{refusal};
 ghost use Rattle.calls.specs.declared.Kept.{Kept};
 ghost use Rattle.calls.specs.declared.KeptEvent.{KeptEvent};
 ghost use Rattle.calls.specs.Mirror.{callOf, partOf, withCounts};
 
 // Of a put or a get.
-pub fn event_refused(n: usize, count: usize, c: Asked) -> u8
+fn event_refused(n: usize, count: usize, c: Asked) -> u8
     ensures { λ r. ⌜ r ≡ ask (ltb (c .site) n) 32 (ask (leb (c .object) 31) 33 (ask (ltb count 256) 34 0)) ⌝ }
 {
     if n <= c.site as usize {
@@ -28,7 +29,7 @@ pub fn event_refused(n: usize, count: usize, c: Asked) -> u8
 }
 
 // Of a delivery, as far as it is asked without counts: `put` says whether its event is one, and row s of `known` has what site s knows.
-pub fn delivery_refused(n: usize, count: usize, c: Asked, known: &[u64], put: bool) -> u8
+fn delivery_refused(n: usize, count: usize, c: Asked, known: &[u64], put: bool) -> u8
     requires { ⌜ (n ≤ 8) × (count ≤ 256) × (length (now known) ≡ 32) ⌝ }
     ensures { λ r. ⌜ r ≡ ask (ltb (c .site) n) 32 (ask (ltb (c .event) count && put) 33 (ask (not (has (rowAt (now (known .entry)) 4 (c .site)) (c .event))) 35 0)) ⌝ }
 {

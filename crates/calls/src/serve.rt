@@ -17,7 +17,7 @@ ghost use Rattle.store.specs.Rules.{isFound, valueOr0};
 ghost use Rattle.calls.specs.Mirror.{callOf, cellOf, siteOf, shownOf, Made};
 
 // The answer of a done put or get, which found a value where one is present.
-pub fn answer(event: usize, present: bool, value: u32) -> [u8; 8]
+fn answer(event: usize, present: bool, value: u32) -> [u8; 8]
     requires { ⌜ event < 256 ⌝ }
     ensures { λ r. ⌜ r ≡ 0 ∷ isFound (shownOf present value) ∷ (littleBytes 2 event ++ littleBytes 4 (valueOr0 (shownOf present value))) ⌝ }
 {
@@ -42,7 +42,7 @@ pub fn answer(event: usize, present: bool, value: u32) -> [u8; 8]
 }
 
 // A put at site a, which becomes event k.
-pub fn put(k: usize, c: Asked, a: Kept) -> Served
+fn put(k: usize, c: Asked, a: Kept) -> Served
     requires { ⌜ (k < 256) × (c .site < 8) × (a .clock ≤ 256) × ((i : ℕ) → getD (a .counts) i 0 ≤ 256) ⌝ }
     ensures { λ r. ⌜ 8 ≤ r .event .order ⌝ }
     ensures { λ r. ⌜ ((st : Store) (known : ℕ → Bool) → st .count ≡ k → st .site (c .site) ≡ siteOf a known (st .site (c .site) .cell) → Made st (put (c .site) (c .object) (c .value)) (c .site) (c .object) known r) ⌝ }
@@ -70,7 +70,7 @@ pub fn put(k: usize, c: Asked, a: Kept) -> Served
 }
 
 // A get at site a, which becomes event k and finds the cell x.
-pub fn get(k: usize, c: Asked, a: Kept, x: KeptCell) -> Served
+fn get(k: usize, c: Asked, a: Kept, x: KeptCell) -> Served
     requires { ⌜ (k < 256) × (c .site < 8) × (a .clock ≤ 256) ⌝ }
     ensures { λ r. ⌜ 8 ≤ r .event .order ⌝ }
     ensures { λ r. ⌜ ((st : Store) (known : ℕ → Bool) → st .count ≡ k → st .site (c .site) ≡ siteOf a known (st .site (c .site) .cell) → st .site (c .site) .cell (c .object) ≡ cellOf x → Made st (get (c .site) (c .object)) (c .site) (c .object) known r) ⌝ }

@@ -26,7 +26,7 @@ pub fn reaches(counts: [u16; 8], needs: [u16; 8]) -> bool
 }
 
 // Every count is written, not one of them, so that all eight are kept as one.
-pub fn with_held(counts: [u16; 8], j: usize) -> [u16; 8]
+fn with_held(counts: [u16; 8], j: usize) -> [u16; 8]
     requires { ⌜ j < 8 ⌝ }
     requires { ⌜ ((i : ℕ) → getD counts i 0 ≤ 256) ⌝ }
     ensures { λ r. ⌜ (λ (i : ℕ). getD r i 0) ≡ upd (λ (i : ℕ). getD counts i 0) j (suc (getD counts j 0)) ⌝ }
@@ -102,7 +102,7 @@ pub fn see(known: &mut [u64], s: usize, sees: &mut [u64], k: usize)
     requires { ⌜ (length (now known) ≡ 32) × (length (now sees) ≡ 1024) × (s < 8) × (k < 256) ⌝ }
     ensures { λ _. ⌜ (length (now (known .exit)) ≡ 32) × (length (now (sees .exit)) ≡ 1024) ⌝ }
     ensures { λ _. ⌜ ((t : ℕ) → t < 8 → has (rowAt (now (known .exit)) 4 t) ≡ cond (eqb t s) (upd (has (rowAt (now (known .entry)) 4 s)) k true) (has (rowAt (now (known .entry)) 4 t))) ⌝ }
-    ensures { λ _. ⌜ ((e : ℕ) → e < 256 → has (rowAt (now (sees .exit)) 4 e) ≡ cond (eqb e k) (has (rowAt (now (known .entry)) 4 s)) (has (rowAt (now (sees .entry)) 4 e))) ⌝ }
+    ensures { λ _. ⌜ ((e : ℕ) → rowAt (now (sees .exit)) 4 e ≡ cond (eqb e k) (rowAt (now (known .entry)) 4 s) (rowAt (now (sees .entry)) 4 e)) ⌝ }
 {
     let at = 4 * k;
     let from = 4 * s;

@@ -1,40 +1,21 @@
 -- hb is one or more steps, each so or vis; so 10 and 11 say that the ends of every such chain are in vis, or in ar. Assumes nothing.
-use mathlib.Core.Path.{_≡_, refl}
+use mathlib.Core.Path.{_≡_}
 use mathlib.Core.Logic.{_↔_}
 use mathlib.Core.Bool.{true}
 use Prim.Native.Nat.{ℕ, _<_}
-use Rattle.rows.specs.Relation.{Rel, Steps}
-use Rattle.rows.proofs.Tests.{or-elim, or-left, or-right}
+use Rattle.rows.specs.Relation.{Rel}
 use Rattle.rows.proofs.ReachLaws.{reaches-sound, reaches-complete}
 use Rattle.record.specs.History.{History, vis}
-use Rattle.consistency.specs.Relations.{so, ar, step, hb}
-use Rattle.consistency.specs.Predicates.{rule, verdict}
+use Rattle.consistency.specs.Relations.{ar, step, hb, Chain}
+use Rattle.consistency.specs.Predicates.{rule}
 use Rattle.consistency.specs.Holds.{Within, Obeys, Holds}
 use Rattle.consistency.specs.declared.Predicate.the-variants.{CausalVisibility, CausalArbitration}
-use Rattle.consistency.specs.declared.Verdict.the-variants.{Met}
-use Rattle.consistency.proofs.MetIffHolds.{met-holds, within-met}
-
--- one or more steps from a to b, each so or vis
-abbrev pub Chain : History → ℕ → ℕ → Type 0
-Chain h = Steps (h .count) (step h)
 
 -- the ends of every chain are in r
 abbrev pub Chained : History → Rel → Type 0
 Chained h r = (a b : ℕ) → a < h .count → b < h .count → Chain h a b → r a b ≡ true
 
 module _ (h : History) where
-  pub step-cases : {C : Type 0} (a b : ℕ) → step h a b ≡ true → (so h a b ≡ true → C) → (vis h a b ≡ true → C) → C
-  unfolding step
-  step-cases a b e f g = or-elim (so h a b) (vis h a b) e f g
-
-  pub so-step : (a b : ℕ) → so h a b ≡ true → step h a b ≡ true
-  unfolding step
-  so-step a b e = or-left (so h a b) (vis h a b) e
-
-  pub vis-step : (a b : ℕ) → vis h a b ≡ true → step h a b ≡ true
-  unfolding step
-  vis-step a b e = or-right (so h a b) (vis h a b) e
-
   pub hb-chain : (a b : ℕ) → hb h a b ≡ true → Chain h a b
   unfolding hb
   hb-chain a b e = reaches-sound (h .count) (step h) a b e
@@ -59,13 +40,3 @@ module _ (h : History) where
   pub arbitration-iff : Holds CausalArbitration h ↔ Chained h (ar h)
   unfolding Holds Obeys rule
   arbitration-iff = (within-chained (ar h), chained-within (ar h))
-
-  pub visibility-met-iff : (verdict CausalVisibility h ≡ Met) ↔ Chained h (vis h)
-  unfolding rule
-  visibility-met-iff =
-      (λ e. visibility-iff .0 (met-holds CausalVisibility h e), λ c. within-met CausalVisibility h (hb h) (vis h) refl (chained-within (vis h) c))
-
-  pub arbitration-met-iff : (verdict CausalArbitration h ≡ Met) ↔ Chained h (ar h)
-  unfolding rule
-  arbitration-met-iff =
-      (λ e. arbitration-iff .0 (met-holds CausalArbitration h e), λ c. within-met CausalArbitration h (hb h) (ar h) refl (chained-within (ar h) c))

@@ -11,7 +11,7 @@ use Rattle.rows.proofs.Tests.{split, tell}
 use Rattle.record.specs.History.{History}
 use Rattle.consistency.specs.Relations.{ar}
 use Rattle.consistency.specs.Reads.{value, candidate, later, lastBelow, lastWrite, held, leftBy, expected, lastOr}
-use Rattle.consistency.specs.Holds.{RightRead, sees-none, sees-last, Distinct}
+use Rattle.consistency.specs.Holds.{RightRead, sees-none, sees-last, DistinctPositions}
 use Rattle.consistency.specs.declared.Last.{Last}
 use Rattle.consistency.specs.declared.Last.the-variants.{Nothing, At}
 
@@ -113,7 +113,7 @@ module _ (h : History) (e : ℕ) where
       go (At w) s q = sees-last (record { below = s .below; seen = s .seen; last = s .last }) q
 
   -- and the other way, where no two events have one position: then the last write is the only one
-  pub right-expected : Distinct h → RightRead h e → held h e ≡ expected h e
+  pub right-expected : DistinctPositions h → RightRead h e → held h e ≡ expected h e
   unfolding expected
   right-expected d r = go (lastWrite h e) write-says r
     where

@@ -14,7 +14,7 @@ use Rattle.record.specs.History.{History}
 use Rattle.consistency.specs.Relations.{read}
 use Rattle.consistency.specs.Reads.{Held, none, value, sameHeld, held, expected, lastWrite, lastOr, wrongRead, wrong}
 use Rattle.consistency.specs.Predicates.{Rule, last-value, _within_, _fits_, rule, outside, excused, differ, misfit, breaks, verdict}
-use Rattle.consistency.specs.Holds.{Within, Fits, RightReads, Distinct, Obeys, Holds}
+use Rattle.consistency.specs.Holds.{Within, Fits, RightReads, DistinctPositions, Obeys, Holds}
 use Rattle.consistency.specs.declared.Predicate.{Predicate}
 use Rattle.consistency.specs.declared.Verdict.{Verdict}
 use Rattle.consistency.specs.declared.Verdict.the-variants.{Met, Broken}
@@ -82,13 +82,13 @@ fits-none h q r o a b i j =
 
 -- ---- 1: each returned read is right
 
-same-held : (x y : Held) → sameHeld x y ≡ true → x ≡ y
+pub same-held : (x y : Held) → sameHeld x y ≡ true → x ≡ y
 same-held none none e = refl
 same-held none (value y) e = absurd (false≢true e)
 same-held (value x) none e = absurd (false≢true e)
 same-held (value x) (value y) e = ap value (eqb-true x y e)
 
-held-same : (x y : Held) → x ≡ y → sameHeld x y ≡ true
+pub held-same : (x y : Held) → x ≡ y → sameHeld x y ≡ true
 held-same none y e = ap (sameHeld none) (sym e)
 held-same (value x) y e = ap (sameHeld (value x)) (sym e) ∙ eq-eqb x x refl
 
@@ -103,7 +103,7 @@ module _ (h : History) where
       (implied (read h e && not (h .isPending e)) (sameHeld (held h e) (expected h e)) right
       (and-both (read h e) (not (h .isPending e)) r (not-of (h .isPending e) q))))
 
-  pub right-none : Distinct h → RightReads h → None (h .count) (wrong h)
+  pub right-none : DistinctPositions h → RightReads h → None (h .count) (wrong h)
   unfolding wrong wrongRead
   right-none d r e b i j =
       ap (λ (t : Bool). t && eqb b (lastOr e (lastWrite h e)))
@@ -119,7 +119,7 @@ module _ (h : History) where
   none-obeys (q within r) n = none-within (h .count) q r n
   none-obeys (q fits r) n = none-fits h q r n
 
-  pub obeys-none : Distinct h → (u : Rule) → Obeys h u → None (h .count) (breaks h u)
+  pub obeys-none : DistinctPositions h → (u : Rule) → Obeys h u → None (h .count) (breaks h u)
   unfolding breaks Obeys
   obeys-none d last-value o = right-none d o
   obeys-none d (q within r) o = within-none (h .count) q r o
@@ -141,11 +141,11 @@ module _ (p : Predicate) (h : History) where
   unfolding Holds
   met-holds e = none-obeys h (rule p h) (verdict-says Met e)
 
-  pub holds-met : Distinct h → Holds p h → verdict p h ≡ Met
+  pub holds-met : DistinctPositions h → Holds p h → verdict p h ≡ Met
   unfolding Holds
   holds-met d o = verdict-is Met (obeys-none h d (rule p h) o)
 
-  pub met-iff-holds : Distinct h → (verdict p h ≡ Met) ↔ Holds p h
+  pub met-iff-holds : DistinctPositions h → (verdict p h ≡ Met) ↔ Holds p h
   met-iff-holds d = (met-holds, holds-met d)
 
   -- an inclusion is met with any positions

@@ -15,7 +15,7 @@ use Rattle.consistency.specs.FirstPair.{first}
 use Rattle.consistency.specs.Relations.{rb, ss, ob, so, ar, step, hb, read, from, to, both, through}
 use Rattle.consistency.specs.Reads.{none, value, candidate, later, lastBelow, lastWrite, sameHeld, held, leftBy, expected, wrongRead, lastOr, wrong}
 use Rattle.consistency.specs.Predicates.{Rule, last-value, _within_, _fits_, rule, differ, breaks, verdict, numbered}
-use Rattle.consistency.specs.Models.{listOf, orElse, firstBroken, outcome}
+use Rattle.consistency.specs.Models.{orElse, firstBroken}
 use Rattle.consistency.specs.declared.Last.{Last}
 use Rattle.consistency.specs.declared.Last.the-variants.{Nothing, At}
 use Rattle.consistency.specs.declared.Predicate.{Predicate}
@@ -178,7 +178,3 @@ module _ (h k : History) (s : Agree h k) where
   unfolding firstBroken
   firstBroken-same [] = refl
   firstBroken-same (p ∷ ps) = ap₂ (orElse p) (verdict-same (numbered p)) (firstBroken-same ps)
-
-  pub outcome-same : (m : ℕ) → outcome m h ≡ outcome m k
-  unfolding outcome
-  outcome-same m = firstBroken-same (listOf m)

@@ -4,8 +4,8 @@ use mathlib.Core.Bool.{Bool, true, false, not, _&&_}
 use Prim.Native.Nat.{ℕ, _<_, _≤_}
 use Rattle.rows.specs.Relation.{Rel}
 use Rattle.record.specs.History.{History}
-use Rattle.consistency.specs.Relations.{ar, read}
-use Rattle.consistency.specs.Reads.{Held, none, value, candidate, held}
+use Rattle.consistency.specs.Relations.{read}
+use Rattle.consistency.specs.Reads.{none, value, candidate, held}
 use Rattle.consistency.specs.Predicates.{Rule, last-value, _within_, _fits_, rule}
 use Rattle.consistency.specs.declared.Predicate.{Predicate}
 
@@ -34,8 +34,8 @@ abbrev pub RightReads : History → Type 0
 RightReads h = (e : ℕ) → e < h .count → read h e ≡ true → h .isPending e ≡ false → RightRead h e
 
 -- positions are distinct, as question 8 asks
-abbrev pub Distinct : History → Type 0
-Distinct h = (a b : ℕ) → a < h .count → b < h .count → h .position a ≡ h .position b → a ≡ b
+abbrev pub DistinctPositions : History → Type 0
+DistinctPositions h = (a b : ℕ) → a < h .count → b < h .count → h .position a ≡ h .position b → a ≡ b
 
 unfoldable pub Obeys : History → Rule → Type 0
 Obeys h last-value = RightReads h

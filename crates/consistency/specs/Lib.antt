@@ -4,4 +4,5 @@ pub mod Relations
 pub mod Reads
 pub mod Predicates
 pub mod Holds
+pub mod Breaks
 pub mod Models

@@ -1,4 +1,4 @@
--- 'Models': the table of models to their predicates, and the verdict of a model.
+-- 'Models': the table of models to their predicates, and the first broken predicate of a list.
 use mathlib.Core.List.{List, [], _∷_}
 use Prim.Native.Nat.{ℕ, _-_}
 use lib.ListN.{getD}
@@ -41,6 +41,3 @@ orElse p (Broken a b) next = BrokenAt p a b
 unfoldable pub firstBroken : List ℕ → History → Outcome
 firstBroken [] h = AllMet
 firstBroken (p ∷ ps) h = orElse p (verdict (numbered p) h) (firstBroken ps h)
-
-unfoldable pub outcome : ℕ → History → Outcome
-outcome m h = firstBroken (listOf m) h

@@ -3,7 +3,7 @@ use mathlib.Core.Bool.{Bool, false, not, cond, _&&_, _||_}
 use Prim.Native.Nat.{ℕ}
 use lib.Dec.{ltb, eqb}
 use Rattle.rows.specs.Lowest.{some}
-use Rattle.rows.specs.Relation.{Rel, reaches}
+use Rattle.rows.specs.Relation.{Rel, reaches, Steps}
 use Rattle.record.specs.History.{History, vis}
 
 -- rb: a returned before b. A pending event returned before nothing
@@ -31,6 +31,10 @@ step h a b = so h a b || vis h a b
 
 unfoldable pub hb : History → Rel
 hb h = reaches (h .count) (step h)
+
+-- the same as an inductive relation
+abbrev pub Chain : History → ℕ → ℕ → Type 0
+Chain h = Steps (h .count) (step h)
 
 abbrev pub write : History → ℕ → Bool
 write h e = h .isWrite e

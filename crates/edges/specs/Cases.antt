@@ -1,40 +1,40 @@
--- The table: a record, or a script, with a question and its answer.
+-- The table: a history, a record's bytes, or a script, with a question and its answer.
 use mathlib.Core.Bool.{Bool, true, _&&_}
 use mathlib.Core.List.{List, [], _∷_, _++_}
 use Prim.Native.Nat.{ℕ, _+_, _*_}
 use lib.Dec.{eqb}
-use lib.ListN.{getD}
+use lib.ListN.{drop, take}
 use Rattle.rows.specs.Octets.{little}
-use Rattle.record.specs.Layout.{gcr1}
-use Rattle.record.specs.History.{History, vis}
-use Rattle.record.specs.Questions.{setQuestions, packed}
+use Rattle.record.specs.Layout.{gcr1, same}
+use Rattle.record.specs.History.{History}
 use Rattle.record.specs.Encode.{recordBytes}
 use Rattle.consistency.specs.Reads.{none, value}
 use Rattle.consistency.specs.Predicates.{numbered, verdict}
-use Rattle.judge.specs.Judgments.{packedVerdict}
+use Rattle.judge.specs.Judgments.{predicateJudgment, packedJudgment, packedJudgments}
+use Rattle.judge.specs.Lists.{packedVerdict}
 use Rattle.store.specs.Store.{fresh}
 use Rattle.store.specs.Calls.{callsOf}
 use Rattle.store.specs.Rules.{answers}
-use Rattle.store.specs.Recorded.{recorded}
-use Rattle.store.specs.Rehearsal.{storeAfter}
-use Rattle.edges.specs.Events.{Event, event, reading, writing, returned, pending, historyOfEvents}
+use Rattle.store.specs.Rehearsal.{recordOf}
+use Rattle.edges.specs.Events.{event, aRead, aWrite, returned, pending, historyOfEvents}
 
 pub data Case : Type 0 where
   -- the check sums A and B of a one-block record
   checked : (s : List ℕ) (a b : ℕ) → Case
   -- a predicate's verdict on a history, as the host's number
-  judged : (h : History) (predicate answer : ℕ) → Case
-  -- questions 9 and 10 of a history, as the host's number
-  asked : (h : History) (answer : ℕ) → Case
-  -- the number, and the value, in the answer of call k of a script
-  answered : (sites : ℕ) (script : List ℕ) (k number v : ℕ) → Case
+  decided : (h : History) (predicate answer : ℕ) → Case
+  -- what a judging call answers of a record's bytes, all questions asked, as the host's number: for a predicate, and for all thirteen
+  ruled : (s : List ℕ) (predicate answer : ℕ) → Case
+  thirteen : (s : List ℕ) (numbers : List ℕ) → Case
+  -- the answer of call k of a script, all eight bytes
+  answered : (sites : ℕ) (script : List ℕ) (k : ℕ) (answer : List ℕ) → Case
 
 unfoldable pub right : Case → Bool
 right (checked s a b) = eqb (little 2 s 508) a && eqb (little 2 s 510) b
-right (judged h p answer) = eqb (packedVerdict (verdict (numbered p) h)) answer
-right (asked h answer) = eqb (packed (setQuestions gcr1 (h .count) (vis h))) answer
-right (answered n script k number v) =
-    eqb (getD (answers n fresh (callsOf script)) (8 * k) 0) number && eqb (little 4 (answers n fresh (callsOf script)) (8 * k + 4)) v
+right (decided h p answer) = eqb (packedVerdict (verdict (numbered p) h)) answer
+right (ruled s p answer) = eqb (packedJudgment (predicateJudgment gcr1 1024 p s)) answer
+right (thirteen s numbers) = same (packedJudgments gcr1 1024 13 s) numbers
+right (answered n script k answer) = same (take 8 (drop (8 * k) (answers n fresh (callsOf script)))) answer
 
 unfoldable pub allRight : List Case → Bool
 allRight [] = true
@@ -50,11 +50,6 @@ broken a b = 1048576 + 1024 * a + b
 abbrev refused : ℕ → ℕ → ℕ
 refused number place = 2097152 + 1024 * number + place
 
--- the verdicts of the predicates from number k on, of one history
-unfoldable pub judgedFrom : ℕ → History → List ℕ → List Case
-judgedFrom k h [] = []
-judgedFrom k h (a ∷ rest) = judged h k a ∷ judgedFrom (k + 1) h rest
-
 -- ---- empty record, one site
 
 abbrev noEvents : History
@@ -65,8 +60,8 @@ noEvents = historyOfEvents []
 abbrev afterFive : ℕ → History
 afterFive t =
     historyOfEvents
-    (event writing 0 0 (value 1) 1 (returned 0 5) []
-    ∷ event writing 1 0 (value 2) 0 (returned t 9) []
+    (event aWrite 0 0 (value 1) 1 (returned 0 5) []
+    ∷ event aWrite 1 0 (value 2) 0 (returned t 9) []
     ∷ [])
 
 -- ---- a pending write with two later ar events, the second of which sees l
@@ -74,9 +69,9 @@ afterFive t =
 abbrev pendingWrite : List ℕ → History
 pendingWrite l =
     historyOfEvents
-    (event writing 0 0 (value 1) 0 (pending 0) []
-    ∷ event writing 1 0 (value 2) 1 (returned 1 2) []
-    ∷ event writing 1 0 (value 3) 2 (returned 3 4) l
+    (event aWrite 0 0 (value 1) 0 (pending 0) []
+    ∷ event aWrite 1 0 (value 2) 1 (returned 1 2) []
+    ∷ event aWrite 1 0 (value 3) 2 (returned 3 4) l
     ∷ [])
 
 -- ---- two events seeing each other
@@ -84,26 +79,31 @@ pendingWrite l =
 abbrev ring : History
 ring =
     historyOfEvents
-    (event writing 0 0 (value 1) 0 (returned 0 1) (1 ∷ [])
-    ∷ event writing 1 0 (value 2) 1 (returned 0 1) (0 ∷ [])
+    (event aWrite 0 0 (value 1) 0 (returned 0 1) (1 ∷ [])
+    ∷ event aWrite 1 0 (value 2) 1 (returned 0 1) (0 ∷ [])
     ∷ [])
 
 -- ---- a read with no visible write
 
 abbrev loneRead : History
-loneRead = historyOfEvents (event reading 0 0 none 0 (returned 0 1) [] ∷ [])
+loneRead = historyOfEvents (event aRead 0 0 none 0 (returned 0 1) [] ∷ [])
 
+-- event 1 holds 0 and sees no write: event 0 writes 0 there, and it is not seen
 abbrev loneReadOf0 : History
-loneReadOf0 = historyOfEvents (event reading 0 0 (value 0) 0 (returned 0 1) [] ∷ [])
+loneReadOf0 =
+    historyOfEvents
+    (event aWrite 0 0 (value 0) 0 (returned 0 1) []
+    ∷ event aRead 1 0 (value 0) 1 (returned 0 1) []
+    ∷ [])
 
 -- ---- write 0; reads 1, 2 at another site; 1 sees 0, 2 sees only 1
 
 abbrev forgetful : History
 forgetful =
     historyOfEvents
-    (event writing 0 0 (value 7) 0 (returned 0 1) []
-    ∷ event reading 1 0 (value 7) 1 (returned 2 3) (0 ∷ [])
-    ∷ event reading 1 0 none 2 (returned 4 5) (1 ∷ [])
+    (event aWrite 0 0 (value 7) 0 (returned 0 1) []
+    ∷ event aRead 1 0 (value 7) 1 (returned 2 3) (0 ∷ [])
+    ∷ event aRead 1 0 none 2 (returned 4 5) (1 ∷ [])
     ∷ [])
 
 -- ---- 0 so 1 while 0 sees 1
@@ -111,8 +111,8 @@ forgetful =
 abbrev foresight : History
 foresight =
     historyOfEvents
-    (event writing 0 0 (value 1) 0 (returned 0 1) (1 ∷ [])
-    ∷ event writing 0 0 (value 2) 1 (returned 2 3) []
+    (event aWrite 0 0 (value 1) 0 (returned 0 1) (1 ∷ [])
+    ∷ event aWrite 0 0 (value 2) 1 (returned 2 3) []
     ∷ [])
 
 -- ---- calls
@@ -139,24 +139,56 @@ outOfTurn = putCall 0 0 1 (deliverCall 0 1 (putCall 1 0 2 (deliverCall 1 2 [])))
 abbrev twice : List ℕ
 twice = putCall 0 0 1 (deliverCall 0 1 (deliverCall 0 1 []))
 
-abbrev pub edges : List Case
-edges =
+-- answers: refused, a done delivery, a done put, and a get that found a value, as the event that it became
+abbrev noCall : ℕ → List ℕ
+noCall number = number ∷ 0 ∷ 0 ∷ 0 ∷ 0 ∷ 0 ∷ 0 ∷ 0 ∷ []
+
+abbrev delivered : List ℕ
+delivered = noCall 0
+
+abbrev putDone : ℕ → List ℕ
+putDone e = 0 ∷ 0 ∷ e ∷ 0 ∷ 0 ∷ 0 ∷ 0 ∷ 0 ∷ []
+
+abbrev found : ℕ → ℕ → List ℕ
+found e v = 0 ∷ 1 ∷ e ∷ 0 ∷ v ∷ 0 ∷ 0 ∷ 0 ∷ []
+
+abbrev pub ofEmpty : List Case
+ofEmpty =
     checked (recordBytes gcr1 1 noEvents) 29851 34610
-    ∷ judged (afterFive 5) 3 met
-    ∷ judged (afterFive 6) 3 (broken 0 1)
-    ∷ judged (pendingWrite (1 ∷ [])) 2 met
-    ∷ judged (pendingWrite (0 ∷ 1 ∷ [])) 2 (broken 0 1)
-    ∷ asked ring (refused 10 0)
-    ∷ judged loneRead 1 met
-    ∷ judged loneReadOf0 1 (broken 0 0)
-    ∷ judged forgetful 9 met
-    ∷ judged forgetful 5 (broken 0 2)
-    ∷ judged foresight 10 (broken 0 0)
-    ∷ answered 2 listing 3 0 200
-    ∷ answered 2 listing 4 0 100
-    ∷ answered 2 listing 6 0 200
-    ∷ answered 3 outOfTurn 3 36 0
-    ∷ answered 2 twice 2 35 0
-    ∷ judgedFrom 1 noEvents (met ∷ met ∷ met ∷ met ∷ met ∷ met ∷ met ∷ met ∷ met ∷ met ∷ met ∷ met ∷ met ∷ [])
-    ++ judgedFrom 1 (recorded (storeAfter 2 listing))
-    (met ∷ broken 0 1 ∷ broken 2 3 ∷ met ∷ met ∷ met ∷ met ∷ met ∷ met ∷ met ∷ met ∷ met ∷ broken 0 1 ∷ [])
+    ∷ thirteen (recordBytes gcr1 1 noEvents) (met ∷ met ∷ met ∷ met ∷ met ∷ met ∷ met ∷ met ∷ met ∷ met ∷ met ∷ met ∷ met ∷ [])
+    ∷ []
+
+abbrev pub ofRing : List Case
+ofRing = ruled (recordBytes gcr1 2 ring) 1 (refused 10 0) ∷ []
+
+abbrev pub ofHistories : List Case
+ofHistories =
+    decided (afterFive 5) 3 met
+    ∷ decided (afterFive 6) 3 (broken 0 1)
+    ∷ decided (pendingWrite (1 ∷ [])) 2 met
+    ∷ decided (pendingWrite (0 ∷ 1 ∷ [])) 2 (broken 0 1)
+    ∷ decided loneRead 1 met
+    ∷ decided loneReadOf0 1 (broken 1 1)
+    ∷ decided forgetful 9 met
+    ∷ decided forgetful 5 (broken 0 2)
+    ∷ decided foresight 10 (broken 0 0)
+    ∷ []
+
+abbrev pub ofListing : List Case
+ofListing =
+    thirteen (recordOf 2 listing) (met ∷ broken 0 1 ∷ broken 2 3 ∷ met ∷ met ∷ met ∷ met ∷ met ∷ met ∷ met ∷ met ∷ met ∷ broken 0 1 ∷ [])
+    ∷ answered 2 listing 0 (putDone 0)
+    ∷ answered 2 listing 1 (putDone 1)
+    ∷ answered 2 listing 2 delivered
+    ∷ answered 2 listing 3 (found 2 200)
+    ∷ answered 2 listing 4 (found 3 100)
+    ∷ answered 2 listing 5 delivered
+    ∷ answered 2 listing 6 (found 4 200)
+    ∷ []
+
+abbrev pub ofDeliveries : List Case
+ofDeliveries = answered 3 outOfTurn 3 (noCall 36) ∷ answered 2 twice 1 delivered ∷ answered 2 twice 2 (noCall 35) ∷ []
+
+-- the table, in parts that the checker computes one by one
+abbrev pub edges : List Case
+edges = ofEmpty ++ (ofRing ++ (ofHistories ++ (ofListing ++ ofDeliveries)))

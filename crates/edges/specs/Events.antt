@@ -1,7 +1,7 @@
 -- Tiny histories, written event by event.
-use mathlib.Core.Bool.{Bool, true, false, cond, _||_}
+use mathlib.Core.Bool.{Bool, true, false, _||_}
 use mathlib.Core.List.{List, [], _∷_}
-use Prim.Native.Nat.{ℕ, _+_, _*_}
+use Prim.Native.Nat.{ℕ}
 use lib.Dec.{eqb}
 use lib.ListN.{length, getD}
 use Rattle.record.specs.History.{History}
@@ -10,14 +10,14 @@ use Rattle.store.specs.Rules.{valueOr0}
 use Rattle.store.specs.Recorded.{isValue}
 
 pub data Kind : Type 0 where
-  reading : Kind
-  writing : Kind
+  aRead : Kind
+  aWrite : Kind
 
 pub data Time : Type 0 where
   returned : (start return : ℕ) → Time
   pending : (start : ℕ) → Time
 
-pub record Event : Type 0 where
+pub record Noted : Type 0 where
   pub kind : Kind
   pub site : ℕ
   pub object : ℕ
@@ -27,12 +27,12 @@ pub record Event : Type 0 where
   pub sees : List ℕ
 
 -- kind, site, object, value or none, ar position, times, visible events
-abbrev pub event : Kind → ℕ → ℕ → Held → ℕ → Time → List ℕ → Event
+abbrev pub event : Kind → ℕ → ℕ → Held → ℕ → Time → List ℕ → Noted
 event k s o v p t l = record { kind = k; site = s; object = o; shown = v; position = p; time = t; sees = l }
 
 abbrev pub isWriting : Kind → Bool
-isWriting reading = false
-isWriting writing = true
+isWriting aRead = false
+isWriting aWrite = true
 
 abbrev pub isPending : Time → Bool
 isPending (returned s r) = false
@@ -50,10 +50,10 @@ unfoldable pub member : List ℕ → ℕ → Bool
 member [] b = false
 member (x ∷ l) b = eqb x b || member l b
 
-abbrev pub nothing : Event
-nothing = event reading 0 0 none 0 (returned 0 0) []
+abbrev pub nothing : Noted
+nothing = event aRead 0 0 none 0 (returned 0 0) []
 
-unfoldable pub historyOfEvents : List Event → History
+unfoldable pub historyOfEvents : List Noted → History
 historyOfEvents es = record {
   count = length es;
   isWrite = λ e. isWriting (getD es e nothing .kind);

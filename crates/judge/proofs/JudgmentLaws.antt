@@ -5,21 +5,24 @@ use mathlib.Core.Bool.{Bool, true, false}
 use mathlib.Core.List.{List, [], _∷_, _++_}
 use Prim.Native.Nat.{ℕ, zero, suc, _+_, _*_, _^_, _<_, _≤_, min}
 use native.Mathlib.Omega.{arith}
-use borrow.Author.Tests.{eq-eqb, ne-eqb, eqb-true, le-leb, lt-leb, ltb-true, ltb-false}
+use borrow.Author.Tests.{eq-eqb, ne-eqb, eqb-true, le-leb, lt-leb, leb-true, leb-false, ltb-true, ltb-false}
 use lib.Dec.{eqb, leb, ltb}
 use lib.ListN.{length, getD, take, drop, replicate, length-take, drop-of-length-le}
 use lib.Seq.{take-all}
+use native.Mathlib.Numerals.{add-one}
 use Rattle.rows.proofs.Tests.{split}
+use Rattle.rows.proofs.FrontLaws.{replicate-more}
 use Rattle.record.specs.Layout.{gcr1, countIn}
 use Rattle.record.specs.History.{History, historyOf, Agree}
 use Rattle.record.specs.Questions.{numberOf, placeOf, questions, reading}
 use Rattle.record.specs.declared.Reading.{Reading}
 use Rattle.record.specs.declared.Reading.the-variants.{Passed, ShortWork}
-use Rattle.record.proofs.QuestionsAnswered.{number-most, place-small, passed-count}
+use Rattle.record.proofs.QuestionLaws.{reading-short, reading-long}
+use Rattle.record.proofs.QuestionsAnswered.{number-passed, number-most, place-small, passed-count}
 use Rattle.consistency.specs.Predicates.{breaks, rule, numbered, verdict}
 use Rattle.consistency.specs.Models.{listOf, orElse, firstBroken}
-use Rattle.judge.specs.Judgments.{isNumber, pick, judgedList, judged, predicateJudgment, modelJudgment, packed, packedVerdict, packedVerdicts, verdictsOf, over, outAfter}
-use Rattle.judge.specs.Lists.{upToZero, Numbers}
+use Rattle.judge.specs.Judgments.{isNumber, pick, judgedList, judged, predicateJudgment, modelJudgment, packedJudgment, packedJudgments, laidOver}
+use Rattle.judge.specs.Lists.{upToZero, Numbers, packedVerdict, packedVerdicts}
 use Rattle.consistency.specs.declared.Verdict.{Verdict}
 use Rattle.consistency.specs.declared.Verdict.the-variants.{Met, Broken}
 use Rattle.consistency.specs.declared.Outcome.{Outcome}
@@ -28,8 +31,7 @@ use Rattle.judge.specs.declared.Judgment.{Judgment}
 use Rattle.judge.specs.declared.Judgment.the-variants.{Judged, NoSuchNumber, Refused}
 use Rattle.consistency.proofs.FirstPairLaws.{Says, first-says}
 use Rattle.consistency.proofs.SameVerdict.{verdict-same}
-use Rattle.judge.proofs.Packing.{Fitting}
-use Rattle.judge.proofs.RecordLaws.{number-passed}
+use Rattle.judge.proofs.ReadsBack.{Fitting}
 
 -- ---- questions 3 to 10, and then a list
 
@@ -85,46 +87,79 @@ packed-same h k s zero = refl
 packed-same h k s (suc m) =
     ap₂ (λ (l : List ℕ) (v : Verdict). l ++ (packedVerdict v ∷ [])) (packed-same h k s m) (verdict-same h k s (numbered (m + 1)))
 
-pub verdicts-refused : (r : Reading) (s : List ℕ) → numberOf r ≢ 0 → replicate 13 0 ≡ verdictsOf gcr1 r s
-unfolding verdictsOf
-verdicts-refused r s f = rw (ne-eqb (numberOf r) 0 f)
+-- the number of a verdict is that of a list of one
+verdict-packed : (p : ℕ) (v : Verdict) → packedVerdict v ≡ packedJudgment (Judged (orElse p v AllMet))
+verdict-packed p Met = refl
+verdict-packed p (Broken a b) = refl
 
-pub verdicts-judged : (r : Reading) (s l : List ℕ) → numberOf r ≡ 0 → l ≡ packedVerdicts 13 (historyOf gcr1 s) → l ≡ verdictsOf gcr1 r s
-unfolding verdictsOf
-verdicts-judged r s l z e = rw (eq-eqb (numberOf r) 0 z) e
+module _ (words : ℕ) (s : List ℕ) (r : Reading) (asked : r ≡ reading gcr1 words s) where
+  -- a record that is not read has the same judgment for every number
+  predicate-refused : numberOf r ≢ 0 → (p : ℕ) → 1 ≤ p → p ≤ 13 → predicateJudgment gcr1 words p s ≡ Refused r
+  unfolding predicateJudgment
+  predicate-refused f p i j = split (leb 1024 words) long short
+    where
+      short : leb 1024 words ≡ false → judged gcr1 words p s (p ∷ []) ≡ Refused r
+      short t =
+          let l = leb-false 1024 words t in
+          sym (judged-short words p s (p ∷ []) l) ∙ ap Refused (sym (asked ∙ reading-short gcr1 words s l))
+
+      long : leb 1024 words ≡ true → judged gcr1 words p s (p ∷ []) ≡ Refused r
+      long t =
+          let l = leb-true 1024 words t in
+          sym (list-refused s (p ∷ []) r (asked ∙ reading-long gcr1 words s l) f ∙ judged-list words p s (p ∷ []) l i j)
+
+  pub judgments-refused : numberOf r ≢ 0 → (k : ℕ) → k ≤ 13 → replicate k (packedJudgment (Refused r)) ≡ packedJudgments gcr1 words k s
+  unfolding packedJudgments
+  judgments-refused f zero l = refl
+  judgments-refused f (suc k) l =
+      let x : ℕ = packedJudgment (Refused r) in
+      ap (λ (j : ℕ). replicate j x) (sym (add-one k)) ∙ replicate-more k x
+      ∙ ap₂ (λ (m : List ℕ) (j : Judgment). m ++ (packedJudgment j ∷ [])) (judgments-refused f k (omega arith)) (sym (predicate-refused f (k + 1) (omega arith) (omega arith)))
+
+  predicate-judged : numberOf r ≡ 0 → (p : ℕ) → 1 ≤ p → p ≤ 13 → predicateJudgment gcr1 words p s ≡ Judged (firstBroken (p ∷ []) (historyOf gcr1 s))
+  unfolding predicateJudgment
+  predicate-judged z p i j = split (leb 1024 words) long short
+    where
+      short : leb 1024 words ≡ false → judged gcr1 words p s (p ∷ []) ≡ Judged (firstBroken (p ∷ []) (historyOf gcr1 s))
+      short t = absurd (omega (arith, z, ap numberOf (asked ∙ reading-short gcr1 words s (leb-false 1024 words t))))
+
+      long : leb 1024 words ≡ true → judged gcr1 words p s (p ∷ []) ≡ Judged (firstBroken (p ∷ []) (historyOf gcr1 s))
+      long t =
+          let l = leb-true 1024 words t in
+          sym (list-judged s (p ∷ []) r (asked ∙ reading-long gcr1 words s l) z (firstBroken (p ∷ []) (historyOf gcr1 s)) refl ∙ judged-list words p s (p ∷ []) l i j)
+
+  pub judgments-judged : numberOf r ≡ 0 → (k : ℕ) → k ≤ 13 → packedVerdicts k (historyOf gcr1 s) ≡ packedJudgments gcr1 words k s
+  unfolding packedVerdicts packedJudgments firstBroken
+  judgments-judged z zero l = refl
+  judgments-judged z (suc k) l =
+      let v : Verdict = verdict (numbered (k + 1)) (historyOf gcr1 s) in
+      ap₂ (λ (m : List ℕ) (x : ℕ). m ++ (x ∷ [])) (judgments-judged z k (omega arith))
+      (verdict-packed (k + 1) v ∙ ap packedJudgment (sym (predicate-judged z (k + 1) (omega arith) (omega arith))))
 
 -- ---- a host's buffer
 
 -- the first n of vs are copied, for the lesser n of the two lengths
-pub over-front : (vs out : List ℕ) (n : ℕ) → n ≡ min (length vs) (length out) → take n vs ++ drop (length (take n vs)) out ≡ over vs out
+pub over-front : (vs out : List ℕ) (n : ℕ) → n ≡ min (length vs) (length out) → take n vs ++ drop (length (take n vs)) out ≡ laidOver vs out
 over-front vs out n e = split (ltb (length out) (length vs)) short long
   where
-    short : ltb (length out) (length vs) ≡ true → take n vs ++ drop (length (take n vs)) out ≡ over vs out
+    short : ltb (length out) (length vs) ≡ true → take n vs ++ drop (length (take n vs)) out ≡ laidOver vs out
     short t =
         let l = ltb-true (length out) (length vs) t in
         let q : n ≡ length out = omega arith in
         ap₂ _++_ (ap (λ (k : ℕ). take k vs) q) (drop-of-length-le out {i = length (take n vs)} (omega (arith, length-take n vs)) ∙ sym (drop-of-length-le out {i = length vs} (omega arith)))
 
-    long : ltb (length out) (length vs) ≡ false → take n vs ++ drop (length (take n vs)) out ≡ over vs out
+    long : ltb (length out) (length vs) ≡ false → take n vs ++ drop (length (take n vs)) out ≡ laidOver vs out
     long t =
         let l = ltb-false (length out) (length vs) t in
         let q : length (take n vs) ≡ length vs = omega (arith, length-take n vs) in
         ap₂ _++_ (take-all n vs (omega arith) ∙ sym (take-all (length out) vs l)) (ap (λ (k : ℕ). drop k out) q)
 
-pub out-refused : (r : Reading) (s out : List ℕ) → numberOf r ≢ 0 → out ≡ outAfter gcr1 r s out
-unfolding outAfter
-out-refused r s out f = rw (ne-eqb (numberOf r) 0 f)
-
-pub out-judged : (r : Reading) (s out vs : List ℕ) → numberOf r ≡ 0 → vs ≡ verdictsOf gcr1 r s → over vs out ≡ outAfter gcr1 r s out
-unfolding verdictsOf outAfter
-out-judged r s out vs z e = rw (e, eq-eqb (numberOf r) 0 z)
-
 -- ---- the host's number of a judgment that code takes apart
 
-pub packed-broken : (j : Judgment) (o : Outcome) (p a b : ℕ) → j ≡ Judged o → o ≡ BrokenAt p a b → packed j ≡ 1048576 + 1024 * a + b
+pub packed-broken : (j : Judgment) (o : Outcome) (p a b : ℕ) → j ≡ Judged o → o ≡ BrokenAt p a b → packedJudgment j ≡ 1048576 + 1024 * a + b
 packed-broken j o p a b e f = rw (e, f)
 
-pub packed-refused : (j : Judgment) (r : Reading) → j ≡ Refused r → packed j ≡ 2097152 + 1024 * numberOf r + placeOf r
+pub packed-refused : (j : Judgment) (r : Reading) → j ≡ Refused r → packedJudgment j ≡ 2097152 + 1024 * numberOf r + placeOf r
 packed-refused j r e = rw e
 
 -- ---- a break is at two events
@@ -181,7 +216,7 @@ module _ (s : List ℕ) where
   unfolding modelJudgment
   model-fits words m = judged-fits words m (listOf m)
 
-pub fitting-small : (j : Judgment) → Fitting j → packed j < 2 ^ 32
+pub fitting-small : (j : Judgment) → Fitting j → packedJudgment j < 2 ^ 32
 fitting-small (Judged AllMet) f = omega arith
 fitting-small (Judged (BrokenAt p a b)) f = omega (arith, f .0, f .1)
 fitting-small NoSuchNumber f = omega arith

@@ -1,7 +1,9 @@
--- Laws of the judging calls. What users should know: Packing.
-pub mod Packing
+-- Laws of the judging calls. What users should know: MeansLaws (the second demand), ReadsBack.
+pub mod MeansLaws
+pub mod ReadsBack
 pub mod RecordLaws
 pub mod JudgmentLaws
 pub mod ListLaws
 pub mod PreparedLaws
+pub mod TablesGiven
 pub mod ThirteenLaws

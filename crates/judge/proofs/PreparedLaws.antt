@@ -1,74 +1,78 @@
--- Laws of the tables that predicates are judged from: what each filling leaves. Assumes nothing.
-use mathlib.Core.Path.{_≡_, refl, _∙_}
-use mathlib.Core.Bool.{Bool, true, false, not, _&&_, _||_}
+-- Laws of the tables that predicates are judged from: what filling leaves, and the relations that an inclusion is about. Assumes nothing.
+use mathlib.Core.Path.{_≡_, refl}
+use mathlib.Core.Bool.{Bool, true}
 use mathlib.Core.List.{List}
-use Prim.Native.Nat.{ℕ}
+use Prim.Native.Nat.{ℕ, _+_, _-_, _*_, _≤_}
+use native.Mathlib.Nat.{mul-le-mul-right, add-sub-cancel-left}
 use native.Mathlib.Omega.{arith}
-use lib.Dec.{ltb}
-use lib.ListN.{replicate}
-use Rattle.rows.specs.Row.{has, rowAt, Row}
-use Rattle.rows.specs.Relation.{Rel, reaches, Table}
-use Rattle.rows.proofs.RowLaws.{has-cleared, row-of}
+use borrow.Author.Tests.{eqb-true}
+use lib.Dec.{eqb}
+use lib.ListN.{length, take, drop, length-take, length-drop}
+use Rattle.rows.specs.Row.{rowAt, Row}
+use Rattle.rows.specs.Relation.{Rel, Table}
+use Rattle.rows.proofs.SliceLaws.{sliceAt, slice-row, length-slice}
 use Rattle.record.specs.History.{History, vis}
 use Rattle.record.specs.Words.{historyFrom}
-use Rattle.consistency.specs.Relations.{rb, ss, ob, so, ar, step, hb, both}
-use Rattle.tables.specs.Tables.{Given, fieldsOf, sameKey, joined, Room, Timed}
-use Rattle.tables.specs.Sweep.{Sizes, FromSweep}
-use Rattle.tables.proofs.SweepLaws.{sweep-through}
+use Rattle.consistency.specs.Relations.{ar, from, to}
+use Rattle.consistency.specs.Predicates.{outside}
+use Rattle.consistency.specs.FirstPair.{first}
+use Rattle.events.specs.Given.{Given, fieldsOf}
+use Rattle.events.proofs.GivenLaws.{seen-table}
+use Rattle.tables.specs.Tables.{part, Prepared}
+use Rattle.pairs.specs.Searches.{lacks, Whole}
+use Rattle.pairs.proofs.InclusionLaws.{lacks-first}
 
 module _ (n : ℕ) (l v : List ℕ) where
   abbrev h : History
   h = historyFrom n 4 l v
-
-  -- the visible sets hold vis, since their members are events
-  pub seen-table : Given n 4 l v → Table n 4 (vis h) v
-  unfolding vis historyFrom
-  seen-table g b i = row-of n (λ a. vis h a b) (rowAt v 4 b) (λ x e. (g .rows .inside b x i e, e)) (λ x j e. e)
-
-  -- room for 256 rows is room for all events
-  pub rooms-of : Given n 4 l v → Room n 4 (replicate 1024 0) × Room n 4 (replicate 1024 0) × Room n 4 (replicate 1024 0) × Room n 4 (replicate 1024 0) × Room n 4 (replicate 1024 0) × Room n 4 (replicate 1024 0)
-  rooms-of g = let r : Room n 4 (replicate 1024 0) = omega (arith, g .rows .wide) in (r, r, r, r, r, r)
-
-  -- and rows of four words, one and twice eight of them, are room for the sweep
-  pub sizes-of : Given n 4 l v → Sizes l v n 4 (replicate 4 0) (replicate 32 0) (replicate 32 0)
-  sizes-of g = record {
-    heads = g .heads;
-    views = g .rows .size;
-    wide = g .rows .wide;
-    one = refl;
-    sites = g .sites;
-    heres = omega arith;
-    seens = omega arith;
-    fits = omega arith;
-  }
 
   -- ar is a matter of the fields alone
   pub ars-fields : (ars : List ℕ) → Table n 4 (ar h) ars → Table n 4 (ar (fieldsOf l)) ars
   unfolding ar historyFrom
   ars-fields ars t = t
 
-  pub timed-of : (rbs sos ars middles : List ℕ) → Given n 4 l v → FromSweep l v n 4 rbs sos middles → Table n 4 (ar (fieldsOf l)) ars → Timed n 4 l v rbs sos ars middles
-  unfolding rb ss so ar historyFrom
-  timed-of rbs sos ars middles g s a = record {
-    rbs-hold = s .rbs-hold;
-    sos-hold = s .sos-hold;
-    ars-hold = a;
-    middles-hold = sweep-through l v n 4 rbs sos middles s (seen-table g);
-  }
+  pub fields-ars : (ars : List ℕ) → Table n 4 (ar (fieldsOf l)) ars → Table n 4 (ar h) ars
+  unfolding ar historyFrom
+  fields-ars ars t = t
 
-  pub objects-of : (sos objects : List ℕ) → Table n 4 (so h) sos → ((r : Rel) → Table n 4 r sos → Table n 4 (both r (sameKey true l)) objects) → Table n 4 (both (so h) (ob h)) objects
-  unfolding ob historyFrom
-  objects-of sos objects t f = f (so h) t
+-- ---- groups that are lent as rows of their slice
 
-  pub chains-of : (sos hbs : List ℕ) → Given n 4 l v → Table n 4 (so h) sos → ((x y : Rel) → Table n 4 x sos → Table n 4 y v → Table n 4 (reaches n (joined x y)) hbs) → Table n 4 (hb h) hbs
-  unfolding hb step historyFrom
-  chains-of sos hbs g t f = f (so h) (vis h) t (seen-table g)
+module _ (n : ℕ) (g : List ℕ) (a b : ℕ) (size : 1036 ≤ length g) (i : a ≤ 258) (j : b ≤ 258) where
+  pub length-starts : length (sliceAt g 4 a) ≡ 4
+  length-starts = length-slice g 4 a (omega arith)
 
--- the reads are all events but the writes
-pub reads-of : (n k : ℕ) (f : ℕ → Bool) (writes every none reads : List ℕ) → Row n f writes → Row n (λ e. true) every → none ≡ replicate k 0
-    → ((x : ℕ) → has reads x ≡ has none x || (has every x && (has every x && not (has writes x)))) → Row n (λ e. not (f e)) reads
-reads-of n k f writes every none reads w e z r x = r x ∙ rw (z, has-cleared k x, w x, e x) (go (ltb x n) (f x))
-  where
-    go : (s t : Bool) → false || ((s && true) && ((s && true) && not (s && t))) ≡ s && not t
-    go true t = refl
-    go false t = refl
+  pub length-ends : length (sliceAt g 4 b) ≡ 4
+  length-ends = length-slice g 4 b (omega arith)
+
+  -- only the last group is whole
+  pub ends-whole : Whole true n (rowAt g 4 258) → Whole (eqb b 258) n (sliceAt g 4 b)
+  ends-whole w e x h = rw (eqb-true b 258 e, slice-row g 4 258) (w refl x h)
+
+  pub lacks-rows : (q r : List ℕ) → first n (lacks (length (sliceAt g 4 a)) q (sliceAt g 4 a) (sliceAt g 4 b) r) ≡ first n (lacks 4 q (rowAt g 4 a) (rowAt g 4 b) r)
+  lacks-rows q r = rw (length-starts, slice-row g 4 a, slice-row g 4 b)
+
+-- ---- table k of six lies in their slice
+
+pub part-end : (n k : ℕ) → k ≤ 5 → k * (n * 4) + n * 4 ≤ 6 * (n * 4)
+part-end n k h = omega (arith, mul-le-mul-right (n * 4) h)
+
+-- ---- what is judged from the tables
+
+module _ (n : ℕ) (l v groups t : List ℕ) (ready : Prepared n 4 (historyFrom n 4 l v) t) where
+  -- ar as it is lent
+  abbrev lent : List ℕ
+  lent = take (5 * (n * 4) + n * 4 - 5 * (n * 4)) (drop (5 * (n * 4)) t)
+
+  pub ars-lent : Table n 4 (ar (fieldsOf l)) lent × (n * 4 ≤ length lent)
+  ars-lent = rw add-sub-cancel-left (
+    ars-fields n l v (part n 4 5 t) (ready .ars),
+    omega (arith, ready .size, length-take (n * 4) (drop (5 * (n * 4)) t), length-drop (5 * (n * 4)) t),
+  )
+
+  -- the pairs of x, from an event of f to one of g, within ar and within vis
+  module _ (k a b : ℕ) (x : Rel) (f g : ℕ → Bool) (q : Table n 4 x (part n 4 k t)) (p : Row n f (rowAt groups 4 a)) (r : Row n g (rowAt groups 4 b)) where
+    pub ar-judged : first n (lacks 4 (part n 4 k t) (rowAt groups 4 a) (rowAt groups 4 b) (part n 4 5 t)) ≡ first n (outside (from f (to g x)) (ar (historyFrom n 4 l v)))
+    ar-judged = lacks-first n 4 (part n 4 k t) (rowAt groups 4 a) (rowAt groups 4 b) (part n 4 5 t) x (ar (historyFrom n 4 l v)) f g q (ready .ars) p r
+
+    pub vis-judged : Given n 4 l v → first n (lacks 4 (part n 4 k t) (rowAt groups 4 a) (rowAt groups 4 b) v) ≡ first n (outside (from f (to g x)) (vis (historyFrom n 4 l v)))
+    vis-judged w = lacks-first n 4 (part n 4 k t) (rowAt groups 4 a) (rowAt groups 4 b) v x (vis (historyFrom n 4 l v)) f g q (seen-table n 4 l v w) p r

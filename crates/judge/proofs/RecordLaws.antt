@@ -1,5 +1,5 @@
 -- What a judge knows of a record that passed: the words that it reads have the events of the record's bytes. Assumes nothing.
-use mathlib.Core.Path.{_≡_, refl, sym, ap, _∙_}
+use mathlib.Core.Path.{_≡_, sym, ap, _∙_}
 use mathlib.Core.Bool.{Bool, true, false}
 use mathlib.Core.List.{List, _++_}
 use Prim.Native.Nat.{ℕ, _+_, _*_, _/_, _≤_}
@@ -12,33 +12,18 @@ use Rattle.record.specs.Layout.{gcr1, countIn, workWords}
 use Rattle.record.specs.History.{historyOf, Agree}
 use Rattle.record.specs.Questions.{numberOf, ask, questions, reading}
 use Rattle.record.specs.Words.{slotWords, headWords, visibleWords, workAfter, historyFrom}
-use Rattle.record.specs.declared.Reading.{Reading}
-use Rattle.record.specs.declared.Reading.the-variants.{Passed, ShortWork, WrongLength, WrongCheck, WrongHeader, WrongBlocks, WrongSlot, WrongPosition, WrongSet, OnRing}
+use Rattle.record.specs.declared.Reading.the-variants.{Passed, ShortWork}
 use Rattle.record.proofs.StoresLaws.{Bytes}
 use Rattle.record.proofs.SlotWords.{length-slot-words}
 use Rattle.record.proofs.WorkLaws.{length-visible}
 use Rattle.record.proofs.WordsLaws.{words-agree}
-use Rattle.record.proofs.QuestionsAnswered.{passed-count, passed-blocks, passed-site, passed-position, passed-distinct, passed-graph}
-use Rattle.tables.specs.Tables.{Given}
+use Rattle.record.proofs.QuestionsAnswered.{number-passed, passed-count, passed-blocks, passed-site, passed-position, passed-distinct, passed-graph}
+use Rattle.events.specs.Given.{Given}
 
 -- the words l and v, four an event each, have the n events of the record s
 pub record Told (s : List ℕ) (n : ℕ) (l v : List ℕ) : Type 0 where
   pub given : Given n 4 l v
   pub agree : Agree (historyOf gcr1 s) (historyFrom n 4 l v)
-
--- ---- a reading with number 0
-
-pub number-passed : (r : Reading) → numberOf r ≡ 0 → r ≡ Passed
-number-passed Passed e = refl
-number-passed ShortWork e = absurd (omega arith)
-number-passed WrongLength e = absurd (omega arith)
-number-passed (WrongCheck k) e = absurd (omega arith)
-number-passed WrongHeader e = absurd (omega arith)
-number-passed WrongBlocks e = absurd (omega arith)
-number-passed (WrongSlot k) e = absurd (omega arith)
-number-passed (WrongPosition k) e = absurd (omega arith)
-number-passed (WrongSet k) e = absurd (omega arith)
-number-passed (OnRing k) e = absurd (omega arith)
 
 -- where the work slice was long enough too
 pub reading-passed : (w : ℕ) (s : List ℕ) → numberOf (reading gcr1 w s) ≡ 0 → questions gcr1 s ≡ Passed
@@ -89,6 +74,7 @@ module _ (s : List ℕ) (passed : questions gcr1 s ≡ Passed) where
     words-told = record {
       given = record {
         heads = omega (arith, ap length loaded, length-append (slotWords gcr1 0 4 s n) (drop (n * 4) d), length-slot-words gcr1 0 4 s n);
+        narrow = omega arith;
         rows = rw (counted, sets) (passed-graph s passed bytes (drop 1024 v));
         sites = λ e i. omega (arith, passed-site s passed e (omega arith), same .site e (omega arith));
         placed = record {

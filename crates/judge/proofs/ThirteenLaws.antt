@@ -9,7 +9,7 @@ use lib.Seq.{take-all, take-suc-set}
 use Rattle.rows.specs.Relation.{Rel}
 use Rattle.record.specs.History.{History}
 use Rattle.consistency.specs.Predicates.{rule, breaks, verdict, numbered}
-use Rattle.judge.specs.Judgments.{packedVerdict, packedVerdicts}
+use Rattle.judge.specs.Lists.{packedVerdict, packedVerdicts}
 use Rattle.consistency.specs.declared.Predicate.{Predicate}
 use Rattle.consistency.specs.declared.Verdict.{Verdict}
 use Rattle.consistency.specs.declared.Verdict.the-variants.{Met, Broken}

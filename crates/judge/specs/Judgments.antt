@@ -1,18 +1,14 @@
 -- The judging calls: questions 1 and 2, then the record's, then the verdict; and the host's number for an answer.
-use mathlib.Core.Bool.{Bool, true, false, cond, _&&_}
+use mathlib.Core.Bool.{Bool, true, false, _&&_}
 use mathlib.Core.List.{List, [], _∷_, _++_}
 use Prim.Native.Nat.{ℕ, zero, suc, _+_, _*_}
 use lib.Dec.{eqb, leb}
-use lib.ListN.{length, take, drop, replicate}
+use lib.ListN.{length, take, drop}
 use Rattle.record.specs.Layout.{Layout, workWords}
-use Rattle.record.specs.History.{History, historyOf}
+use Rattle.record.specs.History.{historyOf}
 use Rattle.record.specs.Questions.{numberOf, placeOf, questions}
-use Rattle.record.specs.declared.Reading.{Reading}
 use Rattle.record.specs.declared.Reading.the-variants.{ShortWork}
-use Rattle.consistency.specs.Predicates.{numbered, verdict}
 use Rattle.consistency.specs.Models.{listOf, firstBroken}
-use Rattle.consistency.specs.declared.Verdict.{Verdict}
-use Rattle.consistency.specs.declared.Verdict.the-variants.{Met, Broken}
 use Rattle.consistency.specs.declared.Outcome.{Outcome}
 use Rattle.consistency.specs.declared.Outcome.the-variants.{AllMet, BrokenAt}
 use Rattle.judge.specs.declared.Judgment.{Judgment}
@@ -41,16 +37,11 @@ predicateJudgment L words p s = judged L words p s (p ∷ [])
 unfoldable pub modelJudgment : Layout → ℕ → ℕ → List ℕ → Judgment
 modelJudgment L words m s = judged L words m s (listOf m)
 
--- the number of the question that refused, 0 where none did, and its place
-abbrev pub refusal : Judgment → ℕ
-refusal (Judged o) = 0
-refusal NoSuchNumber = 2
-refusal (Refused r) = numberOf r
-
-abbrev pub refusalPlace : Judgment → ℕ
-refusalPlace (Judged o) = 0
-refusalPlace NoSuchNumber = 0
-refusalPlace (Refused r) = placeOf r
+-- the number of the question that refused, 0 where none did
+abbrev pub refusedNumber : Judgment → ℕ
+refusedNumber (Judged o) = 0
+refusedNumber NoSuchNumber = 2
+refusedNumber (Refused r) = numberOf r
 
 -- the host's number: 0 met; 1,048,576 + 1,024 × a + b broken; 2,097,152 + 1,024 × number + place refused
 abbrev pub packedOutcome : Outcome → ℕ
@@ -60,28 +51,16 @@ packedOutcome (BrokenAt p a b) = 1048576 + 1024 * a + b
 abbrev pub packedRefusal : ℕ → ℕ → ℕ
 packedRefusal number place = 2097152 + 1024 * number + place
 
-abbrev pub packed : Judgment → ℕ
-packed (Judged o) = packedOutcome o
-packed NoSuchNumber = packedRefusal 2 0
-packed (Refused r) = packedRefusal (numberOf r) (placeOf r)
+abbrev pub packedJudgment : Judgment → ℕ
+packedJudgment (Judged o) = packedOutcome o
+packedJudgment NoSuchNumber = packedRefusal 2 0
+packedJudgment (Refused r) = packedRefusal (numberOf r) (placeOf r)
 
--- a verdict's number, and those of the first k predicates
-abbrev pub packedVerdict : Verdict → ℕ
-packedVerdict Met = 0
-packedVerdict (Broken a b) = 1048576 + 1024 * a + b
-
-unfoldable pub packedVerdicts : ℕ → History → List ℕ
-packedVerdicts zero h = []
-packedVerdicts (suc k) h = packedVerdicts k h ++ (packedVerdict (verdict (numbered (k + 1)) h) ∷ [])
-
--- the thirteen of a record that passes, else zeros
-unfoldable pub verdictsOf : Layout → Reading → List ℕ → List ℕ
-verdictsOf L r s = cond (eqb (numberOf r) 0) (packedVerdicts 13 (historyOf L s)) (replicate 13 0)
+-- the numbers of the first k predicates' judgments, in the paper's order
+unfoldable pub packedJudgments : Layout → ℕ → ℕ → List ℕ → List ℕ
+packedJudgments L words zero s = []
+packedJudgments L words (suc k) s = packedJudgments L words k s ++ (packedJudgment (predicateJudgment L words (k + 1) s) ∷ [])
 
 -- the first of vs, as many as fit, over the front of out
-abbrev pub over : List ℕ → List ℕ → List ℕ
-over vs out = take (length out) vs ++ drop (length vs) out
-
--- a host's buffer after all thirteen were judged; where the record is refused it stays
-unfoldable pub outAfter : Layout → Reading → List ℕ → List ℕ → List ℕ
-outAfter L r s out = cond (eqb (numberOf r) 0) (over (packedVerdicts 13 (historyOf L s)) out) out
+abbrev pub laidOver : List ℕ → List ℕ → List ℕ
+laidOver vs out = take (length out) vs ++ drop (length vs) out

@@ -1,19 +1,22 @@
 // The judge of thirteen predicates and thirteen models.
 pub mod lists;
+pub mod packing;
 pub mod prepared;
 pub mod thirteen;
 
 use consistency::Outcome;
 use record::Reading;
 ghost use mathlib.Core.Path.{_≡_};
+ghost use mathlib.Core.List.{[], _∷_};
 ghost use Prim.Native.Nat.{_≤_};
 ghost use lib.ListN.{length, take};
 ghost use Rattle.record.specs.Layout.{gcr1};
 ghost use Rattle.record.specs.History.{historyOf};
 ghost use Rattle.record.specs.Questions.{numberOf, reading, questions};
 ghost use Rattle.record.specs.Words.{visibleWords, workAfter};
-ghost use Rattle.consistency.specs.Models.{firstBroken};
-ghost use Rattle.judge.specs.Judgments.{refusal, predicateJudgment, modelJudgment, verdictsOf, judgedList};
+ghost use Rattle.consistency.specs.Models.{listOf, firstBroken};
+ghost use Rattle.judge.specs.Judgments.{refusedNumber, predicateJudgment, modelJudgment, packedJudgments, judgedList};
+ghost use Rattle.judge.specs.Means.{Exact};
 ghost use Rattle.judge.specs.Lists.{upToZero, Numbers};
 
 // The answer of a judging call.
@@ -23,10 +26,10 @@ pub enum Judgment {
     Refused(Reading),
 }
 
-// A record's reading, and the numbers of its thirteen verdicts, zeros where it was refused.
-pub struct AllVerdicts {
+// A record's reading, and the numbers of its thirteen judgments, each the refusal's where it was refused.
+pub struct AllJudged {
     pub reading: Reading,
-    pub verdicts: [u64; 13],
+    pub judgments: [u64; 13],
 }
 
 // The outcome of a list of predicates, of a record that passed; v begins with its visible sets.
@@ -46,7 +49,7 @@ fn outcome_of(list: [u8; 4], s: &[u8], v: &[u64]) -> Outcome
 fn judge_list(list: [u8; 4], s: &[u8], work: &mut [u64]) -> Judgment
     requires { ⌜ (1024 ≤ length (now work)) × Numbers list ⌝ }
     ensures { λ r. ⌜ r ≡ judgedList gcr1 (now (s .entry)) (upToZero list) ⌝ }
-    ensures { λ r. ⌜ now (work .exit) ≡ workAfter gcr1 (refusal r) (now (s .entry)) (now (work .entry)) ⌝ }
+    ensures { λ r. ⌜ now (work .exit) ≡ workAfter gcr1 (refusedNumber r) (now (s .entry)) (now (work .entry)) ⌝ }
 {
     let reading = reader::ask(s, work);
     if record::number(reading) != 0 {
@@ -58,7 +61,8 @@ fn judge_list(list: [u8; 4], s: &[u8], work: &mut [u64]) -> Judgment
 // Judges a predicate by its number.
 pub fn judge_predicate(number: usize, s: &[u8], work: &mut [u64]) -> Judgment
     ensures { λ r. ⌜ r ≡ predicateJudgment gcr1 (length (now (work .entry))) number (now (s .entry)) ⌝ }
-    ensures { λ r. ⌜ now (work .exit) ≡ workAfter gcr1 (refusal r) (now (s .entry)) (now (work .entry)) ⌝ }
+    ensures { λ r. ⌜ Exact gcr1 (length (now (work .entry))) number (number ∷ []) (now (s .entry)) r ⌝ }
+    ensures { λ r. ⌜ now (work .exit) ≡ workAfter gcr1 (refusedNumber r) (now (s .entry)) (now (work .entry)) ⌝ }
 {
     if work.len() < 1024 {
         return Judgment::Refused(Reading::ShortWork);
@@ -76,7 +80,8 @@ pub fn judge_predicate(number: usize, s: &[u8], work: &mut [u64]) -> Judgment
 // Judges a model by its number.
 pub fn judge_model(number: usize, s: &[u8], work: &mut [u64]) -> Judgment
     ensures { λ r. ⌜ r ≡ modelJudgment gcr1 (length (now (work .entry))) number (now (s .entry)) ⌝ }
-    ensures { λ r. ⌜ now (work .exit) ≡ workAfter gcr1 (refusal r) (now (s .entry)) (now (work .entry)) ⌝ }
+    ensures { λ r. ⌜ Exact gcr1 (length (now (work .entry))) number (listOf number) (now (s .entry)) r ⌝ }
+    ensures { λ r. ⌜ now (work .exit) ≡ workAfter gcr1 (refusedNumber r) (now (s .entry)) (now (work .entry)) ⌝ }
 {
     if work.len() < 1024 {
         return Judgment::Refused(Reading::ShortWork);
@@ -91,21 +96,22 @@ pub fn judge_model(number: usize, s: &[u8], work: &mut [u64]) -> Judgment
 }
 
 // Reads a record once and judges all thirteen predicates.
-pub fn judge_all(s: &[u8], work: &mut [u64]) -> AllVerdicts
+pub fn judge_all(s: &[u8], work: &mut [u64]) -> AllJudged
     ensures { λ r. ⌜ r .reading ≡ reading gcr1 (length (now (work .entry))) (now (s .entry)) ⌝ }
-    ensures { λ r. ⌜ r .verdicts ≡ verdictsOf gcr1 (r .reading) (now (s .entry)) ⌝ }
+    ensures { λ r. ⌜ r .judgments ≡ packedJudgments gcr1 (length (now (work .entry))) 13 (now (s .entry)) ⌝ }
     ensures { λ r. ⌜ now (work .exit) ≡ workAfter gcr1 (numberOf (r .reading)) (now (s .entry)) (now (work .entry)) ⌝ }
 {
     let reading = reader::read(s, work);
     if record::number(reading) != 0 {
-        return AllVerdicts {
+        let refusal = packing::pack(Judgment::Refused(reading));
+        return AllJudged {
             reading,
-            verdicts: [0u64; 13],
+            judgments: [refusal; 13],
         };
     }
     let n = reader::header::count(s);
     let mut l = [0u64; 1024];
     reader::words::load(s, n, 0, 4, &mut l);
-    let verdicts = thirteen::verdicts(&l, work, n);
-    AllVerdicts { reading, verdicts }
+    let judgments = thirteen::verdicts(&l, work, n);
+    AllJudged { reading, judgments }
 }

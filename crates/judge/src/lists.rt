@@ -3,12 +3,13 @@ use super::prepared;
 use consistency::Outcome;
 use consistency::Predicate;
 use consistency::Verdict;
+use tables::groups;
 ghost use mathlib.Core.Path.{_≡_};
 ghost use Prim.Native.Nat.{_≤_};
 ghost use Rattle.record.specs.Words.{historyFrom};
 ghost use Rattle.consistency.specs.Predicates.{numbered};
 ghost use Rattle.consistency.specs.Models.{listOf, firstBroken};
-ghost use Rattle.tables.specs.Tables.{Given};
+ghost use Rattle.events.specs.Given.{Given};
 ghost use Rattle.judge.specs.Lists.{upToZero, Numbers};
 
 // The predicates of each model in the order in which they are asked, 0 past a list's end.
@@ -63,53 +64,17 @@ pub fn first_broken(list: [u8; 4], l: &[u64], v: &[u64], n: usize) -> Outcome
     requires { ⌜ Given n 4 (now l) (now v) × Numbers list ⌝ }
     ensures { λ r. ⌜ r ≡ firstBroken (upToZero list) (historyFrom n 4 (now (l .entry)) (now (v .entry))) ⌝ }
 {
-    let mut rbs = [0u64; 1024];
-    let mut sos = [0u64; 1024];
-    let mut ars = [0u64; 1024];
-    let mut objects = [0u64; 1024];
-    let mut middles = [0u64; 1024];
-    let mut hbs = [0u64; 1024];
-    let mut keys = [0u64; 1024];
-    let mut writes = [0u64; 4];
-    let mut reads = [0u64; 4];
-    let mut every = [0u64; 4];
-    prepared::prepare(
-        l,
-        v,
-        n,
-        &mut rbs,
-        &mut sos,
-        &mut ars,
-        &mut objects,
-        &mut middles,
-        &mut hbs,
-        &mut keys,
-        &mut writes,
-        &mut reads,
-        &mut every,
-    );
+    let mut groups = [0u64; 1036];
+    groups::fill(l, n, 4, &mut groups);
+    let mut t = [0u64; 6144];
+    prepared::prepare(l, v, n, &groups, &mut t);
     for k in 0..4 {
         let number = list[k];
         if number == 0 {
             return Outcome::AllMet;
         }
         let p = by_number(number);
-        let found = prepared::judge(
-            p,
-            l,
-            v,
-            n,
-            &rbs,
-            &sos,
-            &ars,
-            &objects,
-            &middles,
-            &hbs,
-            &keys,
-            &writes,
-            &reads,
-            &every,
-        );
+        let found = prepared::judge(p, l, v, n, &groups, &t);
         if let Verdict::Broken(a, b) = found {
             return Outcome::BrokenAt(number as usize, a, b);
         }

@@ -21,10 +21,11 @@ use Rattle.record.specs.History.{History, vis}
 use Rattle.record.specs.Words.{objectIn, historyFrom}
 use Rattle.consistency.specs.Relations.{ob, ar}
 use Rattle.consistency.specs.Predicates.{differ, misfit, excused}
-use Rattle.tables.specs.Tables.{Given, fieldsOf, keyIn, KeyRows}
+use Rattle.events.specs.Given.{Given, Groups, fieldsOf}
 use Rattle.pairs.specs.Searches.{cutTo, Compared}
 use Rattle.rows.proofs.SliceLaws.{sliceAt, slice-row}
-use Rattle.pairs.proofs.EventLaws.{seen-table}
+use Rattle.events.proofs.GivenLaws.{seen-table}
+use Rattle.pairs.proofs.EventLaws.{group-room}
 use Rattle.pairs.proofs.OrderLaws.{misfit-excused, misfit-told}
 
 -- ---- what exactly one of a and b has joins a row, word by word
@@ -56,16 +57,16 @@ module _ (cut : Bool) (f : List ℕ) (n w : ℕ) (g : List ℕ) (b : ℕ) (l m :
   pub taken-whole : cut ≡ false → (length m ≡ w) × ((q : Rel) → Table n w q g → Row n (λ a. cutTo cut (fieldsOf f) q a b) m)
   taken-whole c = (size, λ q t. rw (c, taken) (t b h))
 
-  pub taken-cut : (objects m' : List ℕ) (k : ℕ) → cut ≡ true → KeyRows n w (keyIn true f) objects → 256 * w ≤ length objects → k ≡ objectIn f b
-      → m' ≡ andRow m (sliceAt objects w k) → (length m' ≡ w) × ((q : Rel) → Table n w q g → Row n (λ a. cutTo cut (fieldsOf f) q a b) m')
+  pub taken-cut : (groups m' : List ℕ) (k : ℕ) → cut ≡ true → Groups n w f groups → k ≡ objectIn f b
+      → m' ≡ andRow m (sliceAt groups w k) → (length m' ≡ w) × ((q : Rel) → Table n w q g → Row n (λ a. cutTo cut (fieldsOf f) q a b) m')
   unfolding ob historyFrom
-  taken-cut objects m' k c keys wide' e meet =
+  taken-cut groups m' k c i e meet =
       let small : k < 256 = omega arith in
-      let made : m' ≡ andRow (rowAt g w b) (rowAt objects w k) = meet ∙ ap₂ andRow taken (slice-row objects w k) in
+      let made : m' ≡ andRow (rowAt g w b) (rowAt groups w k) = meet ∙ ap₂ andRow taken (slice-row groups w k) in
       let row : (q : Rel) → Table n w q g → Row n (λ a. q a b && eqb (objectIn f a) k) m' =
-      (λ q t. rw made (row-and n (λ a. q a b) (rowAt g w b) (t b h) (λ a. eqb (objectIn f a) k) (rowAt objects w k) (keys k small)
-      (omega (arith, ap length taken, size, length-row objects w k (row-room 256 w k (length objects) small wide'))))) in
-      (ap length meet ∙ length-and m (sliceAt objects w k) ∙ size, λ q t. rw (c, ← e) (row q t))
+      (λ q t. rw made (row-and n (λ a. q a b) (rowAt g w b) (t b h) (λ a. eqb (objectIn f a) k) (rowAt groups w k) (i .objects k small)
+      (omega (arith, ap length taken, size, length-row groups w k (group-room n w f groups i k (omega arith)))))) in
+      (ap length meet ∙ length-and m (sliceAt groups w k) ∙ size, λ q t. rw (c, ← e) (row q t))
 
 -- ---- the events for which two relations differ on some event
 

@@ -1,17 +1,19 @@
 -- What the words of events say, in the terms in which code reads them. Assumes nothing.
 use mathlib.Core.Path.{_≡_, ap, ap₂, _∙_}
-use mathlib.Core.Bool.{Bool}
+use mathlib.Core.Bool.{Bool, true, false}
 use mathlib.Core.List.{List}
-use Prim.Native.Nat.{ℕ}
+use Prim.Native.Nat.{ℕ, _+_, _*_, _<_, _≤_}
+use native.Mathlib.Omega.{arith}
+use borrow.Author.Tests.{lt-ltb, le-ltb}
 use lib.Dec.{eqb}
-use Rattle.rows.specs.Row.{has, rowAt}
-use Rattle.rows.specs.Relation.{Table}
-use Rattle.rows.proofs.RowLaws.{row-of}
+use lib.ListN.{length}
+use Rattle.rows.specs.Row.{has}
+use Rattle.rows.proofs.TableLaws.{row-room}
 use Rattle.record.specs.History.{vis}
-use Rattle.record.specs.Words.{objectIn, historyFrom}
+use Rattle.record.specs.Words.{objectIn, positionIn, historyFrom}
 use Rattle.consistency.specs.Relations.{ob, ar}
 use Rattle.consistency.specs.Reads.{held, sameHeld, leftBy}
-use Rattle.tables.specs.Tables.{Given, fieldsOf}
+use Rattle.events.specs.Given.{Groups, fieldsOf}
 use Rattle.consistency.specs.declared.Last.{Last}
 use Rattle.consistency.specs.declared.Last.the-variants.{Nothing, At}
 use Rattle.rows.proofs.SliceLaws.{sliceAt, slice-row}
@@ -26,18 +28,22 @@ module _ (n w : ℕ) (l v : List ℕ) where
   unfolding ob historyFrom
   object-test a b x y p q = ap₂ eqb p q
 
-  -- the fields are all that these read
-  pub ar-test : (a b : ℕ) (t : Bool) → t ≡ ar (fieldsOf l) a b → t ≡ ar (historyFrom n w l v) a b
+  -- by the positions
+  pub not-placed : (a b x y : ℕ) → x ≡ positionIn l a → y ≡ positionIn l b → y ≤ x → ar (historyFrom n w l v) a b ≡ false
   unfolding ar historyFrom
-  ar-test a b t e = e
+  not-placed a b x y p q h = le-ltb (positionIn l a) (positionIn l b) (omega arith)
 
+  pub is-placed : (a b x y : ℕ) → x ≡ positionIn l a → y ≡ positionIn l b → x < y → ar (historyFrom n w l v) a b ≡ true
+  unfolding ar historyFrom
+  is-placed a b x y p q h = lt-ltb (positionIn l a) (positionIn l b) (omega arith)
+
+  -- the fields are all that these read
   pub held-test : (e : ℕ) (x : Last) (t : Bool) → t ≡ sameHeld (held (fieldsOf l) e) (leftBy (fieldsOf l) x)
       → t ≡ sameHeld (held (historyFrom n w l v) e) (leftBy (historyFrom n w l v) x)
   unfolding historyFrom
   held-test e Nothing t q = q
   held-test e (At x) t q = q
 
-  -- the visible sets as a table
-  pub seen-table : Given n w l v → Table n w (vis (historyFrom n w l v)) v
-  unfolding vis historyFrom
-  seen-table g b h = row-of n (has (rowAt v w b)) (rowAt v w b) (λ x e. (g .rows .inside b x h e, e)) (λ x i e. e)
+-- each row of the groups lies within them
+pub group-room : (n w : ℕ) (l g : List ℕ) → Groups n w l g → (k : ℕ) → k < 259 → k * w + w ≤ length g
+group-room n w l g i k h = row-room 259 w k (length g) h (i .size)

@@ -10,7 +10,7 @@ use native.Mathlib.Omega.{arith}
 use borrow.Author.Tests.{ltb-true, ltb-false, eqb-true, eq-eqb}
 use lib.Dec.{eqb, ltb}
 use lib.Count.{leadingZeros, leading-top}
-use lib.ListN.{length, getD}
+use lib.ListN.{length, getD, take, drop}
 use Rattle.rows.specs.Lowest.{lowest, highest}
 use Rattle.rows.specs.Row.{digit, bitOf, has, erase, andRow, onlyFirst, rowAt, Row}
 use Rattle.rows.specs.Relation.{Table}
@@ -23,13 +23,14 @@ use Rattle.record.specs.History.{History, vis}
 use Rattle.record.specs.Words.{isWriteIn, objectIn, positionIn, historyFrom}
 use Rattle.consistency.specs.Relations.{ob, ar}
 use Rattle.consistency.specs.Reads.{candidate, lastWrite}
-use Rattle.consistency.specs.Holds.{Distinct}
-use Rattle.tables.specs.Tables.{Given, fieldsOf, keyIn, KeyRows, Placed}
-use Rattle.pairs.specs.Searches.{Picked, Member, Latest, LastBelow}
+use Rattle.consistency.specs.Holds.{DistinctPositions}
+use Rattle.events.specs.Given.{Given, Groups, fieldsOf, Placed}
+use Rattle.pairs.specs.Searches.{Picked, SomeMember, Latest, FoundBelow}
 use Rattle.consistency.specs.declared.Last.{Last}
 use Rattle.consistency.specs.declared.Last.the-variants.{Nothing, At}
 use Rattle.rows.proofs.SliceLaws.{sliceAt, slice-row}
-use Rattle.pairs.proofs.EventLaws.{seen-table}
+use Rattle.events.proofs.GivenLaws.{seen-table}
+use Rattle.pairs.proofs.EventLaws.{group-room}
 use Rattle.consistency.proofs.LastWriteLaws.{LastSays, write-says}
 
 -- ---- a member of a that b lacks, sought from the last word down
@@ -96,7 +97,7 @@ module _ (n : ℕ) (s : List ℕ) (x : ℕ) (wide : n ≤ 64 * length s) (inside
       (λ t. absurd (tell (has s x) (highest-member h) (low .below x (omega (arith, ltb-false (lowest (64 * length s) (has s)) (64 * length s) t))))))
 
 -- the search starts at a member
-pub following-start : (n w : ℕ) (position : ℕ → ℕ) (s : List ℕ) (x : ℕ) → length s ≡ w → Member n s x → x < n → Following w position s s x
+pub following-start : (n w : ℕ) (position : ℕ → ℕ) (s : List ℕ) (x : ℕ) → length s ≡ w → SomeMember n s x → x < n → Following w position s s x
 following-start n w position s x size m h = record {
   wide = size;
   member = m .member h;
@@ -169,27 +170,31 @@ module _ (n w : ℕ) (l ars s₀ s s' : List ℕ) (x y : ℕ) (places : Placed n
 -- ---- the writes that a read sees
 
 -- c has what row e of v, the writes and the row of object k, e's, all have
-module _ (n w : ℕ) (l v objects writes c : List ℕ) (e k : ℕ) (given : Given n w l v) (h : e < n) (wide-writes : length writes ≡ w)
-    (wrote : Row n (isWriteIn l) writes) (keys : KeyRows n w (keyIn true l) objects) (room-objects : 256 * w ≤ length objects) (own : k ≡ objectIn l e)
-    (meet : c ≡ andRow (andRow (sliceAt v w e) writes) (sliceAt objects w k)) where
-  room : e * w + w ≤ length v
-  room = row-room n w e (length v) h (given .rows .size)
-
+module _ (n w : ℕ) (l v groups c : List ℕ) (e k : ℕ) (given : Given n w l v) (grouped : Groups n w l groups) (h : e < n) (own : k ≡ objectIn l e)
+    (meet : c ≡ andRow (andRow (sliceAt v w e) (take (257 * w - 256 * w) (drop (256 * w) groups))) (sliceAt groups w k)) where
   small : k < 256
   small = omega arith
 
-  made : c ≡ andRow (andRow (rowAt v w e) writes) (rowAt objects w k)
-  made = meet ∙ ap₂ andRow (ap (λ (r : List ℕ). andRow r writes) (slice-row v w e)) (slice-row objects w k)
+  wide : length (rowAt v w e) ≡ w
+  wide = length-row v w e (row-room n w e (length v) h (given .rows .size))
+
+  wide-group : (i : ℕ) → i < 259 → length (rowAt groups w i) ≡ w
+  wide-group i q = length-row groups w i (group-room n w l groups grouped i q)
+
+  made : c ≡ andRow (andRow (rowAt v w e) (rowAt groups w 256)) (rowAt groups w k)
+  made =
+      let one : 257 * w - 256 * w ≡ w = omega arith in
+      meet ∙ ap₂ andRow (ap₂ andRow (slice-row v w e) (ap (λ (m : ℕ). take m (drop (256 * w) groups)) one)) (slice-row groups w k)
 
   pub row-candidates : (length c ≡ w) × Row n (candidate (historyFrom n w l v) e) c
   unfolding candidate vis ob historyFrom
   row-candidates = (
-    ap length made ∙ length-and (andRow (rowAt v w e) writes) (rowAt objects w k) ∙ length-and (rowAt v w e) writes ∙ length-row v w e room,
-    rw made (row-same n (λ x. (has (rowAt v w e) x && isWriteIn l x) && eqb (objectIn l x) k) (andRow (andRow (rowAt v w e) writes) (rowAt objects w k))
-        (row-and n (λ x. has (rowAt v w e) x && isWriteIn l x) (andRow (rowAt v w e) writes)
-        (row-and n (λ x. has (rowAt v w e) x) (rowAt v w e) (seen-table n w l v given e h) (isWriteIn l) writes wrote (omega (arith, length-row v w e room)))
-        (λ x. eqb (objectIn l x) k) (rowAt objects w k) (keys k small)
-        (omega (arith, length-and (rowAt v w e) writes, length-row v w e room, length-row objects w k (row-room 256 w k (length objects) small room-objects))))
+    ap length made ∙ length-and (andRow (rowAt v w e) (rowAt groups w 256)) (rowAt groups w k) ∙ length-and (rowAt v w e) (rowAt groups w 256) ∙ wide,
+    rw made (row-same n (λ x. (has (rowAt v w e) x && isWriteIn l x) && eqb (objectIn l x) k) (andRow (andRow (rowAt v w e) (rowAt groups w 256)) (rowAt groups w k))
+        (row-and n (λ x. has (rowAt v w e) x && isWriteIn l x) (andRow (rowAt v w e) (rowAt groups w 256))
+        (row-and n (λ x. has (rowAt v w e) x) (rowAt v w e) (seen-table n w l v given e h) (isWriteIn l) (rowAt groups w 256) (grouped .writes) (omega (arith, wide, wide-group 256 (omega arith))))
+        (λ x. eqb (objectIn l x) k) (rowAt groups w k) (grouped .objects k small)
+        (omega (arith, length-and (rowAt v w e) (rowAt groups w 256), wide, wide-group k (omega arith))))
         (λ x. has (rowAt v w e) x && (isWriteIn l x && eqb (objectIn l x) (objectIn l e)))
         (λ x j. and-assoc (has (rowAt v w e) x) (isWriteIn l x) (eqb (objectIn l x) k) ∙ ap (λ (o : ℕ). has (rowAt v w e) x && (isWriteIn l x && eqb (objectIn l x) o)) own)),
   )
@@ -197,7 +202,7 @@ module _ (n w : ℕ) (l v objects writes c : List ℕ) (e k : ℕ) (given : Give
 -- ---- the last of them is the last write, where no two events have one position
 
 module _ (h : History) (e : ℕ) (s : List ℕ) (r : Row (h .count) (candidate h e) s) where
-  pub latest-write : Distinct h → (x : Last) → Latest (h .position) s x → x ≡ lastWrite h e
+  pub latest-write : DistinctPositions h → (x : Last) → Latest (h .position) s x → x ≡ lastWrite h e
   latest-write d x t = go x (lastWrite h e) t (write-says h e)
     where
       go : (x y : Last) → Latest (h .position) s x → LastSays h e (h .count) y → x ≡ y
@@ -209,6 +214,6 @@ module _ (h : History) (e : ℕ) (s : List ℕ) (r : Row (h .count) (candidate h
           let q : has s u ≡ true = row-has (h .count) (candidate h e) s r u (g .below) ∙ g .seen in
           ap At (d w u (p .0) (g .below) (omega (arith, f .1 u q, g .last w (p .0) (p .1))))
 
-  pub latest-below : (x : Last) → Latest (h .position) s x → LastBelow (h .count) x
+  pub latest-below : (x : Last) → Latest (h .position) s x → FoundBelow (h .count) x
   latest-below Nothing f = tt
   latest-below (At w) f = row-in (h .count) (candidate h e) s r w (f .0) .0

@@ -1,4 +1,5 @@
 -- Laws that functions' proofs cite.
+pub mod CutLaws
 pub mod EventLaws
 pub mod OrderLaws
 pub mod InclusionLaws

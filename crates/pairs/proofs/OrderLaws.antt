@@ -1,27 +1,26 @@
 -- Laws of predicates 2 and 13: the pairs on which vis and ar differ, from what tests told on the way. Assumes nothing.
 use mathlib.Core.Path.{_≡_, refl, sym, ap, ap₂, _∙_}
-use mathlib.Core.Bool.{Bool, true, false, not, _&&_, Bool·beq, true≢false, false≢true}
+use mathlib.Core.Bool.{Bool, true, false, not, _&&_, Bool·beq}
 use Prim.Native.Nat.{ℕ}
 use borrow.Author.Tests.{not-true, not-false}
 use Rattle.rows.specs.Relation.{Rel}
+use Rattle.rows.proofs.Tests.{split}
 use Rattle.record.specs.History.{History}
 use Rattle.consistency.specs.Relations.{ob}
 use Rattle.consistency.specs.Predicates.{excused, differ, misfit}
 use Rattle.pairs.specs.Searches.{cutTo}
 
--- ---- a pair of q, cut to one object or not; t is whether q has it
+-- ---- a pair that q has or lacks, cut to one object or not
 
-pub cut-none : (cut : Bool) (h : History) (q : Rel) (a b : ℕ) (t : Bool) → t ≡ q a b → not t ≡ true → false ≡ cutTo cut h q a b
-cut-none true h q a b t e f = rw (sym e ∙ not-true t f)
-cut-none false h q a b t e f = sym (not-true t f) ∙ e
+module _ (cut : Bool) (h : History) (q : Rel) (a b : ℕ) where
+  pub cut-none : q a b ≡ false → false ≡ cutTo cut h q a b
+  cut-none e = split cut (λ c. rw (c, e)) (λ c. rw (c, e))
 
-pub cut-object : (cut : Bool) (h : History) (q : Rel) (a b : ℕ) (t : Bool) → t ≡ q a b → not t ≡ false → cut ≡ true → ob h a b ≡ cutTo cut h q a b
-cut-object true h q a b t e f c = rw (sym e ∙ not-false t f)
-cut-object false h q a b t e f c = absurd (false≢true c)
+  pub cut-object : q a b ≡ true → cut ≡ true → ob h a b ≡ cutTo cut h q a b
+  cut-object e c = rw (c, e)
 
-pub cut-whole : (cut : Bool) (h : History) (q : Rel) (a b : ℕ) (t : Bool) → t ≡ q a b → not t ≡ false → cut ≡ false → true ≡ cutTo cut h q a b
-cut-whole true h q a b t e f c = absurd (true≢false c)
-cut-whole false h q a b t e f c = sym (not-false t f) ∙ e
+  pub cut-whole : q a b ≡ true → cut ≡ false → true ≡ cutTo cut h q a b
+  cut-whole e c = rw (c, e)
 
 -- ---- whether a pair breaks the rule; x is whether its first event is excused
 

@@ -36,12 +36,12 @@ pub record Compared (n k : ℕ) (q r : Rel) (differing visible : List ℕ) : Typ
   pub begins : Row n (λ a. some k (q a)) visible
 
 -- an event that was found is below n
-abbrev pub LastBelow : ℕ → Last → Type 0
-LastBelow n Nothing = Unit
-LastBelow n (At w) = w < n
+abbrev pub FoundBelow : ℕ → Last → Type 0
+FoundBelow n Nothing = Unit
+FoundBelow n (At w) = w < n
 
 -- x is a member of s, whose members are below n, or past n where there is none
-pub record Member (n : ℕ) (s : List ℕ) (x : ℕ) : Type 0 where
+pub record SomeMember (n : ℕ) (s : List ℕ) (x : ℕ) : Type 0 where
   pub member : x < n → has s x ≡ true
   pub none : n ≤ x → (y : ℕ) → has s y ≡ false
 

@@ -1,20 +1,20 @@
 // An inclusion: the first pair in the left side but not the right. Row b of a table has the events related to b, so one pass over the rows finds where that
-// pair begins, and a second where it ends.
+// pair begins; then the columns of that event are rows of where its pairs end, and their difference has the lowest end.
 use consistency::Verdict;
 ghost use mathlib.Core.Path.{_≡_};
-ghost use Prim.Native.Nat.{ℕ, _*_, _/_, _^_, _<_, _≤_};
-ghost use mathlib.Core.Bool.{Bool, true};
+ghost use Prim.Native.Nat.{ℕ, _*_, _/_, _<_, _≤_, min};
+ghost use mathlib.Core.Bool.{true};
 ghost use lib.ListN.{length};
 ghost use Rattle.rows.specs.Lowest.{lowest, some};
 ghost use Rattle.rows.specs.Row.{has, Row};
-ghost use Rattle.rows.specs.Relation.{Rel, related, Table};
+ghost use Rattle.rows.specs.Relation.{related};
 ghost use Rattle.consistency.specs.FirstPair.{first};
-ghost use Rattle.consistency.specs.Relations.{from, to};
+ghost use Rattle.consistency.specs.Relations.{to};
 ghost use Rattle.consistency.specs.Predicates.{outside};
 ghost use Rattle.pairs.specs.Searches.{lacks, Whole};
 
 // Whether b is in `ends`. With `whole` every event is, and a loop over all needs no test.
-pub fn may_end(whole: bool, ends: &[u64], b: usize) -> bool
+fn may_end(whole: bool, ends: &[u64], b: usize) -> bool
     requires { ⌜ (b / 64 < length (now ends)) × (whole ≡ true → has (now ends) b ≡ true) ⌝ }
     ensures { λ r. ⌜ r ≡ has (now (ends .entry)) b ⌝ }
 {
@@ -25,7 +25,7 @@ pub fn may_end(whole: bool, ends: &[u64], b: usize) -> bool
 }
 
 // The events from which q has a pair, from a member of `starts` to one of `ends`, that r lacks. Rows are as wide as `left`.
-pub fn collect_outside(
+fn collect_outside(
     whole: bool,
     n: usize,
     q: &[u64],
@@ -51,28 +51,39 @@ pub fn collect_outside(
     }
 }
 
-// The lowest event of `ends` to which q has a pair from a that r lacks, or n. Rows are as wide as `ends`.
-pub fn lowest_end(a: usize, n: usize, q: &[u64], ends: &[u64], r: &[u64]) -> usize
-    requires { ⌜ (n * length (now ends) ≤ length (now q)) × (n * length (now ends) ≤ length (now r)) ⌝ }
-    requires { ⌜ (n ≤ 64 * length (now ends)) × (a < n) ⌝ }
-    ensures { λ b. ⌜ b ≡ lowest n (outside (to (has (now (ends .entry))) (related (now (q .entry)) (length (now (ends .entry))))) (related (now (r .entry)) (length (now (ends .entry)))) a) ⌝ }
+// The events that a table relates a to: column a as a row. Rows are as wide as `out`.
+fn take_column(a: usize, n: usize, g: &[u64], out: &mut [u64])
+    requires { ⌜ (n * length (now out) ≤ length (now g)) × (n ≤ 64 * length (now out)) × (a < n) ⌝ }
+    ensures { λ _. ⌜ length (now (out .exit)) ≡ length (now (out .entry)) ⌝ }
+    ensures { λ _. ⌜ Row n (related (now (g .entry)) (length (now (out .entry))) a) (now (out .exit)) ⌝ }
 {
-    let w = ends.len();
+    let w = out.len();
+    rows::clear(out);
     for b in 0..n {
-        if rows::test(ends, b) {
-            let at = b * w;
-            let end = at + w;
-            if rows::test(&q[at..end], a) {
-                if !rows::test(&r[at..end], a) {
-                    return b;
-                }
-            }
+        let at = b * w;
+        let end = at + w;
+        if rows::test(&g[at..end], a) {
+            rows::set(out, b);
         }
     }
-    n
 }
 
-// The first pair of q, from a member of `starts` to one of `ends`, that r lacks. Rows are as wide as `left`.
+// The lowest event of `ends` to which q has a pair from a that r lacks, or some number from n on. Rows are as wide as `ends`.
+fn lowest_end(a: usize, n: usize, q: &[u64], ends: &[u64], r: &[u64]) -> usize
+    requires { ⌜ (n * length (now ends) ≤ length (now q)) × (n * length (now ends) ≤ length (now r)) × (length (now ends) ≤ 8) ⌝ }
+    requires { ⌜ (n ≤ 64 * length (now ends)) × (a < n) ⌝ }
+    ensures { λ b. ⌜ min b n ≡ lowest n (outside (to (has (now (ends .entry))) (related (now (q .entry)) (length (now (ends .entry))))) (related (now (r .entry)) (length (now (ends .entry)))) a) ⌝ }
+{
+    let w = ends.len();
+    let mut left = [0u64; 8];
+    let mut right = [0u64; 8];
+    take_column(a, n, q, &mut left[0..w]);
+    rows::intersect(&mut left[0..w], ends);
+    take_column(a, n, r, &mut right[0..w]);
+    rows::lowest_difference(&left[0..w], &right[0..w])
+}
+
+// The first pair of q, from a member of `starts` to one of `ends`, that r lacks. Rows are as wide as `starts`.
 pub fn first_outside(
     whole: bool,
     n: usize,
@@ -80,16 +91,16 @@ pub fn first_outside(
     starts: &[u64],
     ends: &[u64],
     r: &[u64],
-    left: &mut [u64],
 ) -> Verdict
-    requires { ⌜ (n * length (now left) ≤ length (now q)) × (n * length (now left) ≤ length (now r)) × (length (now starts) ≡ length (now left)) × (length (now ends) ≡ length (now left)) ⌝ }
-    requires { ⌜ (n ≤ 64 * length (now left)) × (64 * length (now left) < 2 ^ 64) ⌝ }
+    requires { ⌜ (n * length (now starts) ≤ length (now q)) × (n * length (now starts) ≤ length (now r)) × (length (now ends) ≡ length (now starts)) × (length (now starts) ≤ 8) ⌝ }
+    requires { ⌜ n ≤ 64 * length (now starts) ⌝ }
     requires { ⌜ Whole whole n (now ends) ⌝ }
-    ensures { λ v. ⌜ ((x y : Rel) (f g : ℕ → Bool) → Table n (length (now (left .entry))) x (now (q .entry)) → Table n (length (now (left .entry))) y (now (r .entry)) → Row n f (now (starts .entry)) → Row n g (now (ends .entry)) → v ≡ first n (outside (from f (to g x)) y)) ⌝ }
-    ensures { λ _. ⌜ length (now (left .exit)) ≡ length (now (left .entry)) ⌝ }
+    ensures { λ v. ⌜ v ≡ first n (lacks (length (now (starts .entry))) (now (q .entry)) (now (starts .entry)) (now (ends .entry)) (now (r .entry))) ⌝ }
 {
-    collect_outside(whole, n, q, starts, ends, r, left);
-    let a = rows::lowest(left);
+    let w = starts.len();
+    let mut left = [0u64; 8];
+    collect_outside(whole, n, q, starts, ends, r, &mut left[0..w]);
+    let a = rows::lowest(&left[0..w]);
     if n <= a {
         return Verdict::Met;
     }

@@ -1,22 +1,21 @@
 // Predicate 1, RVal: what each returned read holds.
 use consistency::Last;
 use consistency::Verdict;
-use reader::events;
 ghost use mathlib.Core.Path.{_≡_};
 ghost use mathlib.Core.Bool.{true};
 ghost use Prim.Native.Nat.{ℕ, _*_, _^_, _<_, _≤_};
 ghost use lib.ListN.{length};
-ghost use Rattle.rows.specs.Row.{has, Row};
+ghost use Rattle.rows.specs.Row.{has};
 ghost use Rattle.rows.specs.Relation.{Table};
-ghost use Rattle.record.specs.Words.{isWriteIn, positionIn, historyFrom};
+ghost use Rattle.record.specs.Words.{positionIn, historyFrom};
 ghost use Rattle.consistency.specs.FirstPair.{first};
 ghost use Rattle.consistency.specs.Relations.{ar};
 ghost use Rattle.consistency.specs.Reads.{lastWrite, leftBy, held, sameHeld, lastOr, wrong};
-ghost use Rattle.tables.specs.Tables.{Given, fieldsOf, keyIn, KeyRows, Room, Placed};
-ghost use Rattle.pairs.specs.Searches.{Picked, Member, Latest, LastBelow};
+ghost use Rattle.events.specs.Given.{Given, Groups, fieldsOf, Placed};
+ghost use Rattle.pairs.specs.Searches.{Picked, SomeMember, Latest, FoundBelow};
 
 // A member of `a` that `b` lacks, or the first number past the row where there is none. The search starts at the end, where later events mostly stand.
-pub fn pick_difference(a: &[u64], b: &[u64]) -> usize
+fn pick_difference(a: &[u64], b: &[u64]) -> usize
     requires { ⌜ (64 * length (now a) < 2 ^ 64) × (length (now a) ≤ length (now b)) ⌝ }
     ensures { λ r. ⌜ Picked (now (a .entry)) (now (b .entry)) r ⌝ }
 {
@@ -32,10 +31,10 @@ pub fn pick_difference(a: &[u64], b: &[u64]) -> usize
 }
 
 // A member of `seen` that likely is the last in ar: the highest, or the lowest where that is later. Past n where there is none.
-pub fn likely_last(n: usize, w: usize, ars: &[u64], seen: &[u64]) -> usize
-    requires { ⌜ Room n w (now ars) × (n ≤ 64 * w) × (64 * w < 2 ^ 64) ⌝ }
+fn likely_last(n: usize, w: usize, ars: &[u64], seen: &[u64]) -> usize
+    requires { ⌜ (n * w ≤ length (now ars)) × (n ≤ 64 * w) × (64 * w < 2 ^ 64) ⌝ }
     requires { ⌜ (length (now seen) ≡ w) × ((x : ℕ) → has (now seen) x ≡ true → x < n) ⌝ }
-    ensures { λ r. ⌜ Member n (now (seen .entry)) r ⌝ }
+    ensures { λ r. ⌜ SomeMember n (now (seen .entry)) r ⌝ }
 {
     let high = rows::highest(seen);
     if n <= high {
@@ -51,8 +50,8 @@ pub fn likely_last(n: usize, w: usize, ars: &[u64], seen: &[u64]) -> usize
 }
 
 // The last in ar of the events in `seen`: from one that likely is it on to one that is later, as long as there is any.
-pub fn last_of(l: &[u64], n: usize, w: usize, ars: &[u64], seen: &mut [u64]) -> Last
-    requires { ⌜ Placed n (now l) × Table n w (ar (fieldsOf (now l))) (now ars) × Room n w (now ars) ⌝ }
+fn last_of(l: &[u64], n: usize, w: usize, ars: &[u64], seen: &mut [u64]) -> Last
+    requires { ⌜ Placed n (now l) × Table n w (ar (fieldsOf (now l))) (now ars) × (n * w ≤ length (now ars)) ⌝ }
     requires { ⌜ (n ≤ 64 * w) × (64 * w < 2 ^ 64) × (length (now seen) ≡ w) × ((x : ℕ) → has (now seen) x ≡ true → x < n) ⌝ }
     ensures { λ r. ⌜ Latest (positionIn (now (l .entry))) (now (seen .entry)) r ⌝ }
 {
@@ -73,36 +72,40 @@ pub fn last_of(l: &[u64], n: usize, w: usize, ars: &[u64], seen: &mut [u64]) -> 
 }
 
 // Of the writes on e's object that e sees the last in ar.
-pub fn last_write(
+fn last_write(
     l: &[u64],
     v: &[u64],
     n: usize,
     w: usize,
     ars: &[u64],
-    objects: &[u64],
-    writes: &[u64],
+    groups: &[u64],
     e: usize,
-    seen: &mut [u64],
 ) -> Last
-    requires { ⌜ Given n w (now l) (now v) × (e < n) ⌝ }
-    requires { ⌜ Table n w (ar (fieldsOf (now l))) (now ars) × Room n w (now ars) ⌝ }
-    requires { ⌜ KeyRows n w (keyIn true (now l)) (now objects) × (256 * w ≤ length (now objects)) ⌝ }
-    requires { ⌜ Row n (isWriteIn (now l)) (now writes) × (length (now writes) ≡ w) × (length (now seen) ≡ w) ⌝ }
+    requires { ⌜ Given n w (now l) (now v) × Groups n w (now l) (now groups) × (e < n) ⌝ }
+    requires { ⌜ Table n w (ar (fieldsOf (now l))) (now ars) × (n * w ≤ length (now ars)) ⌝ }
     ensures { λ r. ⌜ r ≡ lastWrite (historyFrom n w (now (l .entry)) (now (v .entry))) e ⌝ }
-    ensures { λ r. ⌜ LastBelow n r ⌝ }
+    ensures { λ r. ⌜ FoundBelow n r ⌝ }
 {
     let at = e * w;
     let end = at + w;
     let from = events::object(l, e) as usize * w;
     let to = from + w;
-    rows::meet(seen, &v[at..end], writes, &objects[from..to]);
-    last_of(l, n, w, ars, seen)
+    let writes = 256 * w;
+    let reads = 257 * w;
+    let mut seen = [0u64; 8];
+    rows::meet(
+        &mut seen[0..w],
+        &v[at..end],
+        &groups[writes..reads],
+        &groups[from..to],
+    );
+    last_of(l, n, w, ars, &mut seen[0..w])
 }
 
 // Whether a read holds what the last write that it sees left.
-pub fn is_held(l: &[u64], n: usize, e: usize, found: Last) -> bool
+fn is_held(l: &[u64], n: usize, e: usize, found: Last) -> bool
     requires { ⌜ 4 * n ≤ length (now l) ⌝ }
-    requires { ⌜ (e < n) × LastBelow n found ⌝ }
+    requires { ⌜ (e < n) × FoundBelow n found ⌝ }
     ensures { λ r. ⌜ r ≡ sameHeld (held (fieldsOf (now (l .entry))) e) (leftBy (fieldsOf (now (l .entry))) found) ⌝ }
 {
     match found {
@@ -116,7 +119,7 @@ pub fn is_held(l: &[u64], n: usize, e: usize, found: Last) -> bool
     }
 }
 
-pub fn last_or(e: usize, found: Last) -> usize
+fn last_or(e: usize, found: Last) -> usize
     ensures { λ r. ⌜ r ≡ lastOr e found ⌝ }
 {
     match found {
@@ -132,20 +135,16 @@ pub fn wrong_values(
     n: usize,
     w: usize,
     ars: &[u64],
-    objects: &[u64],
-    writes: &[u64],
-    seen: &mut [u64],
+    groups: &[u64],
 ) -> Verdict
-    requires { ⌜ Given n w (now l) (now v) ⌝ }
-    requires { ⌜ Table n w (ar (fieldsOf (now l))) (now ars) × Room n w (now ars) ⌝ }
-    requires { ⌜ KeyRows n w (keyIn true (now l)) (now objects) × (256 * w ≤ length (now objects)) ⌝ }
-    requires { ⌜ Row n (isWriteIn (now l)) (now writes) × (length (now writes) ≡ w) × (length (now seen) ≡ w) ⌝ }
+    requires { ⌜ Given n w (now l) (now v) × Groups n w (now l) (now groups) ⌝ }
+    requires { ⌜ Table n w (ar (fieldsOf (now l))) (now ars) × (n * w ≤ length (now ars)) ⌝ }
     ensures { λ r. ⌜ r ≡ first n (wrong (historyFrom n w (now (l .entry)) (now (v .entry)))) ⌝ }
 {
     for e in 0..n {
         if !events::is_write(l, e) {
             if !events::is_pending(l, e) {
-                let found = last_write(l, v, n, w, ars, objects, writes, e, seen);
+                let found = last_write(l, v, n, w, ars, groups, e);
                 if !is_held(l, n, e, found) {
                     return Verdict::Broken(e, last_or(e, found));
                 }

@@ -8,7 +8,7 @@ use lib.Dec.{eqb}
 use lib.ListN.{length, replicate}
 use Rattle.rows.specs.Row.{has, insert, rowAt}
 use Rattle.rows.specs.Relation.{reaches, related, Between}
-use Rattle.reach.specs.Walks.{over, Nested, Closed}
+use Rattle.reach.specs.Walks.{twoSteps, Nested, Closed, Closure}
 use Rattle.rows.proofs.Tests.{split, tell, never, or-left, or-right}
 use Rattle.rows.proofs.LowestLaws.{same-some}
 use Rattle.rows.proofs.RowLaws.{has-insert, insert-elim, has-cleared}
@@ -46,8 +46,12 @@ module _ {n w : ℕ} {g₀ g l : List ℕ} (s : Closed n w g₀ g l) where
     left = λ b x k e. t .left b x k e ∙ s .left b x k (never (has l b) (λ u. tell (has m b) (more b u) e));
   }
 
-  pub closed-all : ((b : ℕ) → b < n → has l b ≡ true) → (b x : ℕ) → b < n → related g w x b ≡ reaches n (related g₀ w) x b
+  pub closed-all : ((b : ℕ) → b < n → has l b ≡ true) → Closure n w g₀ g
   closed-all all b x h = s .closed b x (all b h)
+
+-- what closes a table between g and its closure closes g
+pub between-closure : {n : ℕ} (w : ℕ) (g m h : List ℕ) → Between n (related g w) (related m w) → Closure n w m h → Closure n w g h
+between-closure w g m h i c b x k = c b x k ∙ between-reaches i x b k
 
 -- ---- one more row, all of whose members are settled
 
@@ -62,9 +66,9 @@ module _ {n w : ℕ} {g l : List ℕ} (s : Closed n w g g l) (b : ℕ) (inside :
   }
 
   -- with the rows of its members it is closed
-  row-closed : (x : ℕ) → over n (related g w) x b || related g w x b ≡ reaches n (related g w) x b
+  row-closed : (x : ℕ) → twoSteps n (related g w) x b || related g w x b ≡ reaches n (related g w) x b
   row-closed x =
-      or-comm (over n (related g w) x b) (related g w x b)
+      or-comm (twoSteps n (related g w) x b) (related g w x b)
       ∙ ap (λ (t : Bool). related g w x b || t) (same-some n (λ a. related g w a b && related g w x a) (λ a. related g w a b && reaches n (related g w) x a) (λ a h.
       split (related g w a b) (λ t. ap (λ (u : Bool). related g w a b && u) (s .closed a x (inside a t))) (λ t. rw t)))
       ∙ sym (reaches-last n (related g w) x b)
@@ -73,12 +77,12 @@ module _ {n w : ℕ} {g l : List ℕ} (s : Closed n w g g l) (b : ℕ) (inside :
   start : (x : ℕ) → reaches n (related g w) x b ≡ true → has l x ≡ true
   start x e = steps-back (λ y. has l y ≡ true) (reaches-sound n (related g w) x b e) inside (λ y z t m. s .inside z y m t)
 
-  module _ (h : List ℕ) (after : (c x : ℕ) → related h w x c ≡ eqb b c && over n (related g w) x b || related g w x c) (new : has l b ≡ false) where
+  module _ (h : List ℕ) (after : (c x : ℕ) → related h w x c ≡ eqb b c && twoSteps n (related g w) x b || related g w x c) (new : has l b ≡ false) where
     here : (x : ℕ) → related h w x b ≡ reaches n (related g w) x b
-    here x = after b x ∙ ap (λ (t : Bool). t && over n (related g w) x b || related g w x b) (eq-eqb b b refl) ∙ row-closed x
+    here x = after b x ∙ ap (λ (t : Bool). t && twoSteps n (related g w) x b || related g w x b) (eq-eqb b b refl) ∙ row-closed x
 
     other : (c x : ℕ) → (b ≡ c → ⊥) → related h w x c ≡ related g w x c
-    other c x ne = after c x ∙ ap (λ (t : Bool). t && over n (related g w) x b || related g w x c) (ne-eqb b c ne)
+    other c x ne = after c x ∙ ap (λ (t : Bool). t && twoSteps n (related g w) x b || related g w x c) (ne-eqb b c ne)
 
     apart : (c : ℕ) → has l c ≡ true → b ≡ c → ⊥
     apart c e q = tell (has l b) (rw q e) new

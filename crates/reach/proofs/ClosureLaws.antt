@@ -9,11 +9,11 @@ use borrow.Author.Tests.{ltb-true, ltb-false}
 use lib.Dec.{ltb}
 use lib.ListN.{length}
 use Rattle.rows.specs.Row.{has, orPart, rowAt}
-use Rattle.rows.specs.Relation.{Rel, via, reaches, related, Table}
+use Rattle.rows.specs.Relation.{via, reaches, related}
+use Rattle.reach.specs.Walks.{Closure}
 use Rattle.rows.proofs.Tests.{split}
 use Rattle.rows.proofs.RowLaws.{has-or}
 use Rattle.rows.proofs.TableLaws.{length-row, length-or-part, row-or-same, row-or-other}
-use Rattle.rows.proofs.ReachLaws.{table-closed}
 
 -- ---- one round: a row that has k takes in m, the row of k
 
@@ -74,7 +74,7 @@ module _ (n w : ℕ) (g₀ : List ℕ) (k : ℕ) (g : List ℕ) (i : Rounds n w 
       ∙ ap (λ (t : Bool). via (related g₀ w) k x b || via (related g₀ w) k k b && t) (i k x h)
       ∙ ap (λ (t : Bool). via (related g₀ w) k x b || t) (and-comm (via (related g₀ w) k k b) (via (related g₀ w) k x k)))
 
-  -- at the end the table holds the closure of whatever relation it held
-  pub rounds-all : k ≡ n → (r : Rel) → Table n w r g₀ → Table n w (reaches n r) g
+  -- at the end the table is closed
+  pub rounds-all : k ≡ n → Closure n w g₀ g
   unfolding reaches
-  rounds-all e r t = table-closed n w r g₀ t g (λ b x h. i b x h ∙ ap (λ (j : ℕ). via (related g₀ w) j x b) e)
+  rounds-all e b x h = i b x h ∙ ap (λ (j : ℕ). via (related g₀ w) j x b) e

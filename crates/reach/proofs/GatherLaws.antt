@@ -10,7 +10,7 @@ use lib.ListN.{length, getD, replicate, length-replicate}
 use Rattle.rows.specs.Lowest.{lowest, some}
 use Rattle.rows.specs.Row.{has, insert, orRow, orPart, minusRow, rowAt}
 use Rattle.rows.specs.Relation.{related}
-use Rattle.reach.specs.Walks.{over, Nested}
+use Rattle.reach.specs.Walks.{twoSteps, Nested}
 use Rattle.rows.proofs.Tests.{split, tell, same-test, or-elim, or-left, or-right, and-both, and-left, and-right}
 use Rattle.rows.proofs.LowestLaws.{some-of, some-at}
 use Rattle.reach.proofs.ManyLaws.{howMany, many-less}
@@ -105,7 +105,7 @@ module _ {g : List ℕ} {n w : ℕ} {l m rest row : List ℕ} (i : Gathering g n
 
 pub row-joined : (g : List ℕ) (n w b : ℕ) (rest z row h : List ℕ) → length row ≡ w → b * w + w ≤ length g → rest ≡ rowAt g w b → z ≡ replicate w 0
     → ((x : ℕ) → has row x ≡ has z x || rowsHave g n (length z) rest x) → h ≡ orPart g (b * w) row
-    → (c x : ℕ) → related h w x c ≡ eqb b c && over n (related g w) x b || related g w x c
+    → (c x : ℕ) → related h w x c ≡ eqb b c && twoSteps n (related g w) x b || related g w x c
 row-joined g n w b rest z row h wide room e q f p c x = rw p
     (has-row-or g w b row wide room c x
     ∙ ap (λ (t : Bool). eqb b c && t || related g w x c)

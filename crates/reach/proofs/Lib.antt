@@ -6,3 +6,4 @@ pub mod ClosureLaws
 pub mod ClosingLaws
 pub mod GatherLaws
 pub mod ClosedLaws
+pub mod FilledLaws

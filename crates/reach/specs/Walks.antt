@@ -15,8 +15,8 @@ pub record Settled (g : List ℕ) (n : ℕ) (l : List ℕ) : Type 0 where
   pub ringless : (b : ℕ) → has l b ≡ true → reaches n (related g (length l)) b b ≡ false
 
 -- two steps of r from x to b, over an event below n
-abbrev pub over : ℕ → Rel → Rel
-over n r x b = some n (λ a. r a b && r x a)
+abbrev pub twoSteps : ℕ → Rel → Rel
+twoSteps n r x b = some n (λ a. r a b && r x a)
 
 -- the row of a member of l has what the rows of its own members have
 pub record Nested (g : List ℕ) (n w : ℕ) (l : List ℕ) : Type 0 where
@@ -29,3 +29,7 @@ pub record Closed (n w : ℕ) (g₀ g l : List ℕ) : Type 0 where
   pub inside : (b x : ℕ) → has l b ≡ true → related g w x b ≡ true → has l x ≡ true
   pub closed : (b x : ℕ) → has l b ≡ true → related g w x b ≡ reaches n (related g₀ w) x b
   pub left : (b x : ℕ) → b < n → has l b ≡ false → related g w x b ≡ related g₀ w x b
+
+-- row b of g, for each b below n, has the events from which one or more steps in g₀ lead to b
+abbrev pub Closure : ℕ → ℕ → List ℕ → List ℕ → Type 0
+Closure n w g₀ g = (b x : ℕ) → b < n → related g w x b ≡ reaches n (related g₀ w) x b

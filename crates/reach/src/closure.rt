@@ -1,4 +1,4 @@
-// A table comes to hold one or more steps of its relation.
+// A table comes to hold one or more steps of its relation. Inner functions are lent their scratch rows, and rows are as wide as `row`.
 ghost use mathlib.Core.Path.{_≡_};
 ghost use mathlib.Core.Bool.{true, false, not, _&&_, _||_};
 ghost use Prim.Native.Nat.{ℕ, _+_, _*_, _/_, _^_, _<_, _≤_};
@@ -6,8 +6,8 @@ ghost use lib.Dec.{eqb};
 ghost use lib.ListN.{length};
 ghost use Rattle.rows.specs.Lowest.{some};
 ghost use Rattle.rows.specs.Row.{has, rowAt};
-ghost use Rattle.rows.specs.Relation.{Rel, Table, reaches, related, Room, Between};
-ghost use Rattle.reach.specs.Walks.{over, Nested, Closed};
+ghost use Rattle.rows.specs.Relation.{reaches, related, Filled, Graph, Rows, Between};
+ghost use Rattle.reach.specs.Walks.{twoSteps, Nested, Closed, Closure};
 
 // Whoever's row has k takes in `row`, the row of k.
 fn take_in(table: &mut [u64], n: usize, k: usize, row: &[u64])
@@ -25,10 +25,10 @@ fn take_in(table: &mut [u64], n: usize, k: usize, row: &[u64])
     }
 }
 
-// Closes a table in place (Warshall): row b comes to have the events from which one or more steps lead to b.
-fn close(table: &mut [u64], n: usize, row: &mut [u64])
+// `close` in n rounds whatever the table holds (Warshall): round k adds the steps over event k.
+fn close_by_rounds(table: &mut [u64], n: usize, row: &mut [u64])
     requires { ⌜ (n * length (now row) ≤ length (now table)) × (n ≤ 64 * length (now row)) ⌝ }
-    ensures { λ _. ⌜ ((r : Rel) → Table n (length (now (row .entry))) r (now (table .entry)) → Table n (length (now (row .entry))) (reaches n r) (now (table .exit))) ⌝ }
+    ensures { λ _. ⌜ Closure n (length (now (row .entry))) (now (table .entry)) (now (table .exit)) ⌝ }
     ensures { λ _. ⌜ length (now (table .exit)) ≡ length (now (table .entry)) ⌝ }
 {
     let w = row.len();
@@ -68,7 +68,7 @@ fn end_of(row: &[u64], is_rising: bool) -> usize
 // The rows of the members of `rest` join `row`. With each member go those of its row, whose rows are in that: few are left if a late one goes
 // first, the lowest where all have numbers above b, as in a record numbered against time, and else the highest.
 fn gather(table: &[u64], n: usize, b: usize, rest: &mut [u64], row: &mut [u64])
-    requires { ⌜ Room (now table) n (length (now row)) ⌝ }
+    requires { ⌜ Rows (now table) n (length (now row)) ⌝ }
     requires { ⌜ length (now rest) ≡ length (now row) ⌝ }
     requires { ⌜ Nested (now table) n (length (now row)) (now rest) ⌝ }
     ensures { λ _. ⌜ ((x : ℕ) → has (now (row .exit)) x ≡ has (now (row .entry)) x || some n (λ a. has (now (rest .entry)) a && related (now (table .entry)) (length (now (row .entry))) x a)) ⌝ }
@@ -86,11 +86,11 @@ fn gather(table: &[u64], n: usize, b: usize, rest: &mut [u64], row: &mut [u64])
 
 // The rows of the members of row b join it.
 fn close_row(table: &mut [u64], n: usize, b: usize, rest: &mut [u64], row: &mut [u64])
-    requires { ⌜ Room (now table) n (length (now row)) ⌝ }
+    requires { ⌜ Rows (now table) n (length (now row)) ⌝ }
     requires { ⌜ length (now rest) ≡ length (now row) ⌝ }
     requires { ⌜ b < n ⌝ }
     requires { ⌜ Nested (now table) n (length (now row)) (rowAt (now table) (length (now row)) b) ⌝ }
-    ensures { λ _. ⌜ ((c x : ℕ) → related (now (table .exit)) (length (now (row .entry))) x c ≡ eqb b c && over n (related (now (table .entry)) (length (now (row .entry)))) x b || related (now (table .entry)) (length (now (row .entry))) x c) ⌝ }
+    ensures { λ _. ⌜ ((c x : ℕ) → related (now (table .exit)) (length (now (row .entry))) x c ≡ eqb b c && twoSteps n (related (now (table .entry)) (length (now (row .entry)))) x b || related (now (table .entry)) (length (now (row .entry))) x c) ⌝ }
 {
     let w = row.len();
     let at = b * w;
@@ -110,7 +110,7 @@ fn settle_row(
     rest: &mut [u64],
     row: &mut [u64],
 ) -> usize
-    requires { ⌜ Room (now table) n (length (now row)) ⌝ }
+    requires { ⌜ Rows (now table) n (length (now row)) ⌝ }
     requires { ⌜ (length (now settled) ≡ length (now row)) × (length (now rest) ≡ length (now row)) ⌝ }
     requires { ⌜ b < n ⌝ }
     requires { ⌜ Closed n (length (now row)) (now table) (now table) (now settled) ⌝ }
@@ -141,10 +141,10 @@ fn close_from(
     settled: &mut [u64],
     rest: &mut [u64],
     row: &mut [u64],
-    path: &mut [u64],
+    path: &mut [u16],
 ) -> bool
-    requires { ⌜ Room (now table) n (length (now row)) ⌝ }
-    requires { ⌜ (length (now settled) ≡ length (now row)) × (length (now rest) ≡ length (now row)) × (n ≤ length (now path)) ⌝ }
+    requires { ⌜ Rows (now table) n (length (now row)) ⌝ }
+    requires { ⌜ (length (now settled) ≡ length (now row)) × (length (now rest) ≡ length (now row)) × (n ≤ length (now path)) × (n ≤ 512) ⌝ }
     requires { ⌜ b < n ⌝ }
     requires { ⌜ Closed n (length (now row)) (now table) (now table) (now settled) ⌝ }
     ensures { λ _. ⌜ Closed n (length (now (row .entry))) (now (table .entry)) (now (table .exit)) (now (settled .exit)) ⌝ }
@@ -159,7 +159,7 @@ fn close_from(
             if depth == n {
                 return false;
             }
-            path[depth] = e as u64;
+            path[depth] = e as u16;
             depth += 1;
             e = x;
         } else {
@@ -180,11 +180,11 @@ fn close_settled(
     settled: &mut [u64],
     rest: &mut [u64],
     row: &mut [u64],
-    path: &mut [u64],
+    path: &mut [u16],
 ) -> bool
-    requires { ⌜ Room (now table) n (length (now row)) ⌝ }
-    requires { ⌜ (length (now settled) ≡ length (now row)) × (length (now rest) ≡ length (now row)) × (n ≤ length (now path)) ⌝ }
-    ensures { λ t. ⌜ ((r : Rel) → Table n (length (now (row .entry))) r (now (table .entry)) → t ≡ true → Table n (length (now (row .entry))) (reaches n r) (now (table .exit))) ⌝ }
+    requires { ⌜ Rows (now table) n (length (now row)) ⌝ }
+    requires { ⌜ (length (now settled) ≡ length (now row)) × (length (now rest) ≡ length (now row)) × (n ≤ length (now path)) × (n ≤ 512) ⌝ }
+    ensures { λ t. ⌜ (t ≡ true → Closure n (length (now (row .entry))) (now (table .entry)) (now (table .exit))) ⌝ }
     ensures { λ _. ⌜ Between n (related (now (table .entry)) (length (now (row .entry)))) (related (now (table .exit)) (length (now (row .entry)))) ⌝ }
     ensures { λ _. ⌜ length (now (table .exit)) ≡ length (now (table .entry)) ⌝ }
 {
@@ -197,21 +197,19 @@ fn close_settled(
     true
 }
 
-// `close`, quick on tables without rings.
-pub fn close_fast(
-    table: &mut [u64],
-    n: usize,
-    settled: &mut [u64],
-    rest: &mut [u64],
-    row: &mut [u64],
-    path: &mut [u64],
-)
-    requires { ⌜ Room (now table) n (length (now row)) ⌝ }
-    requires { ⌜ (length (now settled) ≡ length (now row)) × (length (now rest) ≡ length (now row)) × (n ≤ length (now path)) ⌝ }
-    ensures { λ _. ⌜ ((r : Rel) → Table n (length (now (row .entry))) r (now (table .entry)) → Table n (length (now (row .entry))) (reaches n r) (now (table .exit))) ⌝ }
-    ensures { λ _. ⌜ length (now (table .exit)) ≡ length (now (table .entry)) ⌝ }
+// Closes a table in place: row b comes to have the events from which one or more steps lead to b. Quick on tables without rings.
+pub fn close(table: &mut [u64], n: usize, w: usize)
+    requires { ⌜ Graph (now table) n w × (w ≤ 8) ⌝ }
+    ensures { λ _. ⌜ Filled n w (reaches n (related (now (table .entry)) w)) (now (table .entry)) (now (table .exit)) ⌝ }
 {
-    if !close_settled(table, n, settled, rest, row, path) {
-        close(table, n, row);
+    let mut settled = [0u64; 8];
+    let mut rest = [0u64; 8];
+    let mut row = [0u64; 8];
+    let mut path = [0u16; 512];
+    let end = n * w;
+    let table = &mut table[..end];
+    let row = &mut row[..w];
+    if !close_settled(table, n, &mut settled[..w], &mut rest[..w], row, &mut path) {
+        close_by_rounds(table, n, row);
     }
 }

@@ -1,4 +1,4 @@
-// Events that reach themselves. Rows are as wide as `found`.
+// Events that reach themselves. Inner functions are lent their scratch rows, and rows are as wide as those.
 ghost use mathlib.Core.Path.{_≡_};
 ghost use mathlib.Core.Bool.{true, false};
 ghost use Prim.Native.Nat.{ℕ, _+_, _*_, _<_, _≤_};
@@ -32,10 +32,10 @@ fn reaching(table: &[u64], n: usize, b: usize, found: &mut [u64], done: &mut [u6
 
 // Settles b after the unsettled events that lead to it: `path` has the events that wait for one of their row. Whether b is settled now:
 // a ring on the way ends the walk, since without one each event is put on the path once and taken off it once.
-fn settle_from(table: &[u64], n: usize, b: usize, settled: &mut [u64], path: &mut [u64]) -> bool
+fn settle_from(table: &[u64], n: usize, b: usize, settled: &mut [u64], path: &mut [u16]) -> bool
     requires { ⌜ Graph (now table) n (length (now settled)) ⌝ }
     requires { ⌜ Settled (now table) n (now settled) ⌝ }
-    requires { ⌜ (b < n) × (n ≤ length (now path)) ⌝ }
+    requires { ⌜ (b < n) × (n ≤ length (now path)) × (n ≤ 512) ⌝ }
     ensures { λ _. ⌜ Settled (now (table .entry)) n (now (settled .exit)) ⌝ }
     ensures { λ _. ⌜ ((x : ℕ) → has (now (settled .entry)) x ≡ true → has (now (settled .exit)) x ≡ true) ⌝ }
     ensures { λ r. ⌜ (r ≡ true → has (now (settled .exit)) b ≡ true) ⌝ }
@@ -51,7 +51,7 @@ fn settle_from(table: &[u64], n: usize, b: usize, settled: &mut [u64], path: &mu
             if depth == n {
                 return false;
             }
-            path[depth] = e as u64;
+            path[depth] = e as u16;
             depth += 1;
             e = x;
         } else {
@@ -67,9 +67,9 @@ fn settle_from(table: &[u64], n: usize, b: usize, settled: &mut [u64], path: &mu
 }
 
 // True only where no event reaches itself. `settled` comes to have events on no ring.
-fn is_plainly_ringless(table: &[u64], n: usize, settled: &mut [u64], path: &mut [u64]) -> bool
+fn is_plainly_ringless(table: &[u64], n: usize, settled: &mut [u64], path: &mut [u16]) -> bool
     requires { ⌜ Graph (now table) n (length (now settled)) ⌝ }
-    requires { ⌜ n ≤ length (now path) ⌝ }
+    requires { ⌜ (n ≤ length (now path)) × (n ≤ 512) ⌝ }
     ensures { λ _. ⌜ Settled (now (table .entry)) n (now (settled .exit)) ⌝ }
     ensures { λ r. ⌜ (r ≡ true → (a : ℕ) → a < n → has (now (settled .exit)) a ≡ true) ⌝ }
 {
@@ -89,22 +89,19 @@ fn is_plainly_ringless(table: &[u64], n: usize, settled: &mut [u64], path: &mut 
     true
 }
 
-// The lowest event that reaches itself, or n.
-pub fn lowest_on_ring(
+// The lowest event that reaches itself, or n. `settled` has events on no ring, which are passed over.
+fn lowest_unsettled(
     table: &[u64],
     n: usize,
+    settled: &[u64],
     found: &mut [u64],
     done: &mut [u64],
-    settled: &mut [u64],
-    path: &mut [u64],
 ) -> usize
-    requires { ⌜ Graph (now table) n (length (now found)) ⌝ }
-    requires { ⌜ (length (now done) ≡ length (now found)) × (length (now settled) ≡ length (now found)) × (n ≤ length (now path)) ⌝ }
-    ensures { λ r. ⌜ r ≡ lowest n (λ a. reaches n (related (now (table .entry)) (length (now (found .entry)))) a a) ⌝ }
+    requires { ⌜ Graph (now table) n (length (now settled)) ⌝ }
+    requires { ⌜ Settled (now table) n (now settled) ⌝ }
+    requires { ⌜ (length (now found) ≡ length (now settled)) × (length (now done) ≡ length (now settled)) ⌝ }
+    ensures { λ r. ⌜ r ≡ lowest n (λ a. reaches n (related (now (table .entry)) (length (now (settled .entry)))) a a) ⌝ }
 {
-    if is_plainly_ringless(table, n, settled, path) {
-        return n;
-    }
     for a in 0..n {
         if !rows::test(settled, a) {
             reaching(table, n, a, found, done);
@@ -114,4 +111,20 @@ pub fn lowest_on_ring(
         }
     }
     n
+}
+
+// The lowest event that reaches itself, or n.
+pub fn lowest_on_ring(table: &[u64], n: usize, w: usize) -> usize
+    requires { ⌜ Graph (now table) n w × (w ≤ 8) ⌝ }
+    ensures { λ r. ⌜ r ≡ lowest n (λ a. reaches n (related (now (table .entry)) w) a a) ⌝ }
+{
+    let mut settled = [0u64; 8];
+    let mut path = [0u16; 512];
+    let settled = &mut settled[..w];
+    if is_plainly_ringless(table, n, settled, &mut path) {
+        return n;
+    }
+    let mut found = [0u64; 8];
+    let mut done = [0u64; 8];
+    lowest_unsettled(table, n, settled, &mut found[..w], &mut done[..w])
 }

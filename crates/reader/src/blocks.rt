@@ -2,7 +2,7 @@
 use rows::octets;
 ghost use mathlib.Core.Path.{_≡_};
 ghost use mathlib.Core.Bool.{not};
-ghost use Prim.Native.Nat.{_+_, _*_, _/_, _≤_, _<_, _%_, _^_};
+ghost use Prim.Native.Nat.{_+_, _*_, _/_, _≤_, _<_, _%_};
 ghost use lib.ListN.{length};
 ghost use Rattle.rows.specs.Lowest.{lowest};
 ghost use Rattle.record.specs.Blocks.{sumA, sumB, blockRight};
@@ -61,7 +61,7 @@ pub fn sums(s: &[u8], k: usize) -> Check
     }
 }
 
-pub fn block_holds(s: &[u8], k: usize) -> bool
+fn block_holds(s: &[u8], k: usize) -> bool
     requires { ⌜ 512 * k + 512 ≤ length (now s) ⌝ }
     requires { ⌜ k < 65536 ⌝ }
     ensures { λ r. ⌜ r ≡ blockRight (now (s .entry)) k ⌝ }

@@ -4,7 +4,7 @@ use rows::octets;
 ghost use mathlib.Core.Path.{_≡_};
 ghost use Prim.Native.Nat.{_≤_};
 ghost use lib.ListN.{length, take};
-ghost use Rattle.record.specs.Layout.{gcr1, Layout, countIn, sitesIn, same};
+ghost use Rattle.record.specs.Layout.{gcr1, countIn, sitesIn, same};
 ghost use Rattle.record.specs.Questions.{lengthRight, headerRight};
 
 pub fn length_holds(s: &[u8]) -> bool
@@ -27,14 +27,14 @@ pub fn count(s: &[u8]) -> usize
     octets::u16_at(s, 4) as usize
 }
 
-pub fn sites(s: &[u8]) -> usize
+fn sites(s: &[u8]) -> usize
     requires { ⌜ 512 ≤ length (now s) ⌝ }
     ensures { λ r. ⌜ r ≡ sitesIn (now (s .entry)) ⌝ }
 {
     s[6] as usize
 }
 
-pub fn has_letters(s: &[u8]) -> bool
+fn has_letters(s: &[u8]) -> bool
     requires { ⌜ 512 ≤ length (now s) ⌝ }
     ensures { λ r. ⌜ r ≡ same (take 4 (now (s .entry))) (gcr1 .letters) ⌝ }
 {

@@ -1,7 +1,5 @@
-// The reader of grain position records: questions 1 and 3 to 10, and the fields of events.
+// The reader of grain position records: questions 1 and 3 to 10, and the words of its events.
 pub mod blocks;
-pub mod events;
-pub mod fields;
 pub mod header;
 pub mod positions;
 pub mod sets;
@@ -17,7 +15,7 @@ ghost use Rattle.record.specs.Questions.{numberOf, byteQuestions, questions, re
 ghost use Rattle.record.specs.Words.{workAfter};
 
 // Questions 3 to 8, asked of the bytes alone.
-pub fn ask_bytes(s: &[u8]) -> Reading
+fn ask_bytes(s: &[u8]) -> Reading
     ensures { λ r. ⌜ r ≡ byteQuestions gcr1 (now (s .entry)) ⌝ }
 {
     if !header::length_holds(s) {
@@ -39,8 +37,7 @@ pub fn ask_bytes(s: &[u8]) -> Reading
     if slot < 7 * (blocks - 1) {
         return Reading::WrongSlot(slot);
     }
-    let mut taken = [0u64; 4];
-    let event = positions::wrong_position(s, n, &mut taken);
+    let event = positions::wrong_position(s, n);
     if event < n {
         return Reading::WrongPosition(event);
     }
@@ -53,18 +50,13 @@ pub fn ask(s: &[u8], work: &mut [u64]) -> Reading
     ensures { λ r. ⌜ r ≡ questions gcr1 (now (s .entry)) ⌝ }
     ensures { λ r. ⌜ now (work .exit) ≡ workAfter gcr1 (numberOf r) (now (s .entry)) (now (work .entry)) ⌝ }
 {
-    rows::clear(&mut work[0..1024]);
     let bytes = ask_bytes(s);
     if record::number(bytes) != 0 {
+        rows::clear(&mut work[0..1024]);
         return bytes;
     }
     let n = header::count(s);
-    words::load(s, n, 32, 4, work);
-    let sets = sets::ask(work, n);
-    if record::number(sets) != 0 {
-        rows::clear(&mut work[0..1024]);
-    }
-    sets
+    sets::ask(s, n, work)
 }
 
 // Question 1, then 3 to 10.

@@ -12,7 +12,7 @@ ghost use Rattle.record.specs.Slots.{placeRight, valueRight, timesRight, gapsRi
 ghost use Rattle.record.specs.Questions.{slotsIn};
 
 // Kind, site and state.
-pub fn place_holds(s: &[u8], at: usize) -> bool
+fn place_holds(s: &[u8], at: usize) -> bool
     requires { ⌜ 512 ≤ at ⌝ }
     requires { ⌜ at + 64 ≤ length (now s) ⌝ }
     ensures { λ r. ⌜ r ≡ placeRight (now (s .entry)) at ⌝ }
@@ -26,7 +26,7 @@ pub fn place_holds(s: &[u8], at: usize) -> bool
     s[at + 3] <= 1
 }
 
-pub fn value_holds(s: &[u8], at: usize) -> bool
+fn value_holds(s: &[u8], at: usize) -> bool
     requires { ⌜ at + 64 ≤ length (now s) ⌝ }
     ensures { λ r. ⌜ r ≡ valueRight (now (s .entry)) at ⌝ }
 {
@@ -45,7 +45,7 @@ pub fn value_holds(s: &[u8], at: usize) -> bool
     s[at + 3] == 0
 }
 
-pub fn times_hold(s: &[u8], at: usize) -> bool
+fn times_hold(s: &[u8], at: usize) -> bool
     requires { ⌜ at + 64 ≤ length (now s) ⌝ }
     ensures { λ r. ⌜ r ≡ timesRight (now (s .entry)) at ⌝ }
 {
@@ -56,7 +56,7 @@ pub fn times_hold(s: &[u8], at: usize) -> bool
     octets::u64_at(s, at + 16) <= returned
 }
 
-pub fn gaps_hold(s: &[u8], at: usize) -> bool
+fn gaps_hold(s: &[u8], at: usize) -> bool
     requires { ⌜ at + 64 ≤ length (now s) ⌝ }
     ensures { λ r. ⌜ r ≡ gapsRight (now (s .entry)) at ⌝ }
 {
@@ -67,7 +67,7 @@ pub fn gaps_hold(s: &[u8], at: usize) -> bool
 }
 
 // The slot of an event, its position and visible set aside.
-pub fn event_holds(s: &[u8], at: usize) -> bool
+fn event_holds(s: &[u8], at: usize) -> bool
     requires { ⌜ 512 ≤ at ⌝ }
     requires { ⌜ at + 64 ≤ length (now s) ⌝ }
     ensures { λ r. ⌜ r ≡ eventRight (now (s .entry)) at ⌝ }
@@ -85,7 +85,7 @@ pub fn event_holds(s: &[u8], at: usize) -> bool
 }
 
 // The bytes after the last slot of a block, where the slot at `at` is that one.
-pub fn tail_holds(s: &[u8], at: usize) -> bool
+fn tail_holds(s: &[u8], at: usize) -> bool
     requires { ⌜ at + 128 ≤ length (now s) ⌝ }
     ensures { λ r. ⌜ ((e : ℕ) → at ≡ slotAt gcr1 e → r ≡ tailRight gcr1 (now (s .entry)) e) ⌝ }
 {
@@ -96,7 +96,7 @@ pub fn tail_holds(s: &[u8], at: usize) -> bool
 }
 
 // Slot e, which starts at `at`.
-pub fn slot_holds(s: &[u8], n: usize, e: usize, at: usize) -> bool
+fn slot_holds(s: &[u8], n: usize, e: usize, at: usize) -> bool
     requires { ⌜ n ≡ countIn (now s) ⌝ }
     requires { ⌜ at ≡ slotAt gcr1 e ⌝ }
     requires { ⌜ 512 * (1 + e / 7) + 512 ≤ length (now s) ⌝ }

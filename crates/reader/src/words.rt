@@ -1,4 +1,4 @@
-// A record's slots as 64-bit words: the reader loads them once, and judges read fields from words.
+// A record's slots as 64-bit words, from which judges read fields.
 use record::layout;
 use rows::octets;
 ghost use mathlib.Core.Path.{_≡_};

@@ -7,9 +7,10 @@ use lib.Dec.{eqb}
 use borrow.Author.Tests.{lt-ltb}
 use Rattle.rows.specs.Lowest.{lowest, some}
 use Rattle.rows.proofs.Tests.{split, not-of}
-use Rattle.rows.proofs.LowestLaws.{lowest-low, lowest-hit, some-at, some-none, none-some, same-some, same-lowest}
+use Rattle.rows.proofs.LowestLaws.{lowest-low, lowest-hit, some-at, some-none, none-some}
 use Rattle.record.specs.declared.Reading.{Reading}
 use Rattle.record.specs.Questions.{numberOf, ask, askEach, andThen}
+use Rattle.record.specs.Answers.{LowestWrong}
 
 -- ---- by the test
 
@@ -43,26 +44,15 @@ pub ask-into : (P : Reading → Type 0) (t : Bool) (r next : Reading) → (t ≡
 ask-into P true r next stop go = go refl
 ask-into P false r next stop go = stop refl
 
--- the lowest place k of n at which a test fails
-pub record First (n : ℕ) (wrong : ℕ → Bool) (k : ℕ) : Type 0 where
-  pub within : k < n
-  pub fails : wrong k ≡ true
-  pub lower : (j : ℕ) → j < k → wrong j ≡ false
-
 pub each-into : (P : Reading → Type 0) (n : ℕ) (wrong : ℕ → Bool) (r : ℕ → Reading) (next : Reading)
-    → ((k : ℕ) → First n wrong k → P (r k)) → (((k : ℕ) → k < n → wrong k ≡ false) → P next) → P (askEach n wrong r next)
+    → ((k : ℕ) → LowestWrong n wrong k → P (r k)) → (((k : ℕ) → k < n → wrong k ≡ false) → P next) → P (askEach n wrong r next)
 each-into P n wrong r next stop go =
     split (some n wrong)
     (λ t. rw t (let w = some-at n wrong t in stop (lowest n wrong) (record { within = w .0; fails = w .1; lower = lowest-low n wrong .below })))
     (λ t. rw t (go (some-none n wrong t)))
 
-pub each-first : (n : ℕ) (wrong : ℕ → Bool) (r : ℕ → Reading) (next : Reading) (k : ℕ) → First n wrong k → askEach n wrong r next ≡ r k
+pub each-first : (n : ℕ) (wrong : ℕ → Bool) (r : ℕ → Reading) (next : Reading) (k : ℕ) → LowestWrong n wrong k → askEach n wrong r next ≡ r k
 each-first n wrong r next k f = each-found n wrong r next k (sym (lowest-hit n wrong k (f .within) (f .lower) (f .fails))) (f .within)
-
--- ---- the same tests get the same answers
-
-pub each-same : (n : ℕ) (f g : ℕ → Bool) (r : ℕ → Reading) (next last : Reading) → ((k : ℕ) → k < n → f k ≡ g k) → next ≡ last → askEach n f r next ≡ askEach n g r last
-each-same n f g r next last e q = rw (same-some n f g e, same-lowest n f g e, q)
 
 -- ---- questions after questions
 

@@ -2,7 +2,6 @@
 pub mod LayoutLaws
 pub mod SumLaws
 pub mod SlotLaws
-pub mod Examples
 pub mod StoresLaws
 pub mod NumberBytes
 pub mod SealLaws

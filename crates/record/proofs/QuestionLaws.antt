@@ -3,14 +3,13 @@ use mathlib.Core.Path.{_≡_, refl, sym, _∙_, subst}
 use mathlib.Core.Logic.{_≢_}
 use mathlib.Core.Bool.{Bool, true, false, not, cond, _&&_}
 use mathlib.Core.List.{List}
-use Prim.Native.Nat.{ℕ, _+_, _*_, _-_, _/_, _%_, _<_, _≤_}
+use Prim.Native.Nat.{ℕ, _+_, _-_, _/_, _%_, _<_, _≤_}
 use native.Mathlib.Omega.{arith}
 use borrow.Author.Tests.{eq-eqb, ne-eqb, eqb-true, le-leb, lt-leb, leb-true, lt-ltb, ltb-true, not-false}
 use lib.Dec.{eqb, leb, ltb}
 use lib.ListN.{length, take}
 use Rattle.rows.specs.Relation.{Rel}
 use Rattle.rows.proofs.Tests.{and-left, and-right}
-use Rattle.rows.proofs.ReachLaws.{reaches-same}
 use Rattle.record.specs.declared.Reading.{Reading}
 use Rattle.record.specs.declared.Reading.the-variants.{Passed, ShortWork, WrongLength, WrongCheck, WrongHeader, WrongBlocks, WrongSlot, WrongPosition, WrongSet, OnRing}
 use Rattle.record.specs.Layout.{Layout, byte, countIn, sitesIn, slotAt, zeros, same, workWords}
@@ -18,8 +17,8 @@ use Rattle.record.specs.Blocks.{blockRight}
 use Rattle.record.specs.History.{historyOf, vis}
 use Rattle.record.specs.Slots.{placeRight, valueRight, timesRight, gapsRight, eventRight, tailRight, slotRight}
 use Rattle.record.specs.Questions.{numberOf, lengthRight, headerRight, blocksRight, slotsIn, wrongPosition, wrongSet, onRing, ask, askEach, byteQuestions, setQuestions, questions, reading}
-use Rattle.record.proofs.SetLaws.{set-same}
-use Rattle.record.proofs.AskLaws.{First, ask-yes, ask-no, ask-into, each-into, each-same}
+use Rattle.record.specs.Answers.{LowestWrong, ChecksRight, SlotsRight, SetsRight, RingsRight, BytesRight}
+use Rattle.record.proofs.AskLaws.{ask-yes, ask-no, ask-into, each-into}
 
 -- the blocks that there are
 abbrev pub blocksIn : List ℕ → ℕ
@@ -99,35 +98,19 @@ module _ (L : Layout) (s : List ℕ) (end : Reading) where
   abbrev pub fromLength : Reading
   fromLength = ask (lengthRight L s) WrongLength fromChecks
 
--- a yes to 4 and to 7
-abbrev pub ChecksRight : List ℕ → Type 0
-ChecksRight s = (k : ℕ) → k < blocksIn s → blockRight s k ≡ true
-
-abbrev pub SlotsRight : Layout → List ℕ → Type 0
-SlotsRight L s = (e : ℕ) → e < slotsIn L s → slotRight L s e ≡ true
-
--- all of them get a yes
-pub record BytesRight (L : Layout) (s : List ℕ) : Type 0 where
-  pub length : lengthRight L s ≡ true
-  pub checks : ChecksRight s
-  pub header : headerRight L s ≡ true
-  pub blocks : blocksRight L s ≡ true
-  pub slots : SlotsRight L s
-  pub positions : (e : ℕ) → e < countIn s → wrongPosition (historyOf L s) e ≡ false
-
 -- what each answer to them says; the readings at ⊥ are no answers to them
 abbrev pub BytesAnswer : Layout → List ℕ → Reading → Type 0
 BytesAnswer L s Passed = BytesRight L s
 BytesAnswer L s ShortWork = ⊥
 BytesAnswer L s WrongLength = lengthRight L s ≡ false
-BytesAnswer L s (WrongCheck k) = (lengthRight L s ≡ true) × First (blocksIn s) (λ b. not (blockRight s b)) k
+BytesAnswer L s (WrongCheck k) = (lengthRight L s ≡ true) × LowestWrong (blocksIn s) (λ b. not (blockRight s b)) k
 BytesAnswer L s WrongHeader = (lengthRight L s ≡ true) × ChecksRight s × (headerRight L s ≡ false)
 BytesAnswer L s WrongBlocks = (lengthRight L s ≡ true) × ChecksRight s × (headerRight L s ≡ true) × (blocksRight L s ≡ false)
 BytesAnswer L s (WrongSlot e) =
-    (lengthRight L s ≡ true) × ChecksRight s × (headerRight L s ≡ true) × (blocksRight L s ≡ true) × First (slotsIn L s) (λ d. not (slotRight L s d)) e
+    (lengthRight L s ≡ true) × ChecksRight s × (headerRight L s ≡ true) × (blocksRight L s ≡ true) × LowestWrong (slotsIn L s) (λ d. not (slotRight L s d)) e
 BytesAnswer L s (WrongPosition e) =
     (lengthRight L s ≡ true) × ChecksRight s × (headerRight L s ≡ true) × (blocksRight L s ≡ true) × SlotsRight L s
-    × First (countIn s) (wrongPosition (historyOf L s)) e
+    × LowestWrong (countIn s) (wrongPosition (historyOf L s)) e
 BytesAnswer L s (WrongSet e) = ⊥
 BytesAnswer L s (OnRing e) = ⊥
 
@@ -168,12 +151,6 @@ module _ (L : Layout) (s : List ℕ) where
 
 -- ---- questions 9 and 10
 
-abbrev pub SetsRight : Layout → ℕ → Rel → Type 0
-SetsRight L n v = (e : ℕ) → e < n → wrongSet (L .row) n v e ≡ false
-
-abbrev pub RingsRight : ℕ → Rel → Type 0
-RingsRight n v = (e : ℕ) → e < n → onRing n v e ≡ false
-
 abbrev pub SetsAnswer : Layout → ℕ → Rel → Reading → Type 0
 SetsAnswer L n v Passed = SetsRight L n v × RingsRight n v
 SetsAnswer L n v ShortWork = ⊥
@@ -183,8 +160,8 @@ SetsAnswer L n v WrongHeader = ⊥
 SetsAnswer L n v WrongBlocks = ⊥
 SetsAnswer L n v (WrongSlot e) = ⊥
 SetsAnswer L n v (WrongPosition e) = ⊥
-SetsAnswer L n v (WrongSet e) = First n (wrongSet (L .row) n v) e
-SetsAnswer L n v (OnRing e) = SetsRight L n v × First n (onRing n v) e
+SetsAnswer L n v (WrongSet e) = LowestWrong n (wrongSet (L .row) n v) e
+SetsAnswer L n v (OnRing e) = SetsRight L n v × LowestWrong n (onRing n v) e
 
 module _ (L : Layout) (n : ℕ) (v : Rel) where
   pub sets-answered : SetsAnswer L n v (setQuestions L n v)
@@ -193,15 +170,6 @@ module _ (L : Layout) (n : ℕ) (v : Rel) where
       let P : Reading → Type 0 = SetsAnswer L n v in
       each-into P n (wrongSet (L .row) n v) WrongSet (askEach n (onRing n v) OnRing Passed) (λ e f. f) (λ nine.
       each-into P n (onRing n v) OnRing Passed (λ e f. (nine, f)) (λ ten. (nine, ten)))
-
-  -- relations that agree get the same answer
-  pub sets-same : (u : Rel) → n ≤ 64 * L .row → ((a b : ℕ) → a < 64 * L .row → b < n → v a b ≡ u a b) → setQuestions L n v ≡ setQuestions L n u
-  unfolding setQuestions onRing
-  sets-same u wide same =
-      each-same n (wrongSet (L .row) n v) (wrongSet (L .row) n u) WrongSet (askEach n (onRing n v) OnRing Passed) (askEach n (onRing n u) OnRing Passed)
-      (λ e h. set-same (L .row) n v e u (λ b k. same b e k h))
-      (each-same n (onRing n v) (onRing n u) OnRing Passed Passed
-      (λ e h. reaches-same n v u (λ x y p q. same x y (omega arith) q) e e h h) refl)
 
 -- ---- the number of a refusal
 
@@ -219,9 +187,6 @@ late (OnRing e) f g = omega arith
 
 pub bytes-late : (L : Layout) (s : List ℕ) (b : Reading) → b ≡ byteQuestions L s → (numberOf b ≡ 0 → ⊥) → 3 ≤ numberOf b
 bytes-late L s b q e = late b (λ z. subst (BytesAnswer L s) (sym q ∙ z) (bytes-answered L s)) e
-
-pub sets-late : (L : Layout) (n : ℕ) (v : Rel) (r : Reading) → r ≡ setQuestions L n v → (numberOf r ≡ 0 → ⊥) → 3 ≤ numberOf r
-sets-late L n v r q e = late r (λ z. subst (SetsAnswer L n v) (sym q ∙ z) (sets-answered L n v)) e
 
 -- ---- one after the other
 

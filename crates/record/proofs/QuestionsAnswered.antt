@@ -21,7 +21,8 @@ use Rattle.record.specs.Layout.{Layout, gcr1, countIn, slotAt, workWords
 use Rattle.record.specs.Blocks.{blockRight}
 use Rattle.record.specs.History.{History, historyOf, vis}
 use Rattle.record.specs.Slots.{slotRight}
-use Rattle.record.specs.Questions.{numberOf, placeOf, lengthRight, headerRight, blocksRight, slotsIn, wrongPosition, wrongSet, onRing, ask, askEach, andThen, byteQuestions, setQuestions, questions, reading, packed}
+use Rattle.record.specs.Questions.{numberOf, placeOf, lengthRight, headerRight, blocksRight, slotsIn, wrongPosition, wrongSet, onRing, ask, askEach, andThen, byteQuestions, setQuestions, questions, reading, packedReading}
+use Rattle.record.specs.Answers.{LowestWrong, ChecksRight, SlotsRight, SetsRight, BytesRight, Passes, Tells}
 use Rattle.record.specs.Words.{visibleWords}
 use Rattle.record.specs.Encode.{blocksFor}
 use Rattle.record.proofs.StoresLaws.{Bytes}
@@ -29,54 +30,21 @@ use Rattle.record.proofs.WorkLaws.{length-visible}
 use Rattle.record.proofs.WordsLaws.{visible-vis}
 use Rattle.record.proofs.PositionLaws.{position-says, positions-distinct}
 use Rattle.record.proofs.SetLaws.{set-inside}
-use Rattle.record.proofs.AskLaws.{First, ask-yes, ask-no, ask-into, each-yes, each-first, ask-then, each-then}
-use Rattle.record.proofs.QuestionLaws.{blocksIn, length-says, header-says, sites-say, slot-site, blocks-say, fromPositions, fromSlots, fromBlocks, fromHeader, fromChecks, fromLength, ChecksRight, SlotsRight, BytesRight, BytesAnswer, bytes-asked, bytes-answered, SetsRight, RingsRight, SetsAnswer, sets-answered}
+use Rattle.record.proofs.AskLaws.{ask-yes, ask-no, ask-into, each-yes, each-first, ask-then, each-then}
+use Rattle.record.proofs.QuestionLaws.{blocksIn, length-says, header-says, sites-say, slot-site, blocks-say, fromPositions, fromSlots, fromBlocks, fromHeader, fromChecks, fromLength, BytesAnswer, bytes-asked, bytes-answered, SetsAnswer, sets-answered}
 
 -- ---- each answer
-
--- every question's test holds
-pub record Right (L : Layout) (s : List ℕ) : Type 0 where
-  pub length : lengthRight L s ≡ true
-  pub checks : ChecksRight s
-  pub header : headerRight L s ≡ true
-  pub blocks : blocksRight L s ≡ true
-  pub slots : SlotsRight L s
-  pub positions : (e : ℕ) → e < countIn s → wrongPosition (historyOf L s) e ≡ false
-  pub sets : SetsRight L (countIn s) (vis (historyOf L s))
-  pub rings : RingsRight (countIn s) (vis (historyOf L s))
-
--- what an answer says: those before the first that fails hold, and that one fails, at the lowest place where there are several
-abbrev pub Answer : Layout → List ℕ → Reading → Type 0
-Answer L s Passed = Right L s
-Answer L s ShortWork = ⊥
-Answer L s WrongLength = BytesAnswer L s WrongLength
-Answer L s (WrongCheck k) = BytesAnswer L s (WrongCheck k)
-Answer L s WrongHeader = BytesAnswer L s WrongHeader
-Answer L s WrongBlocks = BytesAnswer L s WrongBlocks
-Answer L s (WrongSlot e) = BytesAnswer L s (WrongSlot e)
-Answer L s (WrongPosition e) = BytesAnswer L s (WrongPosition e)
-Answer L s (WrongSet e) = BytesRight L s × First (countIn s) (wrongSet (L .row) (countIn s) (vis (historyOf L s))) e
-Answer L s (OnRing e) = BytesRight L s × SetsRight L (countIn s) (vis (historyOf L s)) × First (countIn s) (onRing (countIn s) (vis (historyOf L s))) e
 
 module _ (L : Layout) (s : List ℕ) where
   abbrev sets : Reading
   sets = setQuestions L (countIn s) (vis (historyOf L s))
 
-  pub answered : Answer L s (questions L s)
+  pub answered : Tells L s (questions L s)
   unfolding questions
   answered = bytes (byteQuestions L s) (bytes-answered L s)
     where
-      all : BytesRight L s → (r : Reading) → SetsAnswer L (countIn s) (vis (historyOf L s)) r → Answer L s r
-      all b Passed a = record {
-        length = b .length;
-        checks = b .checks;
-        header = b .header;
-        blocks = b .blocks;
-        slots = b .slots;
-        positions = b .positions;
-        sets = a .0;
-        rings = a .1;
-      }
+      all : BytesRight L s → (r : Reading) → SetsAnswer L (countIn s) (vis (historyOf L s)) r → Tells L s r
+      all b Passed a = record { bytes = b; sets = a .0; rings = a .1 }
       all b ShortWork a = a
       all b WrongLength a = absurd a
       all b (WrongCheck k) a = absurd a
@@ -87,7 +55,7 @@ module _ (L : Layout) (s : List ℕ) where
       all b (WrongSet e) a = (b, a)
       all b (OnRing e) a = (b, a .0, a .1)
 
-      bytes : (r : Reading) → BytesAnswer L s r → Answer L s (andThen r sets)
+      bytes : (r : Reading) → BytesAnswer L s r → Tells L s (andThen r sets)
       bytes Passed a = all a sets (sets-answered L (countIn s) (vis (historyOf L s)))
       bytes ShortWork a = a
       bytes WrongLength a = a
@@ -147,18 +115,10 @@ module _ (L : Layout) (s : List ℕ) where
       let v : Rel = vis (historyOf L s) in
       to-sets b ∙ each-yes n (wrongSet (L .row) n v) WrongSet (askEach n (onRing n v) OnRing Passed) nine
 
-  pub answer-only : (r : Reading) → Answer L s r → questions L s ≡ r
+  pub answer-only : (r : Reading) → Tells L s r → questions L s ≡ r
   unfolding setQuestions
   answer-only Passed a =
-      let b : BytesRight L s = record {
-        length = a .length;
-        checks = a .checks;
-        header = a .header;
-        blocks = a .blocks;
-        slots = a .slots;
-        positions = a .positions;
-      } in
-      to-rings b (a .sets) ∙ each-yes (countIn s) (onRing (countIn s) (vis (historyOf L s))) OnRing Passed (a .rings)
+      to-rings (a .bytes) (a .sets) ∙ each-yes (countIn s) (onRing (countIn s) (vis (historyOf L s))) OnRing Passed (a .rings)
   answer-only ShortWork a = absurd a
   answer-only WrongLength a = in-order ∙ ask-no (lengthRight L s) WrongLength (fromChecks L s sets) a
   answer-only (WrongCheck k) a = to-checks (a .0) ∙ each-first (blocksIn s) (λ b. not (blockRight s b)) WrongCheck (fromHeader L s sets) k (a .1)
@@ -175,8 +135,8 @@ module _ (L : Layout) (s : List ℕ) where
   answer-only (OnRing e) a = to-rings (a .0) (a .1) ∙ each-first (countIn s) (onRing (countIn s) (vis (historyOf L s))) OnRing Passed e (a .2)
 
   -- what is known of a record with a given answer
-  pub answer-of : (r : Reading) → questions L s ≡ r → Answer L s r
-  answer-of r q = subst (Answer L s) q answered
+  pub answer-of : (r : Reading) → questions L s ≡ r → Tells L s r
+  answer-of r q = subst (Tells L s) q answered
 
 -- ---- rings
 
@@ -191,11 +151,11 @@ module _ (n : ℕ) (v : Rel) where
   unfolding onRing
   no-steps d f c = tell (reaches n v d d) (reaches-complete n v c) f
 
-  first-ring : (e : ℕ) → First n (onRing n v) e → LowestRing n v e
+  first-ring : (e : ℕ) → LowestWrong n (onRing n v) e → LowestRing n v e
   unfolding onRing
   first-ring e f = record { within = f .within; ring = reaches-sound n v e e (f .fails); lower = λ d l. no-steps d (f .lower d l) }
 
-  ring-first : (e : ℕ) → LowestRing n v e → First n (onRing n v) e
+  ring-first : (e : ℕ) → LowestRing n v e → LowestWrong n (onRing n v) e
   unfolding onRing
   ring-first e f = record {
     within = f .within;
@@ -214,11 +174,8 @@ module _ (L : Layout) (s : List ℕ) where
 
   -- ---- a record that passes
 
-  pub passed-right : questions L s ≡ Passed → Right L s
+  pub passed-right : questions L s ≡ Passed → Passes L s
   passed-right q = answer-of L s Passed q
-
-  pub right-passed : Right L s → questions L s ≡ Passed
-  right-passed a = answer-only L s Passed a
 
 -- a visible set holds no event past its bytes
 vis-within : (L : Layout) (s : List ℕ) (a b : ℕ) → vis (historyOf L s) a b ≡ true → a < 64 * L .row
@@ -227,7 +184,7 @@ vis-within L s a b t = ltb-true a (64 * L .row) (and-left (ltb a (64 * L .row)) 
 
 -- what those who read a record of the edition `GCR1` use
 module _ (s : List ℕ) (passed : questions gcr1 s ≡ Passed) where
-  right : Right gcr1 s
+  right : Passes gcr1 s
   right = passed-right gcr1 s passed
 
   abbrev n : ℕ
@@ -237,27 +194,23 @@ module _ (s : List ℕ) (passed : questions gcr1 s ≡ Passed) where
   h = historyOf gcr1 s
 
   pub passed-count : countIn s ≤ 256
-  passed-count = header-says gcr1 s (right .header)
+  passed-count = header-says gcr1 s (right .bytes .header)
 
   pub passed-blocks : length s ≡ 512 * blocksFor gcr1 (countIn s)
-  passed-blocks = omega (arith, length-says gcr1 s (right .length), blocks-say gcr1 s (right .blocks))
-
-  -- each event's slot lies in the record
-  pub passed-slot : (e : ℕ) → e < countIn s → slotAt gcr1 e + 64 ≤ length s
-  passed-slot e l = omega (arith, passed-blocks)
+  passed-blocks = omega (arith, length-says gcr1 s (right .bytes .length), blocks-say gcr1 s (right .bytes .blocks))
 
   pub passed-site : (e : ℕ) → e < countIn s → historyOf gcr1 s .site e < 8
   unfolding historyOf
   passed-site e l =
-      omega (arith, sites-say gcr1 s (right .header), slot-site gcr1 s e l (right .slots e (omega (arith, passed-blocks))))
+      omega (arith, sites-say gcr1 s (right .bytes .header), slot-site gcr1 s e l (right .bytes .slots e (omega (arith, passed-blocks))))
 
   pub passed-position : (e : ℕ) → e < countIn s → historyOf gcr1 s .position e < countIn s
   unfolding historyOf
-  passed-position e l = position-says h e (right .positions e l) .0
+  passed-position e l = position-says h e (right .bytes .positions e l) .0
 
   pub passed-distinct : (d e : ℕ) → d < countIn s → e < countIn s → historyOf gcr1 s .position d ≡ historyOf gcr1 s .position e → d ≡ e
   unfolding historyOf
-  passed-distinct = positions-distinct h (right .positions)
+  passed-distinct = positions-distinct h (right .bytes .positions)
 
   -- visible sets have events below n, and not the event itself
   pub passed-inside : (e b : ℕ) → e < countIn s → vis (historyOf gcr1 s) b e ≡ true → (b < countIn s) × (b ≡ e → ⊥)
@@ -297,11 +250,24 @@ number-most (WrongPosition e) = omega arith
 number-most (WrongSet e) = omega arith
 number-most (OnRing e) = omega arith
 
+-- only a record that passes has number 0
+pub number-passed : (r : Reading) → numberOf r ≡ 0 → r ≡ Passed
+number-passed Passed e = refl
+number-passed ShortWork e = absurd (omega arith)
+number-passed WrongLength e = absurd (omega arith)
+number-passed (WrongCheck k) e = absurd (omega arith)
+number-passed WrongHeader e = absurd (omega arith)
+number-passed WrongBlocks e = absurd (omega arith)
+number-passed (WrongSlot k) e = absurd (omega arith)
+number-passed (WrongPosition k) e = absurd (omega arith)
+number-passed (WrongSet k) e = absurd (omega arith)
+number-passed (OnRing k) e = absurd (omega arith)
+
 pub place-small : (w : ℕ) (s : List ℕ) → placeOf (reading gcr1 w s) < 1024
 unfolding reading
 place-small w s = ask-into (λ r. placeOf r < 1024) (leb (workWords gcr1) w) ShortWork (questions gcr1 s) (λ t. omega arith) (λ t. small (questions gcr1 s) (answered gcr1 s))
   where
-    small : (r : Reading) → Answer gcr1 s r → placeOf r < 1024
+    small : (r : Reading) → Tells gcr1 s r → placeOf r < 1024
     small Passed a = omega arith
     small ShortWork a = omega arith
     small WrongLength a = omega arith
@@ -313,10 +279,10 @@ place-small w s = ask-into (λ r. placeOf r < 1024) (leb (workWords gcr1) w) Sho
     small (WrongSet e) a = omega (arith, a .1 .within, header-says gcr1 s (a .0 .header))
     small (OnRing e) a = omega (arith, a .2 .within, header-says gcr1 s (a .0 .header))
 
-pub packed-passed : (r : Reading) → numberOf r ≡ 0 → packed r ≡ 0
-unfolding packed
+pub packed-passed : (r : Reading) → numberOf r ≡ 0 → packedReading r ≡ 0
+unfolding packedReading
 packed-passed r e = rw (eq-eqb (numberOf r) 0 e)
 
-pub packed-refused : (r : Reading) → (numberOf r ≡ 0 → ⊥) → packed r ≡ 2097152 + 1024 * numberOf r + placeOf r
-unfolding packed
+pub packed-refused : (r : Reading) → (numberOf r ≡ 0 → ⊥) → packedReading r ≡ 2097152 + 1024 * numberOf r + placeOf r
+unfolding packedReading
 packed-refused r e = rw (ne-eqb (numberOf r) 0 e)

@@ -61,10 +61,13 @@ module _ (L : Layout) (off w : ℕ) (s : List ℕ) where
 
 -- ---- the visible sets
 
-module _ (L : Layout) (s : List ℕ) (bytes : Bytes s) where
-  -- words hold the bytes' relation
-  pub related-vis : (n : ℕ) (rest : List ℕ) (a b : ℕ) → a < 64 * L .row → b < n → related (slotWords L 32 (L .row) s n ++ rest) (L .row) a b ≡ vis (historyOf L s) a b
-  unfolding vis historyOf
-  related-vis n rest a b h k =
-      ap (λ (r : List ℕ). has r a) (row-slot-words L 32 (L .row) s n b rest k) ∙ has-words s bytes (L .row) (slotAt L b + 32) a h
-      ∙ sym (ap (λ (t : Bool). t && hasByte s (slotAt L b + 32) a) (lt-ltb a (64 * L .row) h))
+-- a member is one bit in the bytes
+pub vis-byte : (L : Layout) (s : List ℕ) (a b : ℕ) → a < 64 * L .row → vis (historyOf L s) a b ≡ hasByte s (slotAt L b + 32) a
+unfolding vis historyOf
+vis-byte L s a b h = ap (λ (t : Bool). t && hasByte s (slotAt L b + 32) a) (lt-ltb a (64 * L .row) h)
+
+-- and words hold the bytes' relation
+pub related-vis : (L : Layout) (s : List ℕ) → Bytes s → (n : ℕ) (rest : List ℕ) (a b : ℕ) → a < 64 * L .row → b < n
+    → related (slotWords L 32 (L .row) s n ++ rest) (L .row) a b ≡ vis (historyOf L s) a b
+related-vis L s bytes n rest a b h k =
+    ap (λ (r : List ℕ). has r a) (row-slot-words L 32 (L .row) s n b rest k) ∙ has-words s bytes (L .row) (slotAt L b + 32) a h ∙ sym (vis-byte L s a b h)

@@ -1,12 +1,13 @@
 -- What the laws ask of a layout, and where its slots lie: apart from each other, before the checks, inside the record. Assumes nothing.
-use mathlib.Core.Path.{_≡_, refl, sym, ap₂, _∙_}
+use mathlib.Core.Path.{_≡_, refl, sym, ap, ap₂, _∙_}
 use mathlib.Core.List.{[], _∷_}
 use Prim.Native.Nat.{ℕ, suc, _+_, _*_, _-_, _/_, _%_, _^_, _<_, _≤_}
-use native.Mathlib.Nat.{mod-lt, mul-suc, mul-le-mul-left, div-add-mod', lt-div-mul-add, div-lt-iff-lt-mul, le-div-iff-mul-le, div-mul-le-self}
+use native.Mathlib.Nat.{mul-add, div-self, mod-self, div-eq-of-lt, mod-eq-of-lt, mul-add-div-right, mul-add-mod-self-right, mod-lt, mul-suc, mul-le-mul-left, div-add-mod', lt-div-mul-add, div-lt-iff-lt-mul, le-div-iff-mul-le, div-mul-le-self}
 use native.Mathlib.Omega.{arith}
 use native.Mathlib.Decide.{decLt}
+use borrow.Author.Tests.{eq-eqb, ne-eqb}
 use lib.ListN.{length}
-use Rattle.record.specs.Layout.{Layout, gcr1, slotAt, tailAt}
+use Rattle.record.specs.Layout.{Layout, gcr1, slotAt, nextSlot, tailAt}
 use Rattle.record.specs.Encode.{blocksFor}
 use Rattle.record.proofs.StoresLaws.{Outside, Bytes, bytes-nil, bytes-cons}
 
@@ -43,6 +44,52 @@ module _ (L : Layout) (ok : Sound L) where
 
   pub slot-end : (e : ℕ) → L .slot * (e % L .perBlock) + L .slot ≤ L .slot * L .perBlock
   slot-end e = slot-next (e % L .perBlock) (L .perBlock) (mod-lt e (ok .some))
+
+  -- where the slot after event e's starts, the next event's does
+  pub slot-after : (e : ℕ) → nextSlot L (slotAt L e) ≡ slotAt L (e + 1)
+  slot-after e = elim (decLt (r + 1) p) [ yes l ↦ within l | no g ↦ past g ]
+    where
+      p : ℕ
+      p = L .perBlock
+
+      q : ℕ
+      q = e / p
+
+      r : ℕ
+      r = e % p
+
+      one-on : e + 1 ≡ q * p + (r + 1)
+      one-on = omega (arith, div-add-mod' e p)
+
+      place : slotAt L e % 512 ≡ L .slot * r
+      place = omega (arith, slot-end e, ok .room)
+
+      block : (e + 1) / p ≡ q + (r + 1) / p
+      block = ap (λ (x : ℕ). x / p) one-on ∙ mul-add-div-right {m = p} (ok .some) q (r + 1)
+
+      rest : (e + 1) % p ≡ (r + 1) % p
+      rest = ap (λ (x : ℕ). x % p) one-on ∙ mul-add-mod-self-right q p (r + 1)
+
+      within : r + 1 < p → nextSlot L (slotAt L e) ≡ slotAt L (e + 1)
+      within l =
+          let more = slot-next r (p - 1) (omega arith) in
+          let same : (e + 1) / p ≡ q = block ∙ omega (arith, div-eq-of-lt {n = r + 1} {m = p} l) in
+          let on : (e + 1) % p ≡ r + 1 = rest ∙ mod-eq-of-lt {n = r + 1} {m = p} l in
+          rw (ne-eqb (slotAt L e % 512) (L .slot * (p - 1)) (λ z. omega (arith, place, more, ok .slot)), same, on)
+          (omega (arith, mul-add (L .slot) r 1))
+
+      past : ¬ (r + 1 < p) → nextSlot L (slotAt L e) ≡ slotAt L (e + 1)
+      past g =
+          let last : r + 1 ≡ p = omega (arith, mod-lt e (ok .some)) in
+          let here : r ≡ p - 1 = omega arith in
+          let on : (e + 1) / p ≡ q + 1 = block ∙ ap (λ (x : ℕ). q + x / p) last ∙ ap (λ (x : ℕ). q + x) (div-self (ok .some)) in
+          let none : (e + 1) % p ≡ 0 = rest ∙ ap (λ (x : ℕ). x % p) last ∙ mod-self p in
+          let end : slotAt L e % 512 ≡ L .slot * (p - 1) = place ∙ ap (λ (x : ℕ). L .slot * x) here in
+          rw (eq-eqb (slotAt L e % 512) (L .slot * (p - 1)) end, on, none) (omega (arith, place, end, slot-end e, ok .room))
+
+  -- a loop over the slots: one more
+  pub slot-step : (e at next : ℕ) → at ≡ slotAt L e → next ≡ nextSlot L at → next ≡ slotAt L (e + 1)
+  slot-step e at next q r = r ∙ ap (nextSlot L) q ∙ slot-after e
 
   -- no byte of a slot is a check's
   pub slot-unchecked : (e off : ℕ) → off < L .slot → (slotAt L e + off) % 512 < 508

@@ -1,7 +1,9 @@
--- Where things stand in a record ('The record'). An edition is a value of Layout; nothing else holds these numbers.
-use mathlib.Core.Bool.{Bool, true, false, _&&_}
+-- Where things stand in a record ('The record'). An edition is a value of Layout, which has the numbers by which editions may differ. Those that they share
+-- stand where they are used: block 0's fields here, in Questions and in Encode, the first 32 bytes of a slot in History, Slots, Words and Encode, a block's
+-- check in Blocks and Encode. The code writes numbers out; its contracts hold them to these.
+use mathlib.Core.Bool.{Bool, true, false, cond, _&&_}
 use mathlib.Core.List.{List, [], _∷_}
-use Prim.Native.Nat.{ℕ, zero, suc, _+_, _*_, _/_, _%_}
+use Prim.Native.Nat.{ℕ, zero, suc, _+_, _*_, _-_, _/_, _%_}
 use lib.Dec.{eqb}
 use lib.ListN.{getD}
 use Rattle.rows.specs.Octets.{little}
@@ -35,6 +37,10 @@ sitesIn s = byte s 6
 -- where the slot of event e starts
 abbrev pub slotAt : Layout → ℕ → ℕ
 slotAt L e = 512 * (1 + e / L .perBlock) + L .slot * (e % L .perBlock)
+
+-- where the slot after the one at `at` starts: behind it, or in the next block where it is its block's last
+abbrev pub nextSlot : Layout → ℕ → ℕ
+nextSlot L at = cond (eqb (at % 512) (L .slot * (L .perBlock - 1))) (at + (512 - L .slot * (L .perBlock - 1))) (at + L .slot)
 
 -- where the bytes after the last slot of e's block start
 abbrev pub tailAt : Layout → ℕ → ℕ

@@ -4,6 +4,7 @@ pub mod Blocks
 pub mod History
 pub mod Slots
 pub mod Questions
+pub mod Answers
 pub mod Words
 pub mod Encode
 pub mod WellFormed

@@ -1,12 +1,12 @@
 -- 'Questions asked of a record': 1 and 3 to 10, in order; the first no gives its number and a place.
 use mathlib.Core.Bool.{Bool, true, false, not, cond, _&&_, _||_}
-use mathlib.Core.List.{List, _++_}
+use mathlib.Core.List.{List}
 use Prim.Native.Nat.{ℕ, _+_, _*_, _-_, _/_, _%_}
-use lib.Dec.{eqb, ltb, leb}
-use lib.ListN.{length, take, drop, replicate}
+use lib.Dec.{eqb, leb}
+use lib.ListN.{length, take}
 use Rattle.rows.specs.Lowest.{lowest, some}
 use Rattle.rows.specs.Relation.{Rel, reaches}
-use Rattle.record.specs.Layout.{Layout, byte, countIn, sitesIn, zeros, same, workWords}
+use Rattle.record.specs.Layout.{Layout, countIn, sitesIn, zeros, same, workWords}
 use Rattle.record.specs.Blocks.{blockRight}
 use Rattle.record.specs.History.{History, historyOf, vis}
 use Rattle.record.specs.Slots.{slotRight}
@@ -68,11 +68,12 @@ wrongSet w n v e = some (64 * w) (λ b. v b e && (leb n b || eqb b e))
 unfoldable pub onRing : ℕ → Rel → ℕ → Bool
 onRing n v e = reaches n v e e
 
--- a question with one place, and one asked of each of n
-abbrev pub ask : Bool → Reading → Reading → Reading
+-- a question, what refuses where it gets a no, and what comes after a yes
+abbrev pub ask : {A : Type 0} → Bool → A → A → A
 ask true refusal next = next
 ask false refusal next = refusal
 
+-- one asked of each of n
 abbrev pub askEach : ℕ → (ℕ → Bool) → (ℕ → Reading) → Reading → Reading
 askEach n wrong refusal next = ask (not (some n wrong)) (refusal (lowest n wrong)) next
 
@@ -102,5 +103,5 @@ unfoldable pub reading : Layout → ℕ → List ℕ → Reading
 reading L w s = ask (leb (workWords L) w) ShortWork (questions L s)
 
 -- a reading as a host's number: 0 passed, 2,097,152 + 1,024 × number + place refused
-unfoldable pub packed : Reading → ℕ
-packed r = cond (eqb (numberOf r) 0) 0 (2097152 + 1024 * numberOf r + placeOf r)
+unfoldable pub packedReading : Reading → ℕ
+packedReading r = cond (eqb (numberOf r) 0) 0 (2097152 + 1024 * numberOf r + placeOf r)

@@ -1,6 +1,6 @@
 -- A history whose record passes every check: what questions 5 and 7 to 10 ask, said of the events.
 use mathlib.Core.Path.{_≡_}
-use mathlib.Core.Bool.{Bool, true, false}
+use mathlib.Core.Bool.{true, false}
 use Prim.Native.Nat.{ℕ, _^_, _<_, _≤_}
 use Rattle.rows.specs.Relation.{reaches}
 use Rattle.record.specs.Layout.{Layout}

@@ -3,7 +3,7 @@ use mathlib.Core.Bool.{Bool, cond}
 use mathlib.Core.List.{List, [], _++_}
 use Prim.Native.Nat.{ℕ, zero, suc, _+_, _*_, _-_, _/_, _%_}
 use lib.Dec.{eqb, ltb}
-use lib.ListN.{length, getD, drop, replicate}
+use lib.ListN.{getD, drop, replicate}
 use Rattle.rows.specs.Octets.{words}
 use Rattle.rows.specs.Row.{has, rowAt}
 use Rattle.record.specs.Layout.{Layout, slotAt, countIn, workWords}
@@ -14,7 +14,7 @@ unfoldable pub slotWords : Layout → ℕ → ℕ → List ℕ → ℕ → List 
 slotWords L off w s zero = []
 slotWords L off w s (suc e) = slotWords L off w s e ++ words w s (slotAt L e + off)
 
--- the visible sets, row .. row words an event, and zero from event n on
+-- the visible sets, the same number of words for each event, and zero from event n on
 unfoldable pub visibleWords : Layout → List ℕ → List ℕ
 visibleWords L s = slotWords L 32 (L .row) s (countIn s) ++ replicate (L .row * (L .events - countIn s)) 0
 

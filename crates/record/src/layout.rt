@@ -1,8 +1,8 @@
 // Where things stand in a record of edition `GCR1`.
 ghost use mathlib.Core.Path.{_≡_};
-ghost use Prim.Native.Nat.{ℕ, _+_, _≤_, _<_, _^_};
+ghost use Prim.Native.Nat.{_+_, _≤_, _<_, _^_};
 ghost use lib.ListN.{length};
-ghost use Rattle.record.specs.Layout.{gcr1, slotAt, zeros};
+ghost use Rattle.record.specs.Layout.{gcr1, slotAt, nextSlot, zeros};
 
 pub const LETTERS: [u8; 4] = *b"GCR1";
 
@@ -13,15 +13,14 @@ pub fn slot_at(e: usize) -> usize
     512 * (1 + e / 7) + 64 * (e % 7)
 }
 
-// Where the slot after the one at `at` starts: 64 bytes on, or in the next block where those reach to this one's end.
+// Where the slot after the one at `at` starts: behind it, or in the next block where it is its block's last.
 pub fn next_slot(at: usize) -> usize
     requires { ⌜ at + 128 < 2 ^ 64 ⌝ }
-    ensures { λ r. ⌜ ((e : ℕ) → at ≡ slotAt gcr1 e → r ≡ slotAt gcr1 (e + 1)) ⌝ }
+    ensures { λ r. ⌜ r ≡ nextSlot gcr1 at ⌝ }
 {
     let next = at + 64;
-    let block = (at + 128) / 512 * 512;
-    if next < block {
-        return block;
+    if next % 512 == 448 {
+        return next + 64;
     }
     next
 }

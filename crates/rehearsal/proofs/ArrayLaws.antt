@@ -15,9 +15,9 @@ use Rattle.rows.proofs.TableLaws.{has-row-cleared}
 use Rattle.record.proofs.StoresLaws.{zero-at}
 use Rattle.store.specs.Store.{upd, Cell, empty, merge, Site, Event, Store, freshSite, noEvent, fresh}
 use Rattle.store.specs.Calls.{Call, deliver}
-use Rattle.store.specs.Rules.{refusal, afterDelivery, effect, step}
+use Rattle.store.specs.Rules.{refusal, afterDelivery, effect, afterCall}
 use Rattle.calls.specs.Mirror.{cellOf, eventOf, siteOf, Made}
-use Rattle.rehearsal.specs.Arrays.{noCell, cellsOf, pastEvent, pastSite, freshKept, freshEvent, storeOf}
+use Rattle.rehearsal.specs.Arrays.{noCell, cellsOf, pastEvent, pastSite, freshKept, freshEvent, eventIn, storeOf}
 use Rattle.calls.specs.declared.Asked.{Asked}
 use Rattle.calls.specs.declared.Kept.{Kept}
 use Rattle.calls.specs.declared.KeptCell.{KeptCell}
@@ -105,7 +105,7 @@ module _ (z : Arrays) where
   unfolding storeOf
   site-at s l = rw (lt-ltb s 8 l)
 
-  pub event-at : (e : ℕ) → e < z .count → storeIn z .event e ≡ eventOf (getD (z .events) e pastEvent) (has (rowAt (z .sees) 4 e))
+  pub event-at : (e : ℕ) → e < z .count → storeIn z .event e ≡ eventIn (z .events) (z .sees) e
   unfolding storeOf
   event-at e l = rw (lt-ltb e (z .count) l)
 
@@ -234,12 +234,12 @@ module _ (z : Arrays) (sized : Sized z) where
     abbrev st : Store
     st = storeIn z
 
-    pub refused-step : (call : Call) → (refusal n st call ≡ 0 → ⊥) → st ≡ step n st call
-    unfolding step
+    pub refused-step : (call : Call) → (refusal n st call ≡ 0 → ⊥) → st ≡ afterCall n st call
+    unfolding afterCall
     refused-step call d = rw (ne-eqb (refusal n st call) 0 d) refl
 
-    done-step : (call : Call) → refusal n st call ≡ 0 → effect st call ≡ step n st call
-    unfolding step
+    done-step : (call : Call) → refusal n st call ≡ 0 → effect st call ≡ afterCall n st call
+    unfolding afterCall
     done-step call q = rw (eq-eqb (refusal n st call) 0 q) refl
 
     module _ (w s : ℕ) (b : Kept) (y : KeptCell) (known′ : List ℕ) where
@@ -254,7 +254,7 @@ module _ (z : Arrays) (sized : Sized z) where
           ≡ afterDelivery (siteOf a known cells) w (eventOf e sees))
           → cellOf y ≡ merge (cellOf (getD (z .cells) (32 * s + e .object) noCell)) (e .value) (e .order / 8) (e .order % 8)
           → RowSet 8 (z .known) known′ s (λ x. eqb x w || (has (rowAt (z .sees) 4 w) x || has (rowAt (z .known) 4 s) x))
-          → storeIn (withSite z s b known′ (32 * s + e .object) y) ≡ step n st (deliver w s)
+          → storeIn (withSite z s b known′ (32 * s + e .object) y) ≡ afterCall n st (deliver w s)
       unfolding effect storeOf
       delivered-step done l m q f merged row =
           let known : ℕ → Bool = has (rowAt (z .known) 4 s) in
@@ -273,7 +273,7 @@ module _ (z : Arrays) (sized : Sized z) where
         → Made st call s o (has (rowAt (z .known) 4 s)) r
         → RowSet 8 (z .known) known′ s (upd (has (rowAt (z .known) 4 s)) (z .count) true)
         → RowSet 256 (z .sees) sees′ (z .count) (has (rowAt (z .known) 4 s))
-        → storeIn (withMade (withSite z s (r .site) known′ (32 * s + o) (r .cell)) (r .event) sees′) ≡ step n st call
+        → storeIn (withMade (withSite z s (r .site) known′ (32 * s + o) (r .cell)) (r .event) sees′) ≡ afterCall n st call
     unfolding storeOf
     made-step call s o r sees′ known′ l m room q h rows seen =
         let known : ℕ → Bool = has (rowAt (z .known) 4 s) in

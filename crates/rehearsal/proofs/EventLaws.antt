@@ -1,51 +1,43 @@
 -- What is read off the events as they are kept: the fields of a slot, and how many are puts. Assumes nothing.
-use mathlib.Core.Path.{_≡_, refl, sym, ap, ap₂, _∙_}
+use mathlib.Core.Path.{_≡_, refl, ap, ap₂}
 use mathlib.Core.Bool.{Bool, true, false}
 use mathlib.Core.List.{List}
-use Prim.Native.Nat.{ℕ, zero, suc, _+_, _*_, _%_, _≤_, _<_}
+use Prim.Native.Nat.{ℕ, zero, suc, _+_, _≤_, _<_}
 use native.Mathlib.Numerals.{add-one}
 use native.Mathlib.Omega.{arith}
-use Rattle.rows.specs.Row.{has}
+use lib.ListN.{getD}
+use borrow.Author.Tests.{lt-ltb}
+use Rattle.rows.specs.Row.{rowAt}
 use Rattle.record.specs.Encode.{bit, SlotOf}
 use Rattle.record.proofs.NumberBytes.{bit-le}
-use Rattle.store.specs.Store.{Event, Store}
-use Rattle.store.specs.Rules.{valueOr0}
-use Rattle.store.specs.Recorded.{rank, isValue, recorded}
+use Rattle.store.specs.Store.{Event}
+use Rattle.store.specs.Recorded.{isValue, recorded}
 use Rattle.store.specs.Rehearsal.{puts}
-use Rattle.calls.specs.Mirror.{shownOf, eventOf}
+use Rattle.calls.specs.Mirror.{shownOf}
 use Rattle.calls.specs.declared.KeptEvent.{KeptEvent}
+use Rattle.rehearsal.specs.Arrays.{pastEvent, storeFrom, rankIn, slotFor}
 
 value-present : (t : Bool) (v : ℕ) → isValue (shownOf t v) ≡ t
 value-present true v = refl
 value-present false v = refl
 
-pub slot-of : (st : Store) (k : ℕ) (e : KeptEvent) (sees : List ℕ) (position v : ℕ)
-    → v ≡ valueOr0 (shownOf (e .present) (e .value)) → e .object < 256 → eventOf e (has sees) ≡ st .event k → position ≡ rank (st .event) (st .count) k
-    → SlotOf (recorded st) k (record {
-      write = e .put;
-      site = e .order % 8;
-      object = e .object % 256;
-      pending = false;
-      present = e .present;
-      value = v;
-      position = position;
-      start = 2 * k;
-      returned = 2 * k + 1;
-      sees = sees;
-    })
+-- the slot of an event that is kept
+pub slot-of : (count : ℕ) (events : List KeptEvent) (sees : List ℕ) (k : ℕ) → k < count → getD events k pastEvent .object < 256
+    → SlotOf (recorded (storeFrom count events sees)) k (slotFor k (getD events k pastEvent) (rowAt sees 4 k) (rankIn (storeFrom count events sees) k))
 unfolding recorded
-slot-of st k e sees position v shown small h p = record {
-  isWrite = ap (λ (x : Event). x .isPut) (sym h);
-  site = ap (λ (x : Event). x .site) (sym h);
-  object = ap (λ (x : Event). x .object) (sym h) ∙ omega arith;
-  isPending = refl;
-  isPresent = ap (λ (x : Event). isValue (x .shown)) (sym h) ∙ value-present (e .present) (e .value);
-  value = ap (λ (x : Event). valueOr0 (x .shown)) (sym h) ∙ sym shown;
-  position = sym p;
-  start = refl;
-  return = refl;
-  sees = λ b l. ap (λ (x : Event). x .sees b) (sym h);
-}
+slot-of count events sees k l small =
+    let e : KeptEvent = getD events k pastEvent in record {
+      isWrite = refl;
+      site = refl;
+      object = omega arith;
+      isPending = refl;
+      isPresent = value-present (e .present) (e .value);
+      value = refl;
+      position = rw (lt-ltb k count l);
+      start = refl;
+      return = refl;
+      sees = λ b m. refl;
+    }
 
 -- ---- puts
 

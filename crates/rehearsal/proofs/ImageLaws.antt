@@ -1,12 +1,11 @@
 -- The record of a run, written in place: slot after slot, and then the whole. Assumes nothing.
 use mathlib.Core.Path.{_≡_, refl, sym, ap, _∙_}
-use mathlib.Core.Bool.{Bool}
 use mathlib.Core.List.{List, [], _∷_, _++_}
 use Prim.Native.Nat.{ℕ, zero, suc, _+_, _*_, _≤_, _<_}
 use native.Mathlib.Omega.{arith}
 use lib.ListN.{length, getD, drop, replicate}
 use lib.Seq.{sets, ext-getD}
-use Rattle.rows.specs.Row.{has, rowAt}
+use Rattle.rows.specs.Row.{rowAt}
 use Rattle.rows.proofs.TableLaws.{length-row, getD-row}
 use Rattle.record.specs.Layout.{gcr1, slotAt}
 use Rattle.record.specs.History.{History}
@@ -15,10 +14,10 @@ use Rattle.record.specs.declared.Slot.{Slot}
 use Rattle.record.proofs.SoundLayout.{gcr1-sound}
 use Rattle.record.proofs.WrittenLaws.{slots-none, slots-more, written}
 use Rattle.store.specs.Store.{Store}
-use Rattle.store.specs.Recorded.{rank, recorded, storeRecord}
-use Rattle.calls.specs.Mirror.{eventOf}
-use Rattle.rehearsal.specs.Arrays.{pastEvent, Stands, Bounded, Distinct}
+use Rattle.store.specs.Recorded.{recorded, storeRecord}
+use Rattle.rehearsal.specs.Arrays.{pastEvent, storeFrom, Bounded, rankIn, slotFor}
 use Rattle.calls.specs.declared.KeptEvent.{KeptEvent}
+use Rattle.rehearsal.proofs.EventLaws.{slot-of}
 
 -- ---- slots
 
@@ -41,40 +40,32 @@ four-words g k room = ext-getD 0 _ (rowAt g 4 k) (sym (length-row g 4 k (omega a
 pub record Slotted (count : ℕ) (events : List KeptEvent) (sees rec₀ rec : List ℕ) (k : ℕ) : Type 0 where
   pub within : k ≤ count
   pub long : length rec ≡ length rec₀
-  pub written : (st : Store) → Stands count events sees st → Distinct st → rec ≡ withSlots gcr1 (recorded st) k rec₀
+  pub written : rec ≡ withSlots gcr1 (recorded (storeFrom count events sees)) k rec₀
 
 module _ (count : ℕ) (events : List KeptEvent) (sees rec₀ : List ℕ) where
+  abbrev st : Store
+  st = storeFrom count events sees
+
   pub slotted-none : Slotted count events sees rec₀ rec₀ 0
-  slotted-none = record { within = omega arith; long = refl; written = λ st h d. slots-none gcr1 (recorded st) rec₀ }
+  slotted-none = record { within = omega arith; long = refl; written = slots-none gcr1 (recorded st) rec₀ }
 
-  module _ (small : Bounded count events) (positions : List ℕ)
-      (ranked : (st : Store) → Stands count events sees st → Distinct st → (e : ℕ) → e < count → getD positions e 0 ≡ rank (st .event) (st .count) e)
-      (k : ℕ) (next : k < count) (row : List ℕ) (seen : has row ≡ has (rowAt sees 4 k)) (x : Slot)
-      (slot : (st : Store) → getD events k pastEvent .object < 256 → eventOf (getD events k pastEvent) (has row) ≡ st .event k → getD positions k 0 ≡ rank (st .event) (st .count) k → SlotOf (recorded st) k x)
-    where
-      placed : (st : Store) → Stands count events sees st → Distinct st → SlotOf (recorded st) k x
-      placed st h d =
-          slot st (small .object k next)
-          (ap (λ (f : ℕ → Bool). eventOf (getD events k pastEvent) f) seen ∙ h .event k next)
-          (ranked st h d k next)
-
-      pub slotted-more : (rec rec′ : List ℕ) → Slotted count events sees rec₀ rec k → length rec′ ≡ length rec
-          → ((h : History) → SlotOf h k x → rec′ ≡ sets rec (slotAt gcr1 k) (slotBytes gcr1 h k))
-          → Slotted count events sees rec₀ rec′ (k + 1)
-      slotted-more rec rec′ s long put = record {
+  pub slotted-more : Bounded count events → (k : ℕ) → k < count → (position : ℕ) → position ≡ rankIn st k → (row : List ℕ) → row ≡ rowAt sees 4 k
+      → (x : Slot) → x ≡ slotFor k (getD events k pastEvent) row position
+      → (rec rec′ : List ℕ) → Slotted count events sees rec₀ rec k → length rec′ ≡ length rec
+      → ((h : History) → SlotOf h k x → rec′ ≡ sets rec (slotAt gcr1 k) (slotBytes gcr1 h k))
+      → Slotted count events sees rec₀ rec′ (k + 1)
+  slotted-more small k next position placed row seen x slot rec rec′ s long put =
+      let right : SlotOf (recorded st) k x = rw (slot, placed, seen) (slot-of count events sees k next (small .object k next)) in record {
         within = omega arith;
         long = long ∙ s .long;
-        written = λ st h d. slots-more gcr1 (recorded st) rec₀ rec rec′ k (s .written st h d) (put (recorded st) (placed st h d));
+        written = slots-more gcr1 (recorded st) rec₀ rec rec′ k (s .written) (put (recorded st) right);
       }
 
 -- ---- the whole
 
-pub image-written : (n count : ℕ) (events : List KeptEvent) (sees : List ℕ) (k : ℕ) (buffer s₁ s₂ s₃ s₄ : List ℕ) → k ≡ blocksFor gcr1 count
-    → s₁ ≡ replicate (512 * k) 0 ++ drop (512 * k) buffer → s₂ ≡ sets s₁ 0 (headerBytes gcr1 count n)
-    → ((st : Store) → Stands count events sees st → Distinct st → s₃ ≡ withSlots gcr1 (recorded st) count s₂) → s₄ ≡ sealed k s₃
-    → (st : Store) → Stands count events sees st → Distinct st → s₄ ≡ storeRecord gcr1 n st ++ drop (512 * blocksFor gcr1 count) buffer
+pub image-written : (n : ℕ) (st : Store) (k : ℕ) (buffer s₁ s₂ s₃ s₄ : List ℕ) → k ≡ blocksFor gcr1 (st .count)
+    → s₁ ≡ replicate (512 * k) 0 ++ drop (512 * k) buffer → s₂ ≡ sets s₁ 0 (headerBytes gcr1 (st .count) n)
+    → s₃ ≡ withSlots gcr1 (recorded st) (st .count) s₂ → s₄ ≡ sealed k s₃
+    → s₄ ≡ storeRecord gcr1 n st ++ drop (512 * blocksFor gcr1 (st .count)) buffer
 unfolding storeRecord recorded
-image-written n count events sees k buffer s₁ s₂ s₃ s₄ e₀ e₁ e₂ e₃ e₄ st h d =
-    let same : count ≡ st .count = h .count in
-    rw same
-    (written gcr1 gcr1-sound (recorded st) n k buffer s₁ s₂ s₃ s₄ (rw same at e₀) e₁ (rw same at e₂) (rw same at (e₃ st h d)) e₄)
+image-written n st k buffer s₁ s₂ s₃ s₄ e₀ e₁ e₂ e₃ e₄ = written gcr1 gcr1-sound (recorded st) n k buffer s₁ s₂ s₃ s₄ e₀ e₁ e₂ e₃ e₄

@@ -3,6 +3,7 @@ use mathlib.Core.Path.{_≡_, refl, sym, ap, _∙_}
 use mathlib.Core.Bool.{Bool, true, false, _&&_}
 use mathlib.Core.List.{List, _++_}
 use Prim.Native.Nat.{ℕ, _*_, _-_, _%_, _≤_, _<_}
+use native.Mathlib.Nat.{sub-le}
 use native.Mathlib.Omega.{arith}
 use lib.Dec.{eqb, leb}
 use lib.ListN.{length, drop}
@@ -15,16 +16,19 @@ use Rattle.record.proofs.SoundLayout.{gcr1-sound}
 use Rattle.record.proofs.ImageLaws.{length-record}
 use Rattle.store.specs.Store.{Event, fresh}
 use Rattle.store.specs.Calls.{callsOf}
-use Rattle.store.specs.Rules.{ask, run, answers}
+use Rattle.record.specs.Questions.{ask}
+use Rattle.store.specs.Rules.{run, answers}
 use Rattle.store.specs.Recorded.{recorded, storeRecord}
 use Rattle.store.specs.Rehearsal.{rehearsalRefusal, storeAfter, recordOf, recordAfter, answersAfter, lengthAfter, puts, mostCopies}
-use Rattle.rehearsal.specs.Arrays.{Stands, Bounded, Distinct}
+use Rattle.rehearsal.specs.Arrays.{Ends, ranStore, Bounded, DistinctStamps}
+use Rattle.rehearsal.specs.declared.Ran.{Ran}
 use Rattle.store.specs.Demand.{Rehearses}
-use Rattle.calls.specs.declared.KeptEvent.{KeptEvent}
 use Rattle.store.proofs.RunKeeps.{every-run}
+use Rattle.store.proofs.SameRecord.{record-same}
 use Rattle.store.proofs.Sizes.{every-limits, every-sizes}
 use Rattle.store.proofs.StoreIsCausal.{key-once}
 use Rattle.store.proofs.ThirdDemand.{third-demand}
+use Rattle.rehearsal.proofs.EventLaws.{puts-same}
 
 -- ---- what a run leaves is small
 
@@ -41,17 +45,27 @@ module _ (n : ℕ) (n≤8 : n ≤ 8) (script : List ℕ) where
   unfolding storeAfter
   store-object e l = every-limits n (callsOf script) .object e l
 
-  pub store-distinct : Distinct (storeAfter n script)
+  store-distinct : DistinctStamps (storeAfter n script)
   unfolding storeAfter
   store-distinct d e h k stamps sites =
       key-once n n≤8 (run n fresh (callsOf script)) (every-run n n≤8 (callsOf script)) d e h k (omega (arith, stamps, sites))
 
-  pub run-bounded : (count : ℕ) (events : List KeptEvent) (sees : List ℕ) → Stands count events sees (storeAfter n script) → Bounded count events
-  run-bounded count events sees h = record {
-    count = omega (arith, h .count, store-few n script);
-    order = λ e l. omega (arith, ap (λ (x : Event). x .stamp) (h .event e l), store-stamp e (omega (arith, h .count)));
-    object = λ e l. omega (arith, ap (λ (x : Event). x .object) (h .event e l), store-object e (omega (arith, h .count)));
-  }
+  module _ (ran : Ran) (h : Ends n script ran) where
+    inside : (e : ℕ) → e < ran .count → e < storeAfter n script .count
+    inside e l = omega (arith, h .count)
+
+    pub run-bounded : Bounded (ran .count) (ran .events)
+    run-bounded = record {
+      count = omega (arith, h .count, store-few n script);
+      order = λ e l. omega (arith, ap (λ (x : Event). x .stamp) (h .event e l), store-stamp e (inside e l));
+      object = λ e l. omega (arith, ap (λ (x : Event). x .object) (h .event e l), store-object e (inside e l));
+    }
+
+    pub run-distinct : DistinctStamps (ranStore ran)
+    run-distinct d e k l stamps sites =
+        store-distinct d e (inside d k) (inside e l)
+        (ap (λ (x : Event). x .stamp) (sym (h .event d k)) ∙ stamps ∙ ap (λ (x : Event). x .stamp) (h .event e l))
+        (ap (λ (x : Event). x .site) (sym (h .event d k)) ∙ sites ∙ ap (λ (x : Event). x .site) (h .event e l))
 
 -- ---- questions 20 to 23
 
@@ -100,27 +114,36 @@ module _ (n : ℕ) (script rec ans : List ℕ) where
         causal = λ z. absurd (some z);
       }
 
-  module _ (ok : rehearsalRefusal n script rec ans ≡ 0) (bytes : Bytes script) (count : ℕ) (events : List KeptEvent) (sees : List ℕ)
-      (stands : Stands count events sees (storeAfter n script)) where
-    record-long : length (recordOf n script) ≡ 512 * blocksFor gcr1 count
+  module _ (ok : rehearsalRefusal n script rec ans ≡ 0) (bytes : Bytes script) (ran : Ran) (ends : Ends n script ran) where
+    record-long : length (recordOf n script) ≡ 512 * blocksFor gcr1 (ran .count)
     unfolding recordOf storeRecord recorded
-    record-long = length-record gcr1 gcr1-sound (recorded (storeAfter n script)) n ∙ ap (λ (k : ℕ). 512 * blocksFor gcr1 k) (sym (stands .count))
+    record-long = length-record gcr1 gcr1-sound (recorded (storeAfter n script)) n ∙ ap (λ (k : ℕ). 512 * blocksFor gcr1 k) (sym (ends .count))
+
+    -- the record and the puts of the store that the run's events make are those of the script's
+    record-right : storeRecord gcr1 n (ranStore ran) ≡ recordOf n script
+    unfolding recordOf
+    record-right = record-same gcr1 (ranStore ran) (storeAfter n script) (ends .count) (ends .event) n
+
+    puts-right : puts (ranStore ran .event) (ran .count) ≡ puts (storeAfter n script .event) (storeAfter n script .count)
+    puts-right =
+        puts-same (ranStore ran .event) (storeAfter n script .event) (ran .count) (λ e l. ap (λ (x : Event). x .isPut) (ends .event e l))
+        ∙ ap (puts (storeAfter n script .event)) (ends .count)
 
     pub accepted-rehearses : (rec′ ans′ : List ℕ) (long copies : ℕ)
         → ans′ ≡ answers n fresh (callsOf script) ++ drop (length script) ans
-        → rec′ ≡ storeRecord gcr1 n (storeAfter n script) ++ drop (512 * blocksFor gcr1 count) rec
-        → long ≡ 512 * blocksFor gcr1 count
-        → copies ≤ puts (storeAfter n script .event) (storeAfter n script .count) * (n - 1)
+        → rec′ ≡ storeRecord gcr1 n (ranStore ran) ++ drop (512 * blocksFor gcr1 (ran .count)) rec
+        → long ≡ 512 * blocksFor gcr1 (ran .count)
+        → copies ≡ puts (ranStore ran .event) (ran .count) * (n - 1) - ran .deliveries
         → Rehearses n script rec ans rec′ ans′ (record { number = 0; length = long; outstanding = copies })
-    unfolding recordAfter answersAfter lengthAfter mostCopies recordOf
-    accepted-rehearses rec′ ans′ long copies answered recorded lasts few =
+    unfolding recordAfter answersAfter lengthAfter mostCopies
+    accepted-rehearses rec′ ans′ long copies answered recorded lasts left =
         let yes : eqb (rehearsalRefusal n script rec ans) 0 ≡ true = eq-eqb (rehearsalRefusal n script rec ans) 0 ok in
         let right = accepted n script rec ans ok in
         record {
           number = sym ok;
           length = rw yes (lasts ∙ sym record-long);
-          recorded = rw (yes, record-long) recorded;
+          recorded = rw (yes, record-long, ← record-right) recorded;
           answered = rw yes answered;
-          copies = rw yes few;
+          copies = rw (yes, ← puts-right, left) (sub-le _ _);
           causal = λ z. third-demand n (right .least) (right .most) script bytes;
         }

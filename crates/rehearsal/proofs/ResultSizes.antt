@@ -12,7 +12,7 @@ use Rattle.record.specs.Layout.{gcr1}
 use Rattle.record.proofs.SoundLayout.{gcr1-sound}
 use Rattle.record.proofs.ImageLaws.{length-record}
 use Rattle.store.specs.Store.{Store}
-use Rattle.store.specs.Rules.{ask}
+use Rattle.record.specs.Questions.{ask}
 use Rattle.store.specs.Recorded.{recorded, storeRecord}
 use Rattle.store.specs.Rehearsal.{rehearsalRefusal, storeAfter, recordOf, recordAfter, lengthAfter, puts, mostCopies}
 use Rattle.store.specs.Demand.{Rehearses}

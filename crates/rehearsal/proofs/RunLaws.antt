@@ -1,24 +1,26 @@
 -- The loop over a script: after k calls the arrays stand for the store of those calls, and their answers are written. Assumes nothing.
 use mathlib.Core.Path.{_≡_, refl, sym, ap, ap₂, _∙_}
-use mathlib.Core.Bool.{Bool, true, false, cond, _||_}
+use mathlib.Core.Bool.{Bool, true, false, cond, _||_, and-false}
 use mathlib.Core.List.{List, [], _∷_, _++_}
 use Prim.Native.Nat.{ℕ, zero, suc, _+_, _*_, _/_, _%_, _≤_, _<_}
 use native.Mathlib.Nat.{not-suc-le-zero, le-of-suc-le-suc}
 use native.Mathlib.Numerals.{add-one}
 use native.Mathlib.Omega.{arith}
 use lib.Dec.{eqb}
-use lib.ListN.{length, getD, set, take, drop, replicate, length-replicate, length-append, length-drop}
-use lib.Seq.{sets, sets-eq, length-sets, take-at, take-all, drop-append-add, drop-drop, getD-set-same, getD-set-other}
+use lib.ListN.{length, getD, set, take, drop, replicate, length-replicate, getD-replicate, length-append, length-drop}
+use lib.Seq.{sets, sets-eq, length-sets, take-at, take-all, drop-append-add, drop-drop, getD-set-same, getD-set-other, ext-getD}
 use borrow.Author.Tests.{eq-eqb, ne-eqb, eqb-true, eqb-false}
 use Rattle.rows.specs.Row.{has, rowAt}
 use Rattle.rows.proofs.Tests.{split}
+use Rattle.rows.proofs.TableLaws.{length-row-le, length-row, getD-row}
+use Rattle.record.proofs.StoresLaws.{zero-at}
 use Rattle.consistency.specs.Reads.{value}
 use Rattle.store.specs.Store.{upd, Cell, merge, Site, Event, Store, fresh}
 use Rattle.store.specs.Calls.{Call, deliver, callAt, callsOf}
-use Rattle.store.specs.Rules.{reached, refusal, afterDelivery, doneAnswer, answer, step, answers}
+use Rattle.store.specs.Rules.{reached, refusal, isDelivery, afterDelivery, doneAnswer, answer, afterCall, answers}
 use Rattle.store.specs.Rehearsal.{storeAfter}
 use Rattle.calls.specs.Mirror.{callOf, cellOf, shownOf, eventOf, siteOf, partOf, withCounts, Made}
-use Rattle.rehearsal.specs.Arrays.{noCell, pastEvent, pastSite, freshKept, freshEvent, Stands}
+use Rattle.rehearsal.specs.Arrays.{noCell, pastEvent, pastSite, freshKept, freshEvent, Ends}
 use Rattle.calls.specs.declared.Asked.{Asked}
 use Rattle.calls.specs.declared.Kept.{Kept}
 use Rattle.calls.specs.declared.KeptCell.{KeptCell}
@@ -27,7 +29,7 @@ use Rattle.calls.specs.declared.Served.{Served}
 use Rattle.store.proofs.Invariant.{StoreInv}
 use Rattle.store.proofs.RunKeeps.{Doable}
 use Rattle.store.proofs.Sizes.{Limits, Sizes}
-use Rattle.store.proofs.WholeList.{storeUpTo, answersUpTo, store-none, store-more, answers-none, answers-more, up-to-keeps, up-to-limits, up-to-sizes, store-whole, answers-whole, answer-length, answers-up-to-length}
+use Rattle.store.proofs.WholeList.{delivered, storeUpTo, answersUpTo, deliveriesUpTo, store-none, store-more, answers-none, answers-more, deliveries-none, deliveries-more, up-to-keeps, up-to-limits, up-to-sizes, store-whole, answers-whole, deliveries-whole, answer-length, answers-up-to-length}
 use Rattle.calls.proofs.ServeLaws.{same-refusal, refused-before, refused-late, delivery-done, event-done, some-kind, put-fits, get-fits, deliver-fits, deliver-site, deliver-call}
 use Rattle.rehearsal.proofs.ArrayLaws.{Arrays, storeIn, Sized, fresh-store, store-count, site-at, event-at, site-found, cell-at, found, withSite, withMade, site-sized, made-sized, refused-step, delivered-step, made-step}
 
@@ -74,32 +76,69 @@ delivery-answer : (st : Store) (w t : ℕ) → doneAnswer st (deliver w t) ≡ r
 unfolding doneAnswer
 delivery-answer st w t = refl
 
+-- ---- which call is a done delivery
+
+none-delivered : (n : ℕ) (st : Store) (call : Call) → (refusal n st call ≡ 0 → ⊥) → delivered n st call ≡ 0
+none-delivered n st call d = rw (ne-eqb (refusal n st call) 0 d, and-false (isDelivery call)) refl
+
+one-delivered : (n : ℕ) (st : Store) (c : Asked) → refusal n st (callOf c) ≡ 0 → c .kind ≡ 3 → delivered n st (callOf c) ≡ 1
+one-delivered n st c done kind = rw (eq-eqb (refusal n st (callOf c)) 0 done, deliver-call c kind) refl
+
+other-delivered : (n : ℕ) (st : Store) (c : Asked) → (c .kind ≡ 3 → ⊥) → delivered n st (callOf c) ≡ 0
+other-delivered n st c other = rw (ne-eqb (c .kind) 3 other)
+    (split (eqb (c .kind) 1) (λ t. rw t refl) (λ t. split (eqb (c .kind) 2) (λ u. rw (t, u) refl) (λ u. rw (t, u) refl)))
+
 -- ---- what a call finds
 
 shown-present : (t : Bool) (v u : ℕ) → shownOf t v ≡ value u → t ≡ true
 shown-present true v u e = refl
 shown-present false v u e = cc
 
--- every event has a stamp, and so has one more
-more-stamped : (events : List KeptEvent) (count : ℕ) (e : KeptEvent) → count < length events → 8 ≤ e .order
-    → ((i : ℕ) → i < count → 8 ≤ getD events i pastEvent .order)
-    → (i : ℕ) → i < count + 1 → 8 ≤ getD (set events count e) i pastEvent .order
-more-stamped events count e l m h i j =
-    split (eqb i count)
-    (λ t. rw (eqb-true i count t, getD-set-same events count e pastEvent l) m)
-    (λ t.
-    let d : i ≡ count → ⊥ = eqb-false i count t in
-    rw (getD-set-other events count i e pastEvent d) (h i (omega arith)))
+-- every event has a stamp of 1 or more, and behind the last nothing has changed since the start
+pub record Laid (count : ℕ) (events : List KeptEvent) (sees : List ℕ) : Type 0 where
+  pub stamped : (e : ℕ) → e < count → 8 ≤ getD events e pastEvent .order
+  pub unmade : (e : ℕ) → count ≤ e → e < 256 → getD events e pastEvent ≡ freshEvent
+  pub unseen : (e : ℕ) → count ≤ e → e < 256 → rowAt sees 4 e ≡ replicate 4 0
+
+zero-row : (e : ℕ) → e < 256 → rowAt (replicate 1024 0) 4 e ≡ replicate 4 0
+zero-row e l = ext-getD 0 (rowAt (replicate 1024 0) 4 e) (replicate 4 0) (length-row (replicate 1024 0) 4 e (omega (arith, length-replicate {A = ℕ} 1024 0)))
+    (λ i m. getD-row (replicate 1024 0) 4 e i (omega (arith, length-row-le (replicate 1024 0) 4 e)) ∙ zero-at 1024 (e * 4 + i) ∙ sym (zero-at 4 i))
+
+laid-none : Laid 0 (replicate 256 freshEvent) (replicate 1024 0)
+laid-none = record {
+  stamped = λ e l. absurd (omega arith);
+  unmade = λ e m l. getD-replicate 256 e freshEvent pastEvent l;
+  unseen = λ e m l. zero-row e l;
+}
+
+-- one event more
+laid-more : (count : ℕ) (events : List KeptEvent) (sees sees′ row : List ℕ) (e : KeptEvent) → Laid count events sees → count < length events → 8 ≤ e .order
+    → ((i : ℕ) → rowAt sees′ 4 i ≡ cond (eqb i count) row (rowAt sees 4 i))
+    → Laid (count + 1) (set events count e) sees′
+laid-more count events sees sees′ row e h l m rows = record {
+  stamped = λ i j.
+      split (eqb i count)
+      (λ t. rw (eqb-true i count t, getD-set-same events count e pastEvent l) m)
+      (λ t.
+      let d : i ≡ count → ⊥ = eqb-false i count t in
+      rw (getD-set-other events count i e pastEvent d) (h .stamped i (omega arith)));
+  unmade = λ i k j. getD-set-other events count i e pastEvent (λ q. omega arith) ∙ h .unmade i (omega arith) j;
+  unseen = λ i k j. rows i ∙ rw (ne-eqb i count (λ q. omega arith)) (h .unseen i (omega arith) j);
+}
+
+-- rows as the sets that they are
+row-set : (t : Bool) (r s : List ℕ) → has (cond t r s) ≡ cond t (has r) (has s)
+row-set true r s = refl
+row-set false r s = refl
 
 -- ---- the loop
 
 pub record Turned (n : ℕ) (script out₀ out : List ℕ) (z : Arrays) (deliveries k : ℕ) : Type 0 where
   pub within : k ≤ length script / 8
-  pub few : deliveries ≤ k
   pub sized : Sized z
-  -- an event's stamp is 1 or more
-  pub stamped : (e : ℕ) → e < z .count → 8 ≤ getD (z .events) e pastEvent .order
+  pub laid : Laid (z .count) (z .events) (z .sees)
   pub store : storeIn z ≡ storeUpTo k n script
+  pub delivered : deliveries ≡ deliveriesUpTo k n script
   pub long : length out ≡ length out₀
   pub written : out ≡ answersUpTo k n script ++ drop (8 * k) out₀
 
@@ -116,7 +155,6 @@ pub turned-none : (n : ℕ) (script out : List ℕ) (a : Kept) (x : KeptCell) (e
     0 0
 turned-none n script out a x e p q r = record {
   within = omega arith;
-  few = omega arith;
   sized = record {
     events = length-replicate 256 e;
     sees = length-replicate {A = ℕ} 1024 0;
@@ -124,8 +162,9 @@ turned-none n script out a x e p q r = record {
     known = length-replicate {A = ℕ} 32 0;
     cells = length-replicate 256 x;
   };
-  stamped = λ e l. absurd (omega arith);
+  laid = rw r laid-none;
   store = rw (p, q, r) (fresh-store ∙ sym (store-none n script));
+  delivered = sym (deliveries-none n script);
   long = refl;
   written = ap (λ (l : List ℕ). l ++ out) (sym (answers-none n script));
 }
@@ -255,7 +294,7 @@ module _ (t : Turn) (h : Right t) where
       record {
         site = deliver-site (t .n) st (t .c) r kind;
         event = l;
-        order = rw same (h .inv .stamped w l);
+        order = rw same (h .inv .laid .stamped w l);
         object = omega (arith, limits .object w (d .done), ap (λ (x : Event). x .object) at);
         present =
             shown-present (e .present) (e .value) _
@@ -281,11 +320,11 @@ module _ (t : Turn) (h : Right t) where
 
   module _ (out′ bytes : List ℕ) (wrote : out′ ≡ sets (t .out) (8 * t .k) bytes) where
     -- one call more, whichever way it went
-    turned : (z′ : Arrays) (deliveries′ : ℕ) → deliveries′ ≤ t .k + 1 → Sized z′
-        → ((e : ℕ) → e < z′ .count → 8 ≤ getD (z′ .events) e pastEvent .order)
-        → storeIn z′ ≡ step (t .n) st call → bytes ≡ answer (t .n) st call
+    turned : (z′ : Arrays) (deliveries′ : ℕ) → deliveries′ ≡ t .deliveries + delivered (t .n) st call → Sized z′
+        → Laid (z′ .count) (z′ .events) (z′ .sees)
+        → storeIn z′ ≡ afterCall (t .n) st call → bytes ≡ answer (t .n) st call
         → Turned (t .n) (t .script) (t .out₀) out′ z′ deliveries′ (t .k + 1)
-    turned z′ deliveries′ most sized stamped stepped answered =
+    turned z′ deliveries′ counted sized laid stepped answered =
         let n : ℕ = t .n in
         let k : ℕ = t .k in
         let script : List ℕ = t .script in
@@ -295,10 +334,10 @@ module _ (t : Turn) (h : Right t) where
         let eight : length bytes ≡ 8 = ap length right ∙ answer-length n (storeUpTo k n script) (callAt script (8 * k)) in
         record {
           within = omega (arith, h .next);
-          few = most;
           sized = sized;
-          stamped = stamped;
+          laid = laid;
           store = rw (add-one, store-more, ← (h .inv .store), ← (h .asked)) stepped;
+          delivered = rw (add-one, deliveries-more, ← (h .inv .store), ← (h .asked), ← (h .inv .delivered)) counted;
           long = ap length wrote ∙ length-sets (t .out) (8 * k) bytes ∙ h .inv .long;
           written =
               wrote
@@ -312,7 +351,7 @@ module _ (t : Turn) (h : Right t) where
         → Turned (t .n) (t .script) (t .out₀) out′ (t .z) (t .deliveries) (t .k + 1)
     turned-refused i is d b =
         let r : refusal (t .n) st call ≡ 0 → ⊥ = λ q. d (sym is ∙ q) in
-        turned (t .z) (t .deliveries) (omega (arith, h .inv .few)) (h .inv .sized) (h .inv .stamped) (refused-step (t .z) (h .inv .sized) (t .n) call r)
+        turned (t .z) (t .deliveries) (omega (arith, none-delivered (t .n) st call r)) (h .inv .sized) (h .inv .laid) (refused-step (t .z) (h .inv .sized) (t .n) call r)
         (b ∙ ap (λ (j : ℕ). j ∷ replicate 7 0) (sym is) ∙ sym (refused-answer (t .n) st call r))
 
     module _ (done : Answered 0) where
@@ -332,9 +371,9 @@ module _ (t : Turn) (h : Right t) where
           let site : t .s ≡ t .c .site = omega (arith, d .site, h .site, h .sites) in
           let event : t .w ≡ t .c .event = omega (arith, d .event, few, h .event) in
           let same : call ≡ deliver (t .w) (t .s) = deliver-call (t .c) kind ∙ ap₂ deliver (sym event) (sym site) in
-          turned (withSite (t .z) (t .s) b known′ (32 * t .s + o) y) (t .deliveries + 1) (omega (arith, h .inv .few))
+          turned (withSite (t .z) (t .s) b known′ (32 * t .s + o) y) (t .deliveries + 1) (omega (arith, one-delivered (t .n) st (t .c) done kind))
           (site-sized (t .z) (h .inv .sized) (t .s) b known′ (32 * t .s + o) y long)
-          (h .inv .stamped)
+          (h .inv .laid)
           (rw (object, same)
           (delivered-step (t .z) (h .inv .sized) (t .n) (t .w) (t .s) b y known′ (omega (arith, d .event)) (omega (arith, h .site)) (d .object) (rw same at done) f
           (rw object at merged) rows))
@@ -348,7 +387,7 @@ module _ (t : Turn) (h : Right t) where
           → length known′ ≡ 32 → length sees′ ≡ 1024
           → ((i : ℕ) → i < 8 → has (rowAt known′ 4 i)
           ≡ cond (eqb i (t .s)) (upd (has (rowAt (t .z .known) 4 (t .s))) (t .z .count) true) (has (rowAt (t .z .known) 4 i)))
-          → ((i : ℕ) → i < 256 → has (rowAt sees′ 4 i) ≡ cond (eqb i (t .z .count)) (has (rowAt (t .z .known) 4 (t .s))) (has (rowAt (t .z .sees) 4 i)))
+          → ((i : ℕ) → rowAt sees′ 4 i ≡ cond (eqb i (t .z .count)) (rowAt (t .z .known) 4 (t .s)) (rowAt (t .z .sees) 4 i))
           → bytes ≡ r .answer
           → Turned (t .n) (t .script) (t .out₀) out′ (withMade (withSite (t .z) (t .s) (r .site) known′ (32 * t .s + o) (r .cell)) (r .event) sees′)
           (t .deliveries) (t .k + 1)
@@ -365,10 +404,11 @@ module _ (t : Turn) (h : Right t) where
           (made st (has (rowAt (z .known) 4 (t .c .site))) (store-count z) (rw (← site) (site-found z s small))
           (rw (← site, ← object) (cell-at z s o small low))) in
           let with-site : Arrays = withSite z s (r .site) known′ (32 * s + o) (r .cell) in
-          turned (withMade with-site (r .event) sees′) (t .deliveries) (omega (arith, h .inv .few))
+          turned (withMade with-site (r .event) sees′) (t .deliveries) (omega (arith, other-delivered (t .n) st (t .c) other))
           (made-sized with-site (site-sized z (h .inv .sized) s (r .site) known′ (32 * s + o) (r .cell) long) (r .event) sees′ wide)
-          (more-stamped (z .events) (z .count) (r .event) (omega (arith, d .room, h .inv .sized .events)) least (h .inv .stamped))
-          (made-step z (h .inv .sized) (t .n) call s o r sees′ known′ small low (d .room) done m rows seen)
+          (laid-more (z .count) (z .events) (z .sees) sees′ (rowAt (z .known) 4 s) (r .event) (h .inv .laid) (omega (arith, d .room, h .inv .sized .events)) least seen)
+          (made-step z (h .inv .sized) (t .n) call s o r sees′ known′ small low (d .room) done m rows
+          (λ i l. ap has (seen i) ∙ row-set (eqb i (z .count)) (rowAt (z .known) 4 s) (rowAt (z .sees) 4 i)))
           (b ∙ m .answer ∙ sym (done-answer (t .n) st call done))
 
 -- the loop's variables may be given by equations
@@ -393,8 +433,11 @@ module _ (n : ℕ) (script out₀ out : List ℕ) (z : Arrays) (deliveries k : �
       ∙ ap (λ (l : List ℕ). l ++ drop (8 * k) out₀) (ap (λ (i : ℕ). answersUpTo i n script) all ∙ answers-whole n script)
       ∙ ap (λ (i : ℕ). answers n fresh (callsOf script) ++ drop i out₀) end
 
-  pub whole-stands : Stands (z .count) (z .events) (z .sees) (storeAfter n script)
-  whole-stands = record {
+  pub whole-ends : Ends n script (record { count = z .count; events = z .events; sees = z .sees; deliveries = deliveries })
+  whole-ends = record {
     count = sym (store-count z) ∙ ap (λ (st : Store). st .count) whole;
     event = λ e l. sym (event-at z e l) ∙ ap (λ (st : Store). st .event e) whole;
+    unmade = h .laid .unmade;
+    unseen = h .laid .unseen;
+    deliveries = h .delivered ∙ ap (λ (i : ℕ). deliveriesUpTo i n script) all ∙ deliveries-whole n script;
   }

@@ -2,14 +2,13 @@
 use super::Ran;
 ghost use mathlib.Core.Path.{_≡_};
 ghost use Prim.Native.Nat.{_*_, _-_, _≤_};
-ghost use Rattle.store.specs.Store.{Store};
 ghost use Rattle.store.specs.Rehearsal.{puts};
-ghost use Rattle.rehearsal.specs.Arrays.{Stands};
+ghost use Rattle.rehearsal.specs.Arrays.{ranStore};
 
-pub fn puts(ran: Ran) -> usize
+fn puts(ran: Ran) -> usize
     requires { ⌜ ran .count ≤ 256 ⌝ }
     ensures { λ r. ⌜ r ≤ 256 ⌝ }
-    ensures { λ r. ⌜ ((st : Store) → Stands (ran .count) (ran .events) (ran .sees) st → r ≡ puts (st .event) (st .count)) ⌝ }
+    ensures { λ r. ⌜ r ≡ puts (ranStore ran .event) (ran .count) ⌝ }
 {
     let events = ran.events;
     let count = ran.count;
@@ -28,7 +27,7 @@ pub fn outstanding(n: usize, ran: Ran) -> usize
     requires { ⌜ 1 ≤ n ⌝ }
     requires { ⌜ n ≤ 8 ⌝ }
     requires { ⌜ ran .count ≤ 256 ⌝ }
-    ensures { λ r. ⌜ ((st : Store) → Stands (ran .count) (ran .events) (ran .sees) st → r ≤ puts (st .event) (st .count) * (n - 1)) ⌝ }
+    ensures { λ r. ⌜ r ≡ puts (ranStore ran .event) (ran .count) * (n - 1) - ran .deliveries ⌝ }
 {
     let all = puts(ran) * (n - 1);
     let done = ran.deliveries;

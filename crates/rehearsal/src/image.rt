@@ -6,17 +6,16 @@ ghost use mathlib.Core.Path.{_≡_};
 ghost use mathlib.Core.List.{_++_};
 ghost use Prim.Native.Nat.{_+_, _*_, _≤_};
 ghost use lib.ListN.{length, drop};
-ghost use Rattle.rows.specs.Row.{has, rowAt};
+ghost use Rattle.rows.specs.Row.{rowAt};
 ghost use Rattle.record.specs.Layout.{gcr1};
 ghost use Rattle.record.specs.Encode.{blocksFor, withSlots};
-ghost use Rattle.store.specs.Store.{Store};
 ghost use Rattle.store.specs.Recorded.{recorded, storeRecord};
-ghost use Rattle.rehearsal.specs.Arrays.{Stands, Bounded, Distinct};
+ghost use Rattle.rehearsal.specs.Arrays.{ranStore, Bounded, DistinctStamps};
 
 // What event k sees.
 fn row_of(sees: &[u64], k: usize) -> [u64; 4]
     requires { ⌜ 4 * k + 4 ≤ length (now sees) ⌝ }
-    ensures { λ r. ⌜ has r ≡ has (rowAt (now (sees .entry)) 4 k) ⌝ }
+    ensures { λ r. ⌜ r ≡ rowAt (now (sees .entry)) 4 k ⌝ }
 {
     let at = 4 * k;
     [sees[at], sees[at + 1], sees[at + 2], sees[at + 3]]
@@ -25,8 +24,9 @@ fn row_of(sees: &[u64], k: usize) -> [u64; 4]
 // The slot of each event.
 fn put_slots(ran: Ran, rec: &mut [u8])
     requires { ⌜ Bounded (ran .count) (ran .events) ⌝ }
+    requires { ⌜ DistinctStamps (ranStore ran) ⌝ }
     requires { ⌜ 512 * blocksFor gcr1 (ran .count) ≤ length (now rec) ⌝ }
-    ensures { λ _. ⌜ ((st : Store) → Stands (ran .count) (ran .events) (ran .sees) st → Distinct st → now (rec .exit) ≡ withSlots gcr1 (recorded st) (ran .count) (now (rec .entry))) ⌝ }
+    ensures { λ _. ⌜ now (rec .exit) ≡ withSlots gcr1 (recorded (ranStore ran)) (ran .count) (now (rec .entry)) ⌝ }
 {
     let positions = ranks::positions(ran);
     let events = ran.events;
@@ -44,9 +44,10 @@ fn put_slots(ran: Ran, rec: &mut [u8])
 // The whole record, of n sites; the rest of the buffer stays. The result is the record's length.
 pub fn write(n: u8, ran: Ran, rec: &mut [u8]) -> usize
     requires { ⌜ Bounded (ran .count) (ran .events) ⌝ }
+    requires { ⌜ DistinctStamps (ranStore ran) ⌝ }
     requires { ⌜ 19456 ≤ length (now rec) ⌝ }
     ensures { λ r. ⌜ r ≡ 512 * blocksFor gcr1 (ran .count) ⌝ }
-    ensures { λ _. ⌜ ((st : Store) → Stands (ran .count) (ran .events) (ran .sees) st → Distinct st → now (rec .exit) ≡ storeRecord gcr1 n st ++ drop (512 * blocksFor gcr1 (ran .count)) (now (rec .entry))) ⌝ }
+    ensures { λ _. ⌜ now (rec .exit) ≡ storeRecord gcr1 n (ranStore ran) ++ drop (512 * blocksFor gcr1 (ran .count)) (now (rec .entry)) ⌝ }
 {
     let count = ran.count;
     let blocks = 1 + (count + 6) / 7;

@@ -15,8 +15,7 @@ ghost use lib.Seq.{sets};
 ghost use Rattle.store.specs.Store.{fresh};
 ghost use Rattle.store.specs.Calls.{callsOf};
 ghost use Rattle.store.specs.Rules.{answers};
-ghost use Rattle.store.specs.Rehearsal.{storeAfter};
-ghost use Rattle.rehearsal.specs.Arrays.{noCell, freshKept, freshEvent, Stands};
+ghost use Rattle.rehearsal.specs.Arrays.{noCell, freshKept, freshEvent, Ends};
 
 fn fresh_site() -> Kept
     ensures { λ r. ⌜ r ≡ freshKept ⌝ }
@@ -62,7 +61,7 @@ pub fn run(n: usize, script: &[u8], out: &mut [u8]) -> Ran
     requires { ⌜ length (now script) ≤ 32768 ⌝ }
     requires { ⌜ length (now script) ≤ length (now out) ⌝ }
     ensures { λ _. ⌜ now (out .exit) ≡ answers n fresh (callsOf (now (script .entry))) ++ drop (length (now (script .entry))) (now (out .entry)) ⌝ }
-    ensures { λ r. ⌜ Stands (r .count) (r .events) (r .sees) (storeAfter n (now (script .entry))) ⌝ }
+    ensures { λ r. ⌜ Ends n (now (script .entry)) r ⌝ }
 {
     let mut kept = [fresh_site(); 8];
     let mut known = [0u64; 32];

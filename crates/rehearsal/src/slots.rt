@@ -3,16 +3,12 @@ use calls::KeptEvent;
 use record::Slot;
 ghost use mathlib.Core.Path.{_≡_};
 ghost use Prim.Native.Nat.{_<_};
-ghost use Rattle.rows.specs.Row.{has};
-ghost use Rattle.record.specs.Encode.{SlotOf};
-ghost use Rattle.store.specs.Store.{Store};
-ghost use Rattle.store.specs.Recorded.{rank, recorded};
-ghost use Rattle.calls.specs.Mirror.{eventOf};
+ghost use Rattle.rehearsal.specs.Arrays.{slotFor};
 
 // Event k, kept as e, which sees the events of a row, at its position in ar. It starts at 2 × k and returns at 2 × k + 1; none is pending.
 pub fn slot(k: usize, e: KeptEvent, sees: [u64; 4], position: u16) -> Slot
     requires { ⌜ k < 256 ⌝ }
-    ensures { λ r. ⌜ ((st : Store) → e .object < 256 → eventOf e (has sees) ≡ st .event k → position ≡ rank (st .event) (st .count) k → SlotOf (recorded st) k r) ⌝ }
+    ensures { λ r. ⌜ r ≡ slotFor k e sees position ⌝ }
 {
     let mut value: u32 = 0;
     if e.present {

@@ -1,32 +1,18 @@
 -- Laws of bytes: rows of bits in them, little-endian numbers, and the words of a byte row. Assumes nothing.
 use mathlib.Core.Path.{_≡_, refl, ap, ap₂, _∙_}
-use mathlib.Core.Bool.{Bool, _||_}
 use mathlib.Core.List.{List, [], _∷_, _++_}
 use Prim.Native.Nat.{ℕ, zero, suc, _+_, _-_, _*_, _/_, _%_, _^_, _<_}
-use native.Mathlib.Nat.{not-suc-le-zero, le-of-suc-le-suc, suc-add, zero-add, one-mul, add-zero, mul-assoc, pow-zero, pow-succ'}
+use native.Mathlib.Nat.{le-refl, not-suc-le-zero, le-of-suc-le-suc, suc-add, zero-add, one-mul, add-zero, mul-assoc, pow-zero, pow-succ'}
 use native.Mathlib.Numerals.{add-one}
 use native.Mathlib.Omega.{arith}
 use native.Mathlib.Decide.{decLt}
 use lib.Dec.{eqb}
-use lib.ListN.{length, getD, length-set}
-use lib.Bits.{bitOr}
+use lib.ListN.{length, getD}
+use lib.Bits.{bitOr, or-shifted-r}
+use lib.Pow.{shl-exact}
 use Rattle.rows.specs.Row.{digit, bitOf, has}
-use Rattle.rows.specs.Octets.{hasByte, insertByte, little, words}
+use Rattle.rows.specs.Octets.{hasByte, little, words}
 use Rattle.rows.proofs.Digits.{digit-low, digit-high}
-use Rattle.rows.proofs.RowLaws.{bit-put, parts-equal}
-
--- ---- a row of bits in bytes
-
-pub has-insert-byte : (s : List ℕ) (base b c : ℕ) → base + b / 8 < length s → hasByte (insertByte s base b) base c ≡ eqb b c || hasByte s base c
-unfolding hasByte insertByte
-has-insert-byte s base b c h =
-    bit-put s (base + b / 8) (b % 8) (base + c / 8) (c % 8) h
-    ∙ ap (λ (t : Bool). t || bitOf (getD s (base + c / 8) 0) (c % 8))
-    (parts-equal (base + b / 8) (base + c / 8) (b % 8) (c % 8) b c (λ p q. omega arith) (λ e. omega arith))
-
-pub length-insert-byte : (s : List ℕ) (base b : ℕ) → length (insertByte s base b) ≡ length s
-unfolding insertByte
-length-insert-byte s base b = length-set s (base + b / 8) (bitOr (getD s (base + b / 8) 0) (2 ^ (b % 8)))
 
 -- ---- little-endian numbers
 
@@ -43,6 +29,10 @@ little-join (suc j) k s at =
 pub little-two : (s : List ℕ) (at : ℕ) → little 2 s at ≡ getD s at 0 + 256 * getD s (at + 1) 0
 unfolding little
 little-two s at = omega arith
+
+-- an upper part of q bits shifted over a lower one of p
+pub shift-over : (p q x y : ℕ) → x < 2 ^ p → y < 2 ^ q → bitOr x (y * 2 ^ p % 2 ^ (q + p)) ≡ y * 2 ^ p + x
+shift-over p q x y i j = ap (bitOr x) (shl-exact {a = y} q p (q + p) j (le-refl (q + p))) ∙ or-shifted-r y p x i
 
 module _ (s : List ℕ) (bytes : (i : ℕ) → getD s i 0 < 256) where
   pub little-lt : (k at : ℕ) → little k s at < 256 ^ k

@@ -1,6 +1,6 @@
 -- Laws of `reaches`: it is one or more steps, as the inductive relation `Steps` has it. Assumes nothing.
 use mathlib.Core.Path.{_≡_, sym, ap, _∙_}
-use mathlib.Core.Bool.{Bool, true, false, _&&_, _||_}
+use mathlib.Core.Bool.{Bool, true, _&&_, _||_}
 use mathlib.Core.List.{List}
 use Prim.Native.Nat.{ℕ, zero, suc, _+_, _*_, _^_, _<_, _≤_}
 use native.Mathlib.Omega.{arith}
@@ -9,9 +9,9 @@ use borrow.Author.Tests.{ltb-true, ltb-false}
 use lib.ListN.{length}
 use Rattle.rows.specs.Lowest.{lowest, some}
 use Rattle.rows.specs.Row.{rowAt, Row}
-use Rattle.rows.specs.Relation.{Rel, via, reaches, Steps, one, more, related, Table, Graph, Room, Between}
-use Rattle.rows.proofs.Tests.{split, same-test, never, or-elim, or-left, or-right, and-both, and-left, and-right}
-use Rattle.rows.proofs.LowestLaws.{some-of, some-at, same-some, same-lowest}
+use Rattle.rows.specs.Relation.{Rel, via, reaches, Steps, one, more, related, Table, Graph, Rows, Between}
+use Rattle.rows.proofs.Tests.{split, same-test, or-elim, or-left, or-right, and-both, and-left, and-right}
+use Rattle.rows.proofs.LowestLaws.{some-of, some-at, same-some}
 use Rattle.rows.proofs.RowLaws.{row-of, row-has, row-in, row-same}
 use Rattle.rows.proofs.TableLaws.{row-room}
 
@@ -126,10 +126,6 @@ module _ (n : ℕ) (r : Rel) where
           let b = lowest n (λ b. r a b && reaches n r b c) in
           reaches-join a b c (w .0) (reaches-step a b (and-left (r a b) (reaches n r b c) (w .1))) (and-right (r a b) (reaches n r b c) (w .1)))
 
--- no event reaches itself where each step raises a number
-pub rising-ringless : (n : ℕ) (r : Rel) (f : ℕ → ℕ) → ((x y : ℕ) → r x y ≡ true → f x < f y) → (a : ℕ) → reaches n r a a ≡ false
-rising-ringless n r f h a = never (reaches n r a a) (λ e. omega (arith, steps-rising f h (reaches-sound n r a a e)))
-
 -- the other way round, and by its last step
 pub reaches-flip : (n : ℕ) (r : Rel) (a b : ℕ) → reaches n (λ x y. r y x) a b ≡ reaches n r b a
 reaches-flip n r a b = same-test (reaches n (λ x y. r y x) a b) (reaches n r b a)
@@ -172,10 +168,10 @@ pub graph-room : {g : List ℕ} {n w : ℕ} (b : ℕ) → Graph g n w → b < n 
 graph-room {g} {n} {w} b h k = row-room n w b (length g) k (h .size)
 
 -- the same of a table of which only the size is known, and so of every table of that length
-pub room-row : {g : List ℕ} {n w : ℕ} (b : ℕ) → Room g n w → b < n → b * w + w ≤ length g
+pub room-row : {g : List ℕ} {n w : ℕ} (b : ℕ) → Rows g n w → b < n → b * w + w ≤ length g
 room-row {g} {n} {w} b h k = row-room n w b (length g) k (h .size)
 
-pub room-kept : {g : List ℕ} (h : List ℕ) {n w : ℕ} → Room g n w → length h ≡ length g → Room h n w
+pub room-kept : {g : List ℕ} (h : List ℕ) {n w : ℕ} → Rows g n w → length h ≡ length g → Rows h n w
 room-kept h m e = record { size = omega (arith, m .size); wide = m .wide; fits = m .fits }
 
 module _ (n w : ℕ) (r : Rel) (g : List ℕ) (t : Table n w r g) where
@@ -192,9 +188,6 @@ module _ (n w : ℕ) (r : Rel) (g : List ℕ) (t : Table n w r g) where
   pub table-row : (b : ℕ) (l : List ℕ) → b < n → Row n (λ a. reaches n (related g w) a b) l → Row n (λ a. reaches n r a b) l
   table-row b l h q = row-same n (λ a. reaches n (related g w) a b) l q (λ a. reaches n r a b) (λ a k. table-reaches a b k h)
 
-  pub table-ring : lowest n (λ a. reaches n (related g w) a a) ≡ lowest n (λ a. reaches n r a a)
-  table-ring = same-lowest n (λ a. reaches n (related g w) a a) (λ a. reaches n r a a) (λ a h. table-reaches a a h h)
-
   -- only an event below n has a step to one
   pub table-start : {a c : ℕ} → Steps n (related g w) a c → c < n → a < n
   table-start (one {a} {b = c} s) l = row-in n (λ x. r x c) (rowAt g w c) (t c l) a s .0
@@ -208,13 +201,3 @@ module _ (n w : ℕ) (r : Rel) (g : List ℕ) (t : Table n w r g) where
       let k = table-start (reaches-sound n (related g w) x b c) l in
       (k, sym (table-reaches x b k l) ∙ c))
       (λ x k m. all b x l ∙ table-reaches x b k l ∙ m)
-
-  -- and so does the closure of a table between g and that
-  pub table-between : (m h : List ℕ) → Between n (related g w) (related m w) → ((q : Rel) → Table n w q m → Table n w (reaches n q) h) → Table n w (reaches n r) h
-  table-between m h i closure b l =
-      row-same n (λ a. reaches n (related m w) a b) (rowAt h w b) (closure (related m w) held b l) (λ a. reaches n r a b) (λ a k. between-reaches i a b l ∙ table-reaches a b k l)
-    where
-      held : Table n w (related m w) m
-      held b l = row-of n (λ a. related m w a b) (rowAt m w b)
-          (λ a e. (table-start (reaches-sound n (related g w) a b (i .sound a b l e)) l, e))
-          (λ a k e. e)

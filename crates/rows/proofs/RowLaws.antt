@@ -18,8 +18,8 @@ use lib.Pow.{pow-lt}
 use lib.Seq.{getD-set-same, getD-set-other, take-all}
 use Rattle.rows.specs.Lowest.{lowest, highest, some}
 use Rattle.rows.specs.Row.{bitOf, has, insert, erase, orRow, andRow, minusRow, countRow, onlyFirst, belowWord, Row}
-use Rattle.rows.proofs.Tests.{split, tell, same-test, never, or-elim, or-left, or-right, and-both, and-left, and-right, not-of}
-use Rattle.rows.proofs.LowestLaws.{lowest-hit, lowest-low, some-none, none-some, some-cut, lowest-cut, highest-hit}
+use Rattle.rows.proofs.Tests.{split, tell, same-test, or-elim, or-left, or-right, and-both, and-left, and-right}
+use Rattle.rows.proofs.LowestLaws.{lowest-hit, lowest-low, some-none, highest-hit}
 use Rattle.rows.proofs.Digits.{shl-one, bit-below, bit-or, bit-and, bit-minus, bit-pow, bit-none, bit-one, none-bit, bit-of-zero, trailing-below, trailing-at, trailing-lt, leading-lt, leading-at, leading-above, ones-or-pow}
 
 -- ---- one bit of a list of numbers, after a store: bit m of the number at j
@@ -337,10 +337,6 @@ only-below l m n x e y h t = only-none l m y (lowest-low n (onlyFirst l m) .belo
 pub subset-has : (l m : List ℕ) → not (some (64 * length l) (onlyFirst l m)) ≡ true → (x : ℕ) → has l x ≡ true → has m x ≡ true
 subset-has l m e x h = only-none l m x (some-none (64 * length l) (onlyFirst l m) (not-true (some (64 * length l) (onlyFirst l m)) e) x (has-within l x h)) h
 
-pub has-subset : (l m : List ℕ) → ((x : ℕ) → has l x ≡ true → has m x ≡ true) → not (some (64 * length l) (onlyFirst l m)) ≡ true
-has-subset l m f = not-of (some (64 * length l) (onlyFirst l m)) (none-some (64 * length l) (onlyFirst l m) (λ x h.
-    never (onlyFirst l m x) (λ e. let o = only-some l m x e in tell (has m x) (f x (o .0)) (o .1))))
-
 -- ---- rows that hold what a test says
 
 pub row-of : (n : ℕ) (f : ℕ → Bool) (l : List ℕ) → ((x : ℕ) → has l x ≡ true → (x < n) × (f x ≡ true)) → ((x : ℕ) → x < n → f x ≡ true → has l x ≡ true) → Row n f l
@@ -398,20 +394,6 @@ module _ (n : ℕ) (f : ℕ → Bool) (l : List ℕ) (r : Row n f l) where
       there : eqb k x ≡ false → eqb k x || ltb x n && f x ≡ ltb x n && (eqb k x || f x)
       there t = rw t
 
-  pub row-erase : (k : ℕ) → k / 64 < length l → Row n (λ x. not (eqb k x) && f x) (erase l k)
-  row-erase k w x = has-erase l k x w ∙ ap (λ (t : Bool). not (eqb k x) && t) (r x) ∙ swap (not (eqb k x)) (ltb x n) (f x)
-    where
-      swap : (s t u : Bool) → s && (t && u) ≡ t && (s && u)
-      swap true t u = refl
-      swap false t u = sym (and-false t)
-
-  -- a member, by the row and by the numbers below n
-  pub row-some : n ≤ 64 * length l → some (64 * length l) (has l) ≡ some n f
-  row-some h = some-cut (64 * length l) n (has l) f h r
-
-  pub row-lowest : n ≤ 64 * length l → lowest n f ≡ min (lowest (64 * length l) (has l)) n
-  row-lowest h = lowest-cut (64 * length l) n (has l) f h r
-
 -- two rows
 module _ (n : ℕ) (f : ℕ → Bool) (l : List ℕ) (r : Row n f l) (g : ℕ → Bool) (m : List ℕ) (s : Row n g m) where
   pub row-or : length m ≤ length l → Row n (λ x. f x || g x) (orRow l m)
@@ -423,14 +405,6 @@ module _ (n : ℕ) (f : ℕ → Bool) (l : List ℕ) (r : Row n f l) (g : ℕ �
       twice : (t u v : Bool) → (t && u) && (t && v) ≡ t && (u && v)
       twice true u v = refl
       twice false u v = refl
-
-  -- what l has and m lacks: the test under which `some-cut` and `lowest-cut` serve
-  pub row-only : (x : ℕ) → onlyFirst l m x ≡ (ltb x n && (f x && not (g x)))
-  row-only x = ap₂ (λ (t u : Bool). t && not u) (r x) (s x) ∙ less (ltb x n) (f x) (g x)
-    where
-      less : (t u v : Bool) → (t && u) && not (t && v) ≡ t && (u && not v)
-      less true u v = refl
-      less false u v = refl
 
 -- ---- the numbers below n, word by word
 

@@ -1,17 +1,13 @@
 -- Rows of bits in bytes: number b is bit b % 8 of byte base + b / 8. Bytes as little-endian numbers.
 use mathlib.Core.Bool.{Bool}
 use mathlib.Core.List.{List, [], _∷_}
-use Prim.Native.Nat.{ℕ, zero, suc, _+_, _*_, _/_, _%_, _^_}
-use lib.Bits.{bitOr}
-use lib.ListN.{getD, set}
+use Prim.Native.Nat.{ℕ, zero, suc, _+_, _*_, _/_, _%_}
+use lib.ListN.{getD}
 use Rattle.rows.specs.Row.{bitOf}
 
 unfoldable pub hasByte : List ℕ → ℕ → ℕ → Bool
 unfolding bitOf
 hasByte s base b = bitOf (getD s (base + b / 8) 0) (b % 8)
-
-unfoldable pub insertByte : List ℕ → ℕ → ℕ → List ℕ
-insertByte s base b = set s (base + b / 8) (bitOr (getD s (base + b / 8) 0) (2 ^ (b % 8)))
 
 -- the k bytes from `at` on, lowest first, as one number
 unfoldable pub little : ℕ → List ℕ → ℕ → ℕ

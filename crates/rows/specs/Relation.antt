@@ -3,7 +3,7 @@ use mathlib.Core.Path.{_≡_}
 use mathlib.Core.Bool.{Bool, true, _&&_, _||_}
 use mathlib.Core.List.{List}
 use Prim.Native.Nat.{ℕ, zero, suc, _*_, _^_, _<_, _≤_}
-use lib.ListN.{length}
+use lib.ListN.{length, drop}
 use Rattle.rows.specs.Row.{has, rowAt, Row}
 
 abbrev pub Rel : Type 0
@@ -32,6 +32,12 @@ related g w a b = has (rowAt g w b) a
 abbrev pub Table : ℕ → ℕ → Rel → List ℕ → Type 0
 Table n w r g = (b : ℕ) → b < n → Row n (λ a. r a b) (rowAt g w b)
 
+-- the n rows of a table were filled with the relation r, and the words after them stayed
+pub record Filled (n w : ℕ) (r : Rel) (old new : List ℕ) : Type 0 where
+  pub size : length new ≡ length old
+  pub table : Table n w r new
+  pub rest : drop (n * w) new ≡ drop (n * w) old
+
 -- a table of n rows of w words, whose members are below n
 pub record Graph (g : List ℕ) (n w : ℕ) : Type 0 where
   pub size : n * w ≤ length g
@@ -40,7 +46,7 @@ pub record Graph (g : List ℕ) (n w : ℕ) : Type 0 where
   pub inside : (b x : ℕ) → b < n → has (rowAt g w b) x ≡ true → x < n
 
 -- a table of n rows of w words, whatever they hold
-pub record Room (g : List ℕ) (n w : ℕ) : Type 0 where
+pub record Rows (g : List ℕ) (n w : ℕ) : Type 0 where
   pub size : n * w ≤ length g
   pub wide : n ≤ 64 * w
   pub fits : 64 * w < 2 ^ 64

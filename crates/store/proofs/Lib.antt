@@ -5,6 +5,7 @@ pub mod DeliverKeeps
 pub mod PutGetKeeps
 pub mod RunKeeps
 pub mod RankLaws
+pub mod SameRecord
 pub mod Sizes
 pub mod StoreIsCausal
 pub mod WholeList

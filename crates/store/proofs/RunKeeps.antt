@@ -11,7 +11,8 @@ use Rattle.rows.proofs.Tests.{and-left, and-right}
 use Rattle.consistency.specs.Reads.{value}
 use Rattle.store.specs.Store.{cellValue, Store, fresh}
 use Rattle.store.specs.Calls.{Call, put, get, deliver, malformed}
-use Rattle.store.specs.Rules.{ask, reached, refusal, made, effect, step, run}
+use Rattle.record.specs.Questions.{ask}
+use Rattle.store.specs.Rules.{reached, refusal, made, effect, afterCall, run}
 use Rattle.store.proofs.UpdateLaws.{upd-same, upd-below, lt-suc-elim}
 use Rattle.store.proofs.Invariant.{Table, StoreInv}
 use Rattle.store.proofs.DeliverKeeps.{Deliverable, deliver-keeps}
@@ -41,7 +42,7 @@ pub record Doable (n : ℕ) (st : Store) (s o : ℕ) : Type 0 where
   pub object : o ≤ 31
   pub room : st .count < 256
 
-doable : (n : ℕ) (st : Store) (s o : ℕ) → ask (ltb s n) 32 (ask (leb o 31) 33 (ask (ltb (st .count) 256) 34 0)) ≡ 0 → Doable n st s o
+doable : (n : ℕ) (st : Store) (s o : ℕ) → ask {A = ℕ} (ltb s n) 32 (ask (leb o 31) 33 (ask (ltb (st .count) 256) 34 0)) ≡ 0 → Doable n st s o
 doable n st s o r =
     let q₃ : ℕ = ask (ltb (st .count) 256) 34 0 in
     let q₂ : ℕ = ask (leb o 31) 33 q₃ in
@@ -85,8 +86,8 @@ unfolding refusal
 delivery-site n st w t r = ltb-true t n (ask-yes (ltb t n) 31 _ r)
 
 -- a step keeps what every call keeps that is not refused
-pub step-elim : (n : ℕ) (st : Store) (c : Call) (P : Store → Type 0) → (refusal n st c ≡ 0 → P (effect st c)) → P st → P (step n st c)
-unfolding step
+pub step-elim : (n : ℕ) (st : Store) (c : Call) (P : Store → Type 0) → (refusal n st c ≡ 0 → P (effect st c)) → P st → P (afterCall n st c)
+unfolding afterCall
 step-elim n st c P done refused = go (eqb (refusal n st c) 0) refl
   where
     go : (t : Bool) → eqb (refusal n st c) 0 ≡ t → P (cond t (effect st c) st)
@@ -115,7 +116,7 @@ effect-stays st (get s o) = record {
 effect-stays st (deliver w t) = record { count = le-refl _; event = λ e l. refl }
 effect-stays st malformed = stays-here st
 
-pub step-stays : (n : ℕ) (st : Store) (c : Call) → Stays st (step n st c)
+pub step-stays : (n : ℕ) (st : Store) (c : Call) → Stays st (afterCall n st c)
 step-stays n st c = step-elim n st c (Stays st) (λ r. effect-stays st c) (stays-here st)
 
 pub run-stays : (n : ℕ) (st : Store) (cs : List Call) → Stays st (run n st cs)
@@ -123,7 +124,7 @@ unfolding run
 run-stays n st [] = stays-here st
 run-stays n st (c ∷ cs) =
     let h = step-stays n st c in
-    let k = run-stays n (step n st c) cs in
+    let k = run-stays n (afterCall n st c) cs in
     record {
       count = omega (arith, h .count, k .count);
       event = λ e l. k .event e (omega (arith, h .count)) ∙ h .event e l;
@@ -153,7 +154,7 @@ effect-keeps n n≤8 F st ok (deliver w t) r has =
     deliver-keeps n n≤8 F st ok w t (rw eF d) eF
 effect-keeps n n≤8 F st ok malformed r has = ok
 
-pub step-keeps : (n : ℕ) → n ≤ 8 → (F : Table) (st : Store) → StoreInv n F st → (c : Call) → Has F (step n st c) → StoreInv n F (step n st c)
+pub step-keeps : (n : ℕ) → n ≤ 8 → (F : Table) (st : Store) → StoreInv n F st → (c : Call) → Has F (afterCall n st c) → StoreInv n F (afterCall n st c)
 step-keeps n n≤8 F st ok c =
     step-elim n st c (λ (x : Store). Has F x → StoreInv n F x) (λ r has. effect-keeps n n≤8 F st ok c r has) (λ has. ok)
 
@@ -161,8 +162,8 @@ pub run-keeps : (n : ℕ) → n ≤ 8 → (F : Table) (cs : List Call) (st : Sto
 unfolding run
 run-keeps n n≤8 F [] st ok has = ok
 run-keeps n n≤8 F (c ∷ cs) st ok has =
-    run-keeps n n≤8 F cs (step n st c)
-    (step-keeps n n≤8 F st ok c (has-earlier F (step n st c) (run n (step n st c) cs) (run-stays n (step n st c) cs) has))
+    run-keeps n n≤8 F cs (afterCall n st c)
+    (step-keeps n n≤8 F st ok c (has-earlier F (afterCall n st c) (run n (afterCall n st c) cs) (run-stays n (afterCall n st c) cs) has))
     has
 
 fresh-keeps : (n : ℕ) (F : Table) → StoreInv n F fresh

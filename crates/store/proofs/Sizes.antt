@@ -14,7 +14,7 @@ use Rattle.record.proofs.StoresLaws.{Bytes}
 use Rattle.consistency.specs.Reads.{Held, none, value}
 use Rattle.store.specs.Store.{upd, Cell, empty, full, cellValue, Event, Store, fresh}
 use Rattle.store.specs.Calls.{Call, put, get, deliver, malformed, callAt, callsFrom, callsOf}
-use Rattle.store.specs.Rules.{refusal, made, valueOr0, effect, step, run}
+use Rattle.store.specs.Rules.{refusal, made, valueOr0, effect, afterCall, run}
 use Rattle.store.proofs.UpdateLaws.{upd-elim, lt-suc-elim}
 use Rattle.store.proofs.Invariant.{HoldsLast, ShowsLast, StoreInv}
 use Rattle.store.proofs.RunKeeps.{put-doable, get-doable, step-elim, every-run}
@@ -50,7 +50,7 @@ effect-limits n st h malformed r = h
 run-limits : (n : ℕ) (st : Store) (cs : List Call) → Limits st → Limits (run n st cs)
 unfolding run
 run-limits n st [] h = h
-run-limits n st (c ∷ cs) h = run-limits n (step n st c) cs (step-elim n st c Limits (λ r. effect-limits n st h c r) h)
+run-limits n st (c ∷ cs) h = run-limits n (afterCall n st c) cs (step-elim n st c Limits (λ r. effect-limits n st h c r) h)
 
 pub every-limits : (n : ℕ) (cs : List Call) → Limits (run n fresh cs)
 every-limits n cs = run-limits n fresh cs (record { count = omega arith; object = λ e l. absurd (omega arith) })
@@ -125,7 +125,7 @@ run-written : (n : ℕ) (st : Store) (cs : List Call) → AllFit cs → Written 
 unfolding run
 run-written n st [] f h = h
 run-written n st (c ∷ cs) f h =
-    run-written n (step n st c) cs (f .1) (step-elim n st c Written (λ r. effect-written st c (f .0) h) h)
+    run-written n (afterCall n st c) cs (f .1) (step-elim n st c Written (λ r. effect-written st c (f .0) h) h)
 
 -- gets and cells have values of puts
 pub record Values (st : Store) : Type 0 where

@@ -1,5 +1,5 @@
--- The third demand's claim on the record, for every script of bytes: it passes every question, and predicates 10, 11 and 1 are met. Assumes nothing.
-use mathlib.Core.Path.{_≡_, sym, _∙_}
+-- The third demand's claim on the record, for every script of bytes: it passes every question, and predicates 10, 11 and 1 hold. Assumes nothing.
+use mathlib.Core.Path.{sym, _∙_}
 use mathlib.Core.List.{List}
 use Prim.Native.Nat.{ℕ, _≤_}
 use Rattle.record.specs.Layout.{gcr1}
@@ -7,13 +7,12 @@ use Rattle.record.specs.History.{History, historyOf}
 use Rattle.record.specs.Encode.{recordBytes}
 use Rattle.record.specs.WellFormed.{WellFormed}
 use Rattle.record.proofs.StoresLaws.{Bytes}
+use Rattle.record.proofs.QuestionsAnswered.{passed-right}
 use Rattle.record.proofs.EncodedPasses.{gcr1-encoded}
-use Rattle.consistency.specs.Predicates.{verdict}
 use Rattle.consistency.specs.Holds.{Holds}
 use Rattle.consistency.specs.declared.Predicate.{Predicate}
 use Rattle.consistency.specs.declared.Predicate.the-variants.{RVal, CausalVisibility, CausalArbitration}
-use Rattle.consistency.specs.declared.Verdict.the-variants.{Met}
-use Rattle.consistency.proofs.MetIffHolds.{holds-met}
+use Rattle.consistency.proofs.MetIffHolds.{met-holds, holds-met}
 use Rattle.consistency.proofs.SameVerdict.{verdict-same}
 use Rattle.store.specs.Calls.{callsOf}
 use Rattle.store.specs.Recorded.{recorded, storeRecord}
@@ -23,10 +22,10 @@ use Rattle.store.proofs.Sizes.{calls-fit}
 use Rattle.store.proofs.StoreIsCausal.{store-well-formed, store-causal-visibility, store-causal-arbitration, store-r-val}
 
 -- what a history of well-formed events has, its record has
-met-in-record : (n : ℕ) (h : History) → WellFormed gcr1 n h → (p : Predicate) → Holds p h → verdict p (historyOf gcr1 (recordBytes gcr1 n h)) ≡ Met
-met-in-record n h good p holds =
-    sym (verdict-same h (historyOf gcr1 (recordBytes gcr1 n h)) (gcr1-encoded n h good .agrees) p)
-    ∙ holds-met p h (good .distinct) holds
+holds-in-record : (n : ℕ) (h : History) → WellFormed gcr1 n h → (p : Predicate) → Holds p h → Holds p (historyOf gcr1 (recordBytes gcr1 n h))
+holds-in-record n h good p holds =
+    let r : History = historyOf gcr1 (recordBytes gcr1 n h) in
+    met-holds p r (sym (verdict-same h r (gcr1-encoded n h good .agrees) p) ∙ holds-met p h (good .distinct) holds)
 
 pub script-formed : (n : ℕ) → 1 ≤ n → n ≤ 8 → (script : List ℕ) → Bytes script → WellFormed gcr1 n (recorded (storeAfter n script))
 unfolding storeAfter
@@ -38,8 +37,8 @@ third-demand n least most script bytes =
     let h : History = recorded (storeAfter n script) in
     let good : WellFormed gcr1 n h = script-formed n least most script bytes in
     record {
-      passes = gcr1-encoded n h good .passes;
-      visibility = met-in-record n h good CausalVisibility (store-causal-visibility n most (callsOf script));
-      arbitration = met-in-record n h good CausalArbitration (store-causal-arbitration n most (callsOf script));
-      rVal = met-in-record n h good RVal (store-r-val n most (callsOf script));
+      passes = passed-right gcr1 (recordBytes gcr1 n h) (gcr1-encoded n h good .passes);
+      visibility = holds-in-record n h good CausalVisibility (store-causal-visibility n most (callsOf script));
+      arbitration = holds-in-record n h good CausalArbitration (store-causal-arbitration n most (callsOf script));
+      rVal = holds-in-record n h good RVal (store-r-val n most (callsOf script));
     }

@@ -1,34 +1,30 @@
 -- The whole list of calls, as a loop over a script goes through it: by what is left, and counted up from the first call. Assumes nothing.
 use mathlib.Core.Path.{_≡_, refl, sym, ap, _∙_}
-use mathlib.Core.Bool.{Bool, true, false, cond}
+use mathlib.Core.Bool.{Bool, true, false, cond, _&&_}
 use mathlib.Core.List.{List, [], _∷_, _++_, append-assoc, append-nil}
 use Prim.Native.Nat.{ℕ, zero, suc, _+_, _*_, _/_, _≤_}
 use native.Mathlib.Omega.{arith}
 use lib.Dec.{eqb}
 use lib.ListN.{length, length-append, replicate, length-replicate}
-use Rattle.record.proofs.StoresLaws.{Bytes}
-use Rattle.record.proofs.NumberBytes.{length-little}
+use Rattle.record.specs.Encode.{bit}
+use Rattle.record.proofs.NumberBytes.{bit-le, length-little}
 use Rattle.store.specs.Store.{Store, fresh}
 use Rattle.store.specs.Calls.{Call, put, get, deliver, malformed, callAt, callsFrom, callsOf}
-use Rattle.store.specs.Rules.{refusal, step, run, doneAnswer, answer, answers}
+use Rattle.store.specs.Rules.{refusal, afterCall, run, isDelivery, deliveries, doneAnswer, answer, answers}
 use Rattle.store.specs.Rehearsal.{storeAfter}
 use Rattle.store.proofs.Invariant.{StoreInv}
 use Rattle.store.proofs.RunKeeps.{every-run}
-use Rattle.store.proofs.Sizes.{Limits, every-limits, Sizes, every-sizes, Values, every-values, calls-from-fit}
+use Rattle.store.proofs.Sizes.{Limits, every-limits, Sizes, every-sizes}
 
 -- ---- what is left
 
-pub calls-left : (k : ℕ) (s : List ℕ) (at : ℕ) → callsFrom (suc k) s at ≡ callAt s at ∷ callsFrom k s (at + 8)
-unfolding callsFrom
-calls-left k s at = refl
-
 pub run-left : (n : ℕ) (st : Store) (k : ℕ) (s : List ℕ) (at : ℕ)
-    → run n st (callsFrom (suc k) s at) ≡ run n (step n st (callAt s at)) (callsFrom k s (at + 8))
+    → run n st (callsFrom (suc k) s at) ≡ run n (afterCall n st (callAt s at)) (callsFrom k s (at + 8))
 unfolding run callsFrom
 run-left n st k s at = refl
 
 pub answers-left : (n : ℕ) (st : Store) (k : ℕ) (s : List ℕ) (at : ℕ)
-    → answers n st (callsFrom (suc k) s at) ≡ answer n st (callAt s at) ++ answers n (step n st (callAt s at)) (callsFrom k s (at + 8))
+    → answers n st (callsFrom (suc k) s at) ≡ answer n st (callAt s at) ++ answers n (afterCall n st (callAt s at)) (callsFrom k s (at + 8))
 unfolding answers callsFrom
 answers-left n st k s at = refl
 
@@ -40,22 +36,39 @@ pub no-answers-left : (n : ℕ) (st : Store) (s : List ℕ) (at : ℕ) → answe
 unfolding answers callsFrom
 no-answers-left n st s at = refl
 
+-- a call that is a done delivery counts 1, any other 0
+abbrev pub delivered : ℕ → Store → Call → ℕ
+delivered n st c = bit (isDelivery c && eqb (refusal n st c) 0)
+
+pub deliveries-left : (n : ℕ) (st : Store) (k : ℕ) (s : List ℕ) (at : ℕ)
+    → deliveries n st (callsFrom (suc k) s at) ≡ delivered n st (callAt s at) + deliveries n (afterCall n st (callAt s at)) (callsFrom k s (at + 8))
+unfolding deliveries callsFrom
+deliveries-left n st k s at = refl
+
+pub no-deliveries-left : (n : ℕ) (st : Store) (s : List ℕ) (at : ℕ) → deliveries n st (callsFrom zero s at) ≡ 0
+unfolding deliveries callsFrom
+no-deliveries-left n st s at = refl
+
 -- ---- counted up
 
--- the store after the first k calls of a script, and their answers
+-- the store after the first k calls of a script, their answers, and how many of them were done deliveries
 unfoldable pub storeUpTo : ℕ → ℕ → List ℕ → Store
 storeUpTo zero n s = fresh
-storeUpTo (suc k) n s = step n (storeUpTo k n s) (callAt s (8 * k))
+storeUpTo (suc k) n s = afterCall n (storeUpTo k n s) (callAt s (8 * k))
 
 unfoldable pub answersUpTo : ℕ → ℕ → List ℕ → List ℕ
 answersUpTo zero n s = []
 answersUpTo (suc k) n s = answersUpTo k n s ++ answer n (storeUpTo k n s) (callAt s (8 * k))
 
+unfoldable pub deliveriesUpTo : ℕ → ℕ → List ℕ → ℕ
+deliveriesUpTo zero n s = 0
+deliveriesUpTo (suc k) n s = deliveriesUpTo k n s + delivered n (storeUpTo k n s) (callAt s (8 * k))
+
 pub store-none : (n : ℕ) (s : List ℕ) → storeUpTo 0 n s ≡ fresh
 unfolding storeUpTo
 store-none n s = refl
 
-pub store-more : (k n : ℕ) (s : List ℕ) → storeUpTo (suc k) n s ≡ step n (storeUpTo k n s) (callAt s (8 * k))
+pub store-more : (k n : ℕ) (s : List ℕ) → storeUpTo (suc k) n s ≡ afterCall n (storeUpTo k n s) (callAt s (8 * k))
 unfolding storeUpTo
 store-more k n s = refl
 
@@ -67,12 +80,26 @@ pub answers-more : (k n : ℕ) (s : List ℕ) → answersUpTo (suc k) n s ≡ an
 unfolding answersUpTo
 answers-more k n s = refl
 
+pub deliveries-none : (n : ℕ) (s : List ℕ) → deliveriesUpTo 0 n s ≡ 0
+unfolding deliveriesUpTo
+deliveries-none n s = refl
+
+pub deliveries-more : (k n : ℕ) (s : List ℕ) → deliveriesUpTo (suc k) n s ≡ deliveriesUpTo k n s + delivered n (storeUpTo k n s) (callAt s (8 * k))
+unfolding deliveriesUpTo
+deliveries-more k n s = refl
+
+pub deliveries-most : (k n : ℕ) (s : List ℕ) → deliveriesUpTo k n s ≤ k
+unfolding deliveriesUpTo
+deliveries-most zero n s = omega arith
+deliveries-most (suc k) n s =
+    omega (arith, deliveries-most k n s, bit-le (isDelivery (callAt s (8 * k)) && eqb (refusal n (storeUpTo k n s) (callAt s (8 * k))) 0))
+
 -- after k calls, j more make what k + j make
 run-on : (j k n : ℕ) (s : List ℕ) → run n (storeUpTo k n s) (callsFrom j s (8 * k)) ≡ storeUpTo (k + j) n s
 run-on zero k n s = none-left n (storeUpTo k n s) s (8 * k) ∙ ap (λ (i : ℕ). storeUpTo i n s) (omega arith)
 run-on (suc j) k n s =
     run-left n (storeUpTo k n s) j s (8 * k)
-    ∙ ap (λ (i : ℕ). run n (step n (storeUpTo k n s) (callAt s (8 * k))) (callsFrom j s i)) (omega arith)
+    ∙ ap (λ (i : ℕ). run n (afterCall n (storeUpTo k n s) (callAt s (8 * k))) (callsFrom j s i)) (omega arith)
     ∙ ap (λ (st : Store). run n st (callsFrom j s (8 * suc k))) (sym (store-more k n s))
     ∙ run-on j (suc k) n s
     ∙ ap (λ (i : ℕ). storeUpTo i n s) (omega arith)
@@ -87,12 +114,30 @@ answers-on (suc j) k n s =
     let now : Store = storeUpTo k n s in
     let c : Call = callAt s (8 * k) in
     ap (λ (l : List ℕ). done ++ l) (answers-left n now j s (8 * k))
-    ∙ sym (append-assoc done (answer n now c) (answers n (step n now c) (callsFrom j s (8 * k + 8))))
-    ∙ ap (λ (i : ℕ). (done ++ answer n now c) ++ answers n (step n now c) (callsFrom j s i)) (omega arith)
+    ∙ sym (append-assoc done (answer n now c) (answers n (afterCall n now c) (callsFrom j s (8 * k + 8))))
+    ∙ ap (λ (i : ℕ). (done ++ answer n now c) ++ answers n (afterCall n now c) (callsFrom j s i)) (omega arith)
     ∙ ap (λ (st : Store). (done ++ answer n now c) ++ answers n st (callsFrom j s (8 * suc k))) (sym (store-more k n s))
     ∙ ap (λ (l : List ℕ). l ++ answers n (storeUpTo (suc k) n s) (callsFrom j s (8 * suc k))) (sym (answers-more k n s))
     ∙ answers-on j (suc k) n s
     ∙ ap (λ (i : ℕ). answersUpTo i n s) (omega arith)
+
+deliveries-on : (j k n : ℕ) (s : List ℕ) → deliveriesUpTo k n s + deliveries n (storeUpTo k n s) (callsFrom j s (8 * k)) ≡ deliveriesUpTo (k + j) n s
+deliveries-on zero k n s =
+    let same : k ≡ k + 0 = omega arith in
+    omega (arith, no-deliveries-left n (storeUpTo k n s) s (8 * k), ap (λ (i : ℕ). deliveriesUpTo i n s) same)
+deliveries-on (suc j) k n s =
+    let now : Store = storeUpTo k n s in
+    let next : 8 * k + 8 ≡ 8 * suc k = omega arith in
+    let same : suc k + j ≡ k + suc j = omega arith in
+    let left : deliveries n (afterCall n now (callAt s (8 * k))) (callsFrom j s (8 * k + 8)) ≡ deliveries n (storeUpTo (suc k) n s) (callsFrom j s (8 * suc k)) =
+    rw (store-more k n s, next) refl in omega (
+      arith,
+      deliveries-left n now j s (8 * k),
+      left,
+      deliveries-more k n s,
+      deliveries-on j (suc k) n s,
+      ap (λ (i : ℕ). deliveriesUpTo i n s) same,
+    )
 
 -- the first k calls are a list of calls, so what every list has, they have
 pub store-up-to : (k n : ℕ) (s : List ℕ) → storeUpTo k n s ≡ run n fresh (callsFrom k s 0)
@@ -103,6 +148,10 @@ pub answers-up-to : (k n : ℕ) (s : List ℕ) → answersUpTo k n s ≡ answers
 unfolding storeUpTo answersUpTo
 answers-up-to k n s = let z : k ≡ 0 + k = omega arith in ap (λ (i : ℕ). answersUpTo i n s) z ∙ sym (answers-on k 0 n s)
 
+pub deliveries-up-to : (k n : ℕ) (s : List ℕ) → deliveriesUpTo k n s ≡ deliveries n fresh (callsFrom k s 0)
+unfolding storeUpTo deliveriesUpTo
+deliveries-up-to k n s = let z : k ≡ 0 + k = omega arith in omega (arith, ap (λ (i : ℕ). deliveriesUpTo i n s) z, deliveries-on k 0 n s)
+
 pub up-to-keeps : (k n : ℕ) → n ≤ 8 → (s : List ℕ) → StoreInv n (storeUpTo k n s .event) (storeUpTo k n s)
 up-to-keeps k n n≤8 s = rw store-up-to (every-run n n≤8 (callsFrom k s 0))
 
@@ -112,9 +161,6 @@ up-to-limits k n s = rw store-up-to (every-limits n (callsFrom k s 0))
 pub up-to-sizes : (k n : ℕ) → n ≤ 8 → (s : List ℕ) → Sizes (storeUpTo k n s)
 up-to-sizes k n n≤8 s = rw store-up-to (every-sizes n n≤8 (callsFrom k s 0))
 
-pub up-to-values : (k n : ℕ) → n ≤ 8 → (s : List ℕ) → Bytes s → Values (storeUpTo k n s)
-up-to-values k n n≤8 s bytes = rw store-up-to (every-values n n≤8 (callsFrom k s 0) (calls-from-fit s bytes k 0))
-
 -- and all of them are the script's
 pub store-whole : (n : ℕ) (s : List ℕ) → storeUpTo (length s / 8) n s ≡ storeAfter n s
 unfolding storeAfter callsOf
@@ -123,6 +169,10 @@ store-whole n s = store-up-to (length s / 8) n s
 pub answers-whole : (n : ℕ) (s : List ℕ) → answersUpTo (length s / 8) n s ≡ answers n fresh (callsOf s)
 unfolding callsOf
 answers-whole n s = answers-up-to (length s / 8) n s
+
+pub deliveries-whole : (n : ℕ) (s : List ℕ) → deliveriesUpTo (length s / 8) n s ≡ deliveries n fresh (callsOf s)
+unfolding callsOf
+deliveries-whole n s = deliveries-up-to (length s / 8) n s
 
 -- ---- lengths
 
@@ -146,8 +196,8 @@ pub answers-length : (n : ℕ) (st : Store) (cs : List Call) → length (answers
 unfolding answers
 answers-length n st [] = refl
 answers-length n st (c ∷ cs) =
-    length-append (answer n st c) (answers n (step n st c) cs)
-    ∙ omega (arith, answer-length n st c, answers-length n (step n st c) cs)
+    length-append (answer n st c) (answers n (afterCall n st c) cs)
+    ∙ omega (arith, answer-length n st c, answers-length n (afterCall n st c) cs)
 
 pub calls-length : (k : ℕ) (s : List ℕ) (at : ℕ) → length (callsFrom k s at) ≡ k
 unfolding callsFrom

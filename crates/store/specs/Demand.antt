@@ -4,20 +4,18 @@ use mathlib.Core.List.{List}
 use Prim.Native.Nat.{ℕ, _≤_}
 use Rattle.record.specs.Layout.{gcr1}
 use Rattle.record.specs.History.{historyOf}
-use Rattle.record.specs.Questions.{questions}
-use Rattle.record.specs.declared.Reading.the-variants.{Passed}
-use Rattle.consistency.specs.Predicates.{verdict}
-use Rattle.consistency.specs.declared.Verdict.the-variants.{Met}
+use Rattle.record.specs.Answers.{Passes}
+use Rattle.consistency.specs.Holds.{Holds}
 use Rattle.consistency.specs.declared.Predicate.the-variants.{RVal, CausalVisibility, CausalArbitration}
 use Rattle.store.specs.Rehearsal.{rehearsalRefusal, recordOf, recordAfter, answersAfter, lengthAfter, mostCopies}
 use Rattle.store.specs.declared.Rehearsed.{Rehearsed}
 
--- a record passes every check, and is causal: predicates 10, 11 and 1 are met
+-- a record passes every check, and is causal: predicates 10, 11 and 1 hold of it
 pub record CausalRecord (s : List ℕ) : Type 0 where
-  pub passes : questions gcr1 s ≡ Passed
-  pub visibility : verdict CausalVisibility (historyOf gcr1 s) ≡ Met
-  pub arbitration : verdict CausalArbitration (historyOf gcr1 s) ≡ Met
-  pub rVal : verdict RVal (historyOf gcr1 s) ≡ Met
+  pub passes : Passes gcr1 s
+  pub visibility : Holds CausalVisibility (historyOf gcr1 s)
+  pub arbitration : Holds CausalArbitration (historyOf gcr1 s)
+  pub rVal : Holds RVal (historyOf gcr1 s)
 
 -- n sites, a script, and the record and answer buffers, as lent and as left
 pub record Rehearses (n : ℕ) (script rec ans rec′ ans′ : List ℕ) (r : Rehearsed) : Type 0 where

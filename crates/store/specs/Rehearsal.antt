@@ -1,14 +1,15 @@
 -- A rehearsal: 20 to 23, then the whole list of calls from fresh sites; its number, record and answers.
-use mathlib.Core.Bool.{Bool, cond, _&&_}
+use mathlib.Core.Bool.{cond, _&&_}
 use mathlib.Core.List.{List, _++_}
 use Prim.Native.Nat.{ℕ, zero, suc, _+_, _*_, _-_, _%_}
 use lib.Dec.{eqb, leb}
 use lib.ListN.{length, drop}
-use Rattle.record.specs.Layout.{Layout, gcr1}
+use Rattle.record.specs.Layout.{gcr1}
 use Rattle.record.specs.Encode.{bit}
 use Rattle.store.specs.Store.{Event, Store, fresh}
-use Rattle.store.specs.Calls.{Call, callsOf}
-use Rattle.store.specs.Rules.{ask, run, answers}
+use Rattle.store.specs.Calls.{callsOf}
+use Rattle.record.specs.Questions.{ask}
+use Rattle.store.specs.Rules.{run, answers}
 use Rattle.store.specs.Recorded.{storeRecord}
 
 -- 20 sites, 21 script, 22 record buffer, 23 answer buffer; 0 where all are right

@@ -1,18 +1,14 @@
 -- The store's rules: what refuses a call, what a call does that is not refused, and its answer; then a whole list of calls.
 use mathlib.Core.Bool.{Bool, true, false, not, cond, _&&_, _||_}
 use mathlib.Core.List.{List, [], _∷_, _++_}
-use Prim.Native.Nat.{ℕ, zero, suc, max}
+use Prim.Native.Nat.{ℕ, zero, suc, _+_, max}
 use lib.Dec.{leb, ltb, eqb}
 use lib.ListN.{replicate}
-use Rattle.record.specs.Encode.{littleBytes}
+use Rattle.record.specs.Questions.{ask}
+use Rattle.record.specs.Encode.{bit, littleBytes}
 use Rattle.consistency.specs.Reads.{Held, none, value}
-use Rattle.store.specs.Store.{upd, Cell, full, cellValue, merge, Site, Event, Store}
+use Rattle.store.specs.Store.{upd, full, cellValue, merge, Site, Event, Store}
 use Rattle.store.specs.Calls.{Call, put, get, deliver, malformed}
-
--- a question: its number where the answer is no
-abbrev pub ask : Bool → ℕ → ℕ → ℕ
-ask true number next = next
-ask false number next = number
 
 -- the first k counts reach the needs
 unfoldable pub reached : ℕ → (ℕ → ℕ) → (ℕ → ℕ) → Bool
@@ -88,12 +84,24 @@ effect st (deliver w t) = record {
 effect st malformed = st
 
 -- a refused call changes nothing
-unfoldable pub step : ℕ → Store → Call → Store
-step n st c = cond (eqb (refusal n st c) 0) (effect st c) st
+unfoldable pub afterCall : ℕ → Store → Call → Store
+afterCall n st c = cond (eqb (refusal n st c) 0) (effect st c) st
 
 unfoldable pub run : ℕ → Store → List Call → Store
 run n st [] = st
-run n st (c ∷ cs) = run n (step n st c) cs
+run n st (c ∷ cs) = run n (afterCall n st c) cs
+
+-- a call of kind 3
+abbrev pub isDelivery : Call → Bool
+isDelivery (put s o v) = false
+isDelivery (get s o) = false
+isDelivery (deliver w t) = true
+isDelivery malformed = false
+
+-- done deliveries: the calls of kind 3 that no question refused
+unfoldable pub deliveries : ℕ → Store → List Call → ℕ
+deliveries n st [] = 0
+deliveries n st (c ∷ cs) = bit (isDelivery c && eqb (refusal n st c) 0) + deliveries n (afterCall n st c) cs
 
 -- ---- answers
 
@@ -114,4 +122,4 @@ answer n st c = cond (eqb (refusal n st c) 0) (doneAnswer st c) (refusal n st c 
 
 unfoldable pub answers : ℕ → Store → List Call → List ℕ
 answers n st [] = []
-answers n st (c ∷ cs) = answer n st c ++ answers n (step n st c) cs
+answers n st (c ∷ cs) = answer n st c ++ answers n (afterCall n st c) cs

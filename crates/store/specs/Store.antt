@@ -1,5 +1,5 @@
 -- 'The store': what a site keeps, and what is kept of an event. Arrays are functions of a number.
-use mathlib.Core.Bool.{Bool, true, false, cond, _&&_, _||_}
+use mathlib.Core.Bool.{Bool, false, cond, _&&_, _||_}
 use Prim.Native.Nat.{ℕ}
 use lib.Dec.{eqb, ltb}
 use Rattle.consistency.specs.Reads.{Held, none, value}

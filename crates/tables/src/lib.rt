@@ -1,6 +1,4 @@
-// Relations between events as tables of bit rows: row b has the events related to b.
+// Relations between events as tables of bit rows: row b has the events related to b. And rows of events by object and by kind.
 pub mod arbitration;
-pub mod happens_before;
-pub mod keys;
-pub mod kinds;
+pub mod groups;
 pub mod sweep;

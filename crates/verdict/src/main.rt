@@ -3,23 +3,23 @@
 use libc::STDIN_FILENO;
 use libc::STDOUT_FILENO;
 
-// The line of one predicate, from its verdict's number.
-fn write_verdict(predicate: usize, verdict: u64) {
+// The line of one predicate, from its judgment's number.
+fn write_judgment(predicate: usize, judgment: u64) {
     lines::number(predicate);
-    if verdict == 0 {
+    if judgment == 0 {
         io::write_all(STDOUT_FILENO, b" met\n");
         return;
     }
     io::write_all(STDOUT_FILENO, b" broken ");
-    io::print_decimal(STDOUT_FILENO, verdict / 1024 % 1024);
+    io::print_decimal(STDOUT_FILENO, judgment / 1024 % 1024);
     io::write_all(STDOUT_FILENO, b" ");
-    io::print_decimal(STDOUT_FILENO, verdict % 1024);
+    io::print_decimal(STDOUT_FILENO, judgment % 1024);
     io::write_all(STDOUT_FILENO, b"\n");
 }
 
-fn write_verdicts(verdicts: [u64; 13]) {
+fn write_judgments(judgments: [u64; 13]) {
     for k in 0..13 {
-        write_verdict(k + 1, verdicts[k]);
+        write_judgment(k + 1, judgments[k]);
     }
 }
 
@@ -34,6 +34,6 @@ fn main() {
         lines::reading(reading);
         return;
     }
-    let verdicts = all.verdicts;
-    write_verdicts(verdicts);
+    let judgments = all.judgments;
+    write_judgments(judgments);
 }

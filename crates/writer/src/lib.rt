@@ -4,7 +4,7 @@ use record::Slot;
 use record::layout;
 ghost use mathlib.Core.Path.{_≡_};
 ghost use mathlib.Core.List.{_∷_, _++_};
-ghost use Prim.Native.Nat.{_+_, _*_, _/_, _≤_, _<_};
+ghost use Prim.Native.Nat.{_+_, _*_, _≤_, _<_};
 ghost use lib.ListN.{length, drop, replicate};
 ghost use lib.Seq.{sets};
 ghost use Rattle.rows.specs.Row.{has};
@@ -12,28 +12,28 @@ ghost use Rattle.record.specs.Layout.{gcr1, slotAt};
 ghost use Rattle.record.specs.History.{History};
 ghost use Rattle.record.specs.Encode.{littleBytes, bit, setBytes, slotBytes, headerBytes, sealed, SlotOf};
 
-pub fn put_u16(s: &mut [u8], at: usize, x: u16)
+fn put_u16(s: &mut [u8], at: usize, x: u16)
     requires { ⌜ at + 2 ≤ length (now s) ⌝ }
     ensures { λ _. ⌜ now (s .exit) ≡ sets (now (s .entry)) at (littleBytes 2 x) ⌝ }
 {
-    s[at] = (x % 256) as u8;
-    s[at + 1] = (x / 256) as u8;
+    s[at] = (x & 0xff) as u8;
+    s[at + 1] = (x >> 8) as u8;
 }
 
-pub fn put_u32(s: &mut [u8], at: usize, x: u32)
+fn put_u32(s: &mut [u8], at: usize, x: u32)
     requires { ⌜ at + 4 ≤ length (now s) ⌝ }
     ensures { λ _. ⌜ now (s .exit) ≡ sets (now (s .entry)) at (littleBytes 4 x) ⌝ }
 {
-    put_u16(s, at, (x % 0x1_0000) as u16);
-    put_u16(s, at + 2, (x / 0x1_0000) as u16);
+    put_u16(s, at, (x & 0xffff) as u16);
+    put_u16(s, at + 2, (x >> 16) as u16);
 }
 
-pub fn put_u64(s: &mut [u8], at: usize, x: u64)
+fn put_u64(s: &mut [u8], at: usize, x: u64)
     requires { ⌜ at + 8 ≤ length (now s) ⌝ }
     ensures { λ _. ⌜ now (s .exit) ≡ sets (now (s .entry)) at (littleBytes 8 x) ⌝ }
 {
-    put_u32(s, at, (x % 0x1_0000_0000) as u32);
-    put_u32(s, at + 4, (x / 0x1_0000_0000) as u32);
+    put_u32(s, at, (x & 0xffff_ffff) as u32);
+    put_u32(s, at + 4, (x >> 32) as u32);
 }
 
 // The first k bytes become zero.

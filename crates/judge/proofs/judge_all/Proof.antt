@@ -1,18 +1,21 @@
--- `judge::judge_all` meets its contract: the reader's answer, and verdicts of words that have the events of the record's bytes. Assumes nothing.
-use mathlib.Core.Path.{_≡_, sym, ap, _∙_}
+-- `judge::judge_all` meets its contract: the reader's answer, and judgments of words that have the events of the record's bytes. Assumes nothing.
+use mathlib.Core.Path.{_≡_, sym, ap, _∙_, subst}
 use mathlib.Core.List.{List}
-use Prim.Native.Nat.{ℕ}
+use Prim.Native.Nat.{ℕ, _<_}
 use native.Mathlib.Omega.{arith}
 use borrow.Author.Needs.{needs}
 use lib.ListN.{length, take, replicate}
 use Rattle.record.specs.Layout.{gcr1}
 use Rattle.record.specs.History.{historyOf}
-use Rattle.record.specs.Questions.{numberOf, questions}
+use Rattle.record.specs.Questions.{numberOf, placeOf, questions}
 use Rattle.record.specs.Words.{visibleWords, historyFrom}
+use Rattle.record.specs.declared.Reading.{Reading}
 use Rattle.record.specs.declared.Reading.the-variants.{Passed}
 use Rattle.record.proofs.StoresLaws.{Bytes}
+use Rattle.record.proofs.QuestionsAnswered.{place-small}
+use Rattle.judge.specs.declared.Judgment.the-variants.{Refused}
 use Rattle.judge.proofs.RecordLaws.{Told, reading-passed, passed-long, count-small, blocks-long, work-visible, words-told}
-use Rattle.judge.proofs.JudgmentLaws.{packed-same, verdicts-refused, verdicts-judged}
+use Rattle.judge.proofs.JudgmentLaws.{packed-same, judgments-refused, judgments-judged, fitting-small}
 use Rattle.judge.proofs.judge_all.Statement.{statement}
 use Rattle.judge.proofs.judge_all.Tie as tie
 
@@ -61,27 +64,48 @@ told c =
     let n = e .before in
     words-told (bytes n) (passed e) (range n) (k .count .result) (k .count .ensures) (replicate 1024 0) (words c) (sets n) (c .load .ensures) (visible e)
 
+-- src/lib.rt:104:9
 read-requires : tie.Need-read-requires
 read-requires c κs = search needs
 
+-- src/lib.rt:105:8
 number-requires : tie.Need-number-requires
 number-requires c κs = search needs
 
+-- src/lib.rt:106:13
+pack-requires : tie.Need-pack-requires
+pack-requires c κs =
+    let n = c .before in
+    let a = reader n .read in
+    fitting-small (Refused (a .result)) (subst (λ (r : Reading). placeOf r < 1024) (sym (a .ensures .0)) (place-small (length (start n .args .work .now)) (bytes n)))
+
+-- src/lib.rt:107:9
 same-length : tie.Need-same-length
 same-length c = search needs
 
+-- src/lib.rt:107:9
 returns : tie.Need-returns
 returns c =
-    let n = c .before in
-    let a = reader n .read in
-    (a .ensures .0, (verdicts-refused (a .result) (bytes n) (λ z. c .if1 .taken (n .number .ensures ∙ z)), a .ensures .1))
+    let t = c .before in
+    let n = t .before in
+    let a = reader n .read in (
+      a .ensures .0,
+      (
+        ap (replicate 13) (c .pack .ensures)
+            ∙ judgments-refused (length (start n .args .work .now)) (bytes n) (a .result) (a .ensures .0) (λ z. t .if1 .taken (n .number .ensures ∙ z)) 13 (omega arith),
+        a .ensures .1,
+      ),
+    )
 
+-- src/lib.rt:112:9
 count-requires : tie.Need-count-requires
 count-requires c κs = passed-long (bytes (c .before)) (passed c)
 
+-- src/lib.rt:114:37
 slice-aggregate-load : tie.Need-slice-aggregate-load
 slice-aggregate-load c = search needs
 
+-- src/lib.rt:114:5
 load-requires : tie.Need-load-requires
 load-requires c κs =
     let k = c .before in
@@ -89,15 +113,19 @@ load-requires c κs =
     let n = e .before in
     (blocks-long (bytes n) (passed e) (k .count .result) (k .count .ensures), (omega arith, omega (arith, count-small (bytes n) (passed e) (k .count .result) (k .count .ensures))))
 
+-- src/lib.rt:115:40
 slice-aggregate-verdicts : tie.Need-slice-aggregate-verdicts
 slice-aggregate-verdicts c = search needs
 
+-- src/lib.rt:115:9
 verdicts-requires : tie.Need-verdicts-requires
 verdicts-requires c κs = told (c .before .before .before) .given
 
+-- src/lib.rt:99:1
 same-length-2 : tie.Need-same-length-2
 same-length-2 c = search needs
 
+-- src/lib.rt:99:1
 returns-2 : tie.Need-returns-2
 returns-2 c =
     let l = c .before .before .before .before in
@@ -107,8 +135,8 @@ returns-2 c =
     let a = reader n .read in (
       a .ensures .0,
       (
-        verdicts-judged (a .result) (bytes n) (c .verdicts .result) (none e)
-            (c .verdicts .ensures ∙ sym (packed-same (historyOf gcr1 (bytes n)) (historyFrom (k .count .result) 4 (words l) (sets n)) (told l .agree) 13)),
+        c .verdicts .ensures ∙ sym (packed-same (historyOf gcr1 (bytes n)) (historyFrom (k .count .result) 4 (words l) (sets n)) (told l .agree) 13)
+            ∙ judgments-judged (length (start n .args .work .now)) (bytes n) (a .result) (a .ensures .0) (none e) 13 (omega arith),
         a .ensures .1,
       ),
     )
@@ -119,6 +147,7 @@ judge-all-spec =
     (tie.spec
     read-requires
     number-requires
+    pack-requires
     same-length
     returns
     count-requires

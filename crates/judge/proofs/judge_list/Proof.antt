@@ -7,7 +7,8 @@ use Rattle.record.specs.Layout.{gcr1}
 use Rattle.record.specs.Questions.{numberOf, questions}
 use Rattle.record.specs.declared.Reading.the-variants.{Passed}
 use Rattle.judge.specs.Lists.{upToZero}
-use Rattle.judge.proofs.RecordLaws.{number-passed, work-visible}
+use Rattle.record.proofs.QuestionsAnswered.{number-passed}
+use Rattle.judge.proofs.RecordLaws.{work-visible}
 use Rattle.judge.proofs.JudgmentLaws.{list-refused, list-judged}
 use Rattle.judge.proofs.judge_list.Statement.{statement}
 use Rattle.judge.proofs.judge_list.Tie as tie

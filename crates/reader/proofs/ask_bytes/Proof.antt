@@ -74,10 +74,10 @@ to-positions c =
 
 -- the event that the search for a wrong position answered
 event : (c : tie.After-wrong-position)
-    → c .wrong-position .result ≡ lowest (countIn (bytes5 (c .before .before))) (wrongPosition (historyOf gcr1 (bytes5 (c .before .before))))
+    → c .wrong-position .result ≡ lowest (countIn (bytes5 (c .before))) (wrongPosition (historyOf gcr1 (bytes5 (c .before))))
 event c =
-    let e = c .before .before in
-    subst (λ n. c .wrong-position .result ≡ lowest n (wrongPosition (historyOf gcr1 (bytes5 e)))) (e .before .before .before .count .ensures) (c .wrong-position .ensures .0)
+    let e = c .before in
+    subst (λ n. c .wrong-position .result ≡ lowest n (wrongPosition (historyOf gcr1 (bytes5 e)))) (e .before .before .before .count .ensures) (c .wrong-position .ensures)
 
 length-holds-requires : tie.Need-length-holds-requires
 length-holds-requires c κs = search needs
@@ -134,24 +134,21 @@ returns-5 c =
     let w = c .before .wrong-slot in
     sym (to-slots e ∙ each-found (slotsIn gcr1 (bytes4 e)) (λ k. not (slotRight gcr1 (bytes4 e) k)) WrongSlot (fromPositions gcr1 (bytes4 e) Passed) (w .result) (w .ensures) (c .if5 .taken))
 
-slice-aggregate-wrong-position : tie.Need-slice-aggregate-wrong-position
-slice-aggregate-wrong-position c = search needs
-
 wrong-position-requires : tie.Need-wrong-position-requires
 wrong-position-requires c κs =
-    let n = c .before .before .before .before in
-    (n .count .ensures, (omega (arith, c .before .before .before .if4 .left), few n))
+    let n = c .before .before .before in
+    (n .count .ensures, (omega (arith, c .before .before .if4 .left), omega (arith, few n)))
 
 returns-6 : tie.Need-returns-6
 returns-6 c =
-    let w = c .before .before in
-    let e = w .before .before in
+    let w = c .before in
+    let e = w .before in
     sym (to-positions e ∙ each-found (countIn (bytes5 e)) (wrongPosition (historyOf gcr1 (bytes5 e))) WrongPosition Passed (w .wrong-position .result) (event w) (omega (arith, e .before .before .before .count .ensures, c .if6 .taken)))
 
 returns-7 : tie.Need-returns-7
 returns-7 c =
-    let w = c .before .before in
-    let e = w .before .before in
+    let w = c .before in
+    let e = w .before in
     sym (to-positions e ∙ each-past (countIn (bytes5 e)) (wrongPosition (historyOf gcr1 (bytes5 e))) WrongPosition Passed (w .wrong-position .result) (event w) (omega (arith, e .before .before .before .count .ensures, c .if6 .left)))
 
 pub ask-bytes-spec : {M : Type 1} → statement M
@@ -172,7 +169,6 @@ ask-bytes-spec =
     sub-if5
     mul-if5
     returns-5
-    slice-aggregate-wrong-position
     wrong-position-requires
     returns-6
     returns-7)

@@ -1,9 +1,8 @@
 -- `rehearsal::accepted` meets its contract: the answers of the run, and the record of the store that the run stands for. Assumes nothing.
 use native.Mathlib.Omega.{arith}
 use borrow.Author.Needs.{needs}
-use Rattle.rehearsal.specs.Arrays.{Bounded}
-use Rattle.store.specs.Rehearsal.{storeAfter}
-use Rattle.rehearsal.proofs.RehearsalLaws.{Accepted, accepted, store-distinct, run-bounded, accepted-rehearses}
+use Rattle.rehearsal.specs.Arrays.{ranStore, Bounded, DistinctStamps}
+use Rattle.rehearsal.proofs.RehearsalLaws.{Accepted, accepted, run-bounded, run-distinct, accepted-rehearses}
 use Rattle.rehearsal.proofs.accepted.Statement.{statement}
 use Rattle.rehearsal.proofs.accepted.Tie as tie
 
@@ -15,9 +14,10 @@ abbrev entry : tie.After-run → tie.Start
 entry c = c .before .before .before .before .before
 
 small : (c : tie.After-run) → Bounded (c .run .result .count) (c .run .result .events)
-small c =
-    let g = entry c .args in
-    run-bounded (g .sites) (right (entry c) .most) (g .script .now) (c .run .result .count) (c .run .result .events) (c .run .result .sees) (c .run .ensures .1)
+small c = let g = entry c .args in run-bounded (g .sites) (right (entry c) .most) (g .script .now) (c .run .result) (c .run .ensures .1)
+
+distinct : (c : tie.After-run) → DistinctStamps (ranStore (c .run .result))
+distinct c = let g = entry c .args in run-distinct (g .sites) (right (entry c) .most) (g .script .now) (c .run .result) (c .run .ensures .1)
 
 run-requires : tie.Need-run-requires
 run-requires c κs =
@@ -30,7 +30,7 @@ cast-write c = omega (arith, right (entry (c .before .before)) .most)
 write-requires : tie.Need-write-requires
 write-requires c κs =
     let run = c .before .before .before in
-    (small run, right (entry run) .room)
+    (small run, (distinct run, right (entry run) .room))
 
 outstanding-requires : tie.Need-outstanding-requires
 outstanding-requires c κs =
@@ -49,12 +49,9 @@ returns c =
     let write = c .before .before .before in
     let run = write .before .before .before .before in
     let g = entry run .args in
-    let r = run .run .result in
-    let stands = run .run .ensures .1 in
-    let st = storeAfter (g .sites) (g .script .now) in
     accepted-rehearses (g .sites) (g .script .now) (g .rec .now) (g .answers .now) (entry run .pre)
-    (λ i. run .before .before .before .before .shared-slice-known .given i .fits) (r .count) (r .events) (r .sees) stands _ _ _ _
-    (run .run .ensures .0) (write .write .ensures .1 st stands (store-distinct (g .sites) (right (entry run) .most) (g .script .now))) (write .write .ensures .0) (c .outstanding .ensures st stands)
+    (λ i. run .before .before .before .before .shared-slice-known .given i .fits) (run .run .result) (run .run .ensures .1) _ _ _ _
+    (run .run .ensures .0) (write .write .ensures .1) (write .write .ensures .0) (c .outstanding .ensures)
 
 pub accepted-spec : {M : Type 1} → statement M
 accepted-spec =

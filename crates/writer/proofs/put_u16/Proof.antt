@@ -4,13 +4,14 @@ use Prim.Native.Nat.{_/_, _%_}
 use native.Mathlib.Numerals.{add-one}
 use native.Mathlib.Omega.{arith}
 use lib.ListN.{length-set}
+use lib.Bits.{and-mask, mask-lt}
 use borrow.Author.Needs.{needs}
 use Rattle.record.specs.Encode.{littleBytes}
 use Rattle.writer.proofs.put_u16.Statement.{statement}
 use Rattle.writer.proofs.put_u16.Tie as tie
 
 cast-s : tie.Need-cast-s
-cast-s c = search needs
+cast-s c = omega (arith, mask-lt (c .args .x) 8)
 
 slice-write-s : tie.Need-slice-write-s
 slice-write-s c = search needs
@@ -32,7 +33,7 @@ unfolding littleBytes
 returns c =
     let x = c .args .x in
     let top : x / 256 % 256 ≡ x / 256 = omega arith in
-    rw (add-one, top)
+    rw (add-one, and-mask x 8, top)
 
 pub put-u16-spec : {M : Type 1} → statement M
 put-u16-spec =

@@ -1,11 +1,13 @@
 -- `writer::put_u64` meets its contract: two halves of four bytes. Assumes nothing.
+use native.Mathlib.Omega.{arith}
 use borrow.Author.Needs.{needs}
+use lib.Bits.{and-mask, mask-lt}
 use Rattle.record.proofs.WordBytes.{halves-stored}
 use Rattle.writer.proofs.put_u64.Statement.{statement}
 use Rattle.writer.proofs.put_u64.Tie as tie
 
 cast-put-u32 : tie.Need-cast-put-u32
-cast-put-u32 c = search needs
+cast-put-u32 c = omega (arith, mask-lt (c .before .before .args .x) 32)
 
 put-u32-requires : tie.Need-put-u32-requires
 put-u32-requires c κs = search needs
@@ -27,7 +29,7 @@ returns c =
     let second = c .before .before in
     let first = second .before .before .before .before in
     let a = first .before .before .before .args in
-    halves-stored 4 (a .x) (a .s .now) _ _ (a .at) (first .put-u32 .ensures) (second .put-u322 .ensures)
+    halves-stored 4 (a .x) (a .s .now) _ _ (a .at) (rw (and-mask (a .x) 32) at (first .put-u32 .ensures)) (second .put-u322 .ensures)
 
 pub put-u64-spec : {M : Type 1} → statement M
 put-u64-spec =

@@ -72,7 +72,7 @@ returns c =
       (omega (arith, k .kept .0), seen .0),
       (
         λ t l. ap (λ (r : List ℕ). has (rowAt r 4 t)) (k .ensures) ∙ know-row (s .args .known .now) (s .args .s) (s .pre .0) (s .pre .2) (s .args .k) (s .pre .3) t,
-        λ e l. seen .1 e,
+        seen .1,
       ),
     )
 

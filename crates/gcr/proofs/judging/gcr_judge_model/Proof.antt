@@ -2,7 +2,7 @@
 use mathlib.Core.Path.{ap, _∙_}
 use borrow.Author.Needs.{needs}
 use Rattle.record.specs.Layout.{gcr1}
-use Rattle.judge.specs.Judgments.{modelJudgment, packed}
+use Rattle.judge.specs.Judgments.{modelJudgment, packedJudgment}
 use Rattle.judge.proofs.JudgmentLaws.{model-fits, fitting-small}
 use Rattle.gcr.proofs.judging.gcr_judge_model.Statement.{statement}
 use Rattle.gcr.proofs.judging.gcr_judge_model.Tie as tie
@@ -13,15 +13,15 @@ slice-aggregate-judge-model c = search needs
 judge-model-requires : tie.Need-judge-model-requires
 judge-model-requires c κs = search needs
 
-packed-judgment-requires : tie.Need-packed-judgment-requires
-packed-judgment-requires c κs =
+pack-requires : tie.Need-pack-requires
+pack-requires c κs =
     let a = c .before .before .before .before .args in
     rw (c .before .judge-model .ensures .0) (fitting-small (modelJudgment gcr1 1024 (a .model) (a .s .now)) (model-fits (a .s .now) 1024 (a .model)))
 
 returns : tie.Need-returns
-returns c = c .packed-judgment .ensures ∙ ap packed (c .before .before .judge-model .ensures .0)
+returns c = c .pack .ensures ∙ ap packedJudgment (c .before .before .judge-model .ensures .0)
 
 pub gcr-judge-model-spec : {M : Type 1} → statement M
 gcr-judge-model-spec =
     tie.close
-    (tie.spec slice-aggregate-judge-model judge-model-requires packed-judgment-requires returns)
+    (tie.spec slice-aggregate-judge-model judge-model-requires pack-requires returns)

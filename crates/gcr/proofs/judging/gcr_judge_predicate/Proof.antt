@@ -2,7 +2,7 @@
 use mathlib.Core.Path.{ap, _∙_}
 use borrow.Author.Needs.{needs}
 use Rattle.record.specs.Layout.{gcr1}
-use Rattle.judge.specs.Judgments.{predicateJudgment, packed}
+use Rattle.judge.specs.Judgments.{predicateJudgment, packedJudgment}
 use Rattle.judge.proofs.JudgmentLaws.{predicate-fits, fitting-small}
 use Rattle.gcr.proofs.judging.gcr_judge_predicate.Statement.{statement}
 use Rattle.gcr.proofs.judging.gcr_judge_predicate.Tie as tie
@@ -13,13 +13,13 @@ slice-aggregate-judge-predicate c = search needs
 judge-predicate-requires : tie.Need-judge-predicate-requires
 judge-predicate-requires c κs = search needs
 
-packed-judgment-requires : tie.Need-packed-judgment-requires
-packed-judgment-requires c κs =
+pack-requires : tie.Need-pack-requires
+pack-requires c κs =
     let a = c .before .before .before .before .args in
     rw (c .before .judge-predicate .ensures .0) (fitting-small (predicateJudgment gcr1 1024 (a .predicate) (a .s .now)) (predicate-fits (a .s .now) 1024 (a .predicate)))
 
 returns : tie.Need-returns
-returns c = c .packed-judgment .ensures ∙ ap packed (c .before .before .judge-predicate .ensures .0)
+returns c = c .pack .ensures ∙ ap packedJudgment (c .before .before .judge-predicate .ensures .0)
 
 pub gcr-judge-predicate-spec : {M : Type 1} → statement M
 gcr-judge-predicate-spec =
@@ -27,5 +27,5 @@ gcr-judge-predicate-spec =
     (tie.spec
     slice-aggregate-judge-predicate
     judge-predicate-requires
-    packed-judgment-requires
+    pack-requires
     returns)

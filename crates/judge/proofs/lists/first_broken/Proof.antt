@@ -8,139 +8,113 @@ use Rattle.record.specs.Words.{historyFrom}
 use Rattle.consistency.specs.Models.{firstBroken}
 use Rattle.judge.specs.Lists.{upToZero}
 use Rattle.judge.proofs.ListLaws.{left-end, left-past, left-met, left-broken}
-use Rattle.judge.proofs.PreparedLaws.{rooms-of}
 use borrow.Author.Needs.{needs}
 use Rattle.judge.proofs.lists.first_broken.Statement.{statement}
 use Rattle.judge.proofs.lists.first_broken.Tie as tie
 
 abbrev Inv-loop : tie.InvT-loop
-Inv-loop l v n list rbs sos ars objects middles hbs keys writes reads every k₀ k =
+Inv-loop l v n list groups t k₀ k =
     (k ≤ 4) × (firstBroken (upToZero list) (historyFrom n 4 l v) ≡ firstBroken (upToZero (drop k list)) (historyFrom n 4 l v))
 
 abbrev μ-loop : tie.MeasureT-loop
-μ-loop l v n list rbs sos ars objects middles hbs keys writes reads every k₀ k = 4 - k
+μ-loop l v n list groups t k₀ k = 4 - k
 
 abbrev history : tie.Start Inv-loop μ-loop → History
 history s = historyFrom (s .args .n) 4 (s .args .l .now) (s .args .v .now)
 
+-- src/lists.rt:68:27
+slice-aggregate-fill : tie.Need-slice-aggregate-fill Inv-loop μ-loop
+slice-aggregate-fill c = search needs
+
+-- src/lists.rt:68:5
+fill-requires : tie.Need-fill-requires Inv-loop μ-loop
+fill-requires c κs = let g = c .before .before .before .pre .0 in ((g .heads, g .rows .wide, omega arith, omega arith), omega arith)
+
+-- src/lists.rt:70:32
 slice-aggregate-prepare : tie.Need-slice-aggregate-prepare Inv-loop μ-loop
 slice-aggregate-prepare c = search needs
 
+-- src/lists.rt:70:41
 slice-aggregate-prepare-2 : tie.Need-slice-aggregate-prepare-2 Inv-loop μ-loop
 slice-aggregate-prepare-2 c = search needs
 
-slice-aggregate-prepare-3 : tie.Need-slice-aggregate-prepare-3 Inv-loop μ-loop
-slice-aggregate-prepare-3 c = search needs
-
-slice-aggregate-prepare-4 : tie.Need-slice-aggregate-prepare-4 Inv-loop μ-loop
-slice-aggregate-prepare-4 c = search needs
-
-slice-aggregate-prepare-5 : tie.Need-slice-aggregate-prepare-5 Inv-loop μ-loop
-slice-aggregate-prepare-5 c = search needs
-
-slice-aggregate-prepare-6 : tie.Need-slice-aggregate-prepare-6 Inv-loop μ-loop
-slice-aggregate-prepare-6 c = search needs
-
-slice-aggregate-prepare-7 : tie.Need-slice-aggregate-prepare-7 Inv-loop μ-loop
-slice-aggregate-prepare-7 c = search needs
-
-slice-aggregate-prepare-8 : tie.Need-slice-aggregate-prepare-8 Inv-loop μ-loop
-slice-aggregate-prepare-8 c = search needs
-
-slice-aggregate-prepare-9 : tie.Need-slice-aggregate-prepare-9 Inv-loop μ-loop
-slice-aggregate-prepare-9 c = search needs
-
-slice-aggregate-prepare-10 : tie.Need-slice-aggregate-prepare-10 Inv-loop μ-loop
-slice-aggregate-prepare-10 c = search needs
-
+-- src/lists.rt:70:5
 prepare-requires : tie.Need-prepare-requires Inv-loop μ-loop
-prepare-requires c κs =
-    let s = c .before .before .before .before .before .before .before .before .before .before .before .before in
-    (s .pre .0, (rooms-of (s .args .n) (s .args .l .now) (s .args .v .now) (s .pre .0), (search needs, search needs, search needs, search needs, search needs)))
+prepare-requires c κs = let g = c .before .before .before .before .before .before .before .pre .0 in (g, c .before .before .before .fill .ensures .0, omega (arith, g .rows .wide))
 
+-- src/lists.rt:71:5
 loop-holds : tie.Need-loop-holds Inv-loop μ-loop
 loop-holds c = search needs
 
+-- src/lists.rt:72:22
 array-read-number : tie.Need-array-read-number Inv-loop μ-loop
 array-read-number c = search needs
 
+-- src/lists.rt:74:13
 returns : tie.Need-returns Inv-loop μ-loop
 returns c =
-    let s = c .before .before .before .before .before .before .before .before .before .before .before .before .before .before .before .before .before .before .before .before .before .before .before .before .before .before in
+    let s = c .before .before .before .before .before .before .before .before .before .before .before .before in
     let l = c .before .before .loop in
     sym (l .inv .1 ∙ left-end (history s) (s .args .t1) (l .k) (c .if1 .taken))
 
+-- src/lists.rt:76:13
 by-number-requires : tie.Need-by-number-requires Inv-loop μ-loop
-by-number-requires c κs = (omega arith, c .before .before .before .before .before .before .before .before .before .before .before .before .before .before .before .before .before .before .before .before .before .before .before .before .before .before .pre .1 .small (c .before .before .loop .k))
+by-number-requires c κs = (omega arith, c .before .before .before .before .before .before .before .before .before .before .before .before .pre .1 .small (c .before .before .loop .k))
 
+-- src/lists.rt:77:49
 slice-aggregate-judge : tie.Need-slice-aggregate-judge Inv-loop μ-loop
 slice-aggregate-judge c = search needs
 
+-- src/lists.rt:77:58
 slice-aggregate-judge-2 : tie.Need-slice-aggregate-judge-2 Inv-loop μ-loop
 slice-aggregate-judge-2 c = search needs
 
-slice-aggregate-judge-3 : tie.Need-slice-aggregate-judge-3 Inv-loop μ-loop
-slice-aggregate-judge-3 c = search needs
-
-slice-aggregate-judge-4 : tie.Need-slice-aggregate-judge-4 Inv-loop μ-loop
-slice-aggregate-judge-4 c = search needs
-
-slice-aggregate-judge-5 : tie.Need-slice-aggregate-judge-5 Inv-loop μ-loop
-slice-aggregate-judge-5 c = search needs
-
-slice-aggregate-judge-6 : tie.Need-slice-aggregate-judge-6 Inv-loop μ-loop
-slice-aggregate-judge-6 c = search needs
-
-slice-aggregate-judge-7 : tie.Need-slice-aggregate-judge-7 Inv-loop μ-loop
-slice-aggregate-judge-7 c = search needs
-
-slice-aggregate-judge-8 : tie.Need-slice-aggregate-judge-8 Inv-loop μ-loop
-slice-aggregate-judge-8 c = search needs
-
-slice-aggregate-judge-9 : tie.Need-slice-aggregate-judge-9 Inv-loop μ-loop
-slice-aggregate-judge-9 c = search needs
-
-slice-aggregate-judge-10 : tie.Need-slice-aggregate-judge-10 Inv-loop μ-loop
-slice-aggregate-judge-10 c = search needs
-
+-- src/lists.rt:77:13
 judge-requires : tie.Need-judge-requires Inv-loop μ-loop
-judge-requires c κs = (c .before .before .before .before .before .before .before .before .before .before .before .before .before .before .before .before .before .before .before .before .before .before .before .before .before .before .before .before .before .before .before .before .before .before .before .before .before .pre .0, c .before .before .before .before .before .before .before .before .before .before .before .before .before .before .before .before .before .before .before .before .before .before .before .before .prepare .ensures)
+judge-requires c κs = ((c .before .before .before .before .before .before .before .before .before .before .before .before .before .before .before .pre .0, c .before .before .before .before .before .before .before .before .before .before .before .fill .ensures .0), c .before .before .before .before .before .before .before .prepare .ensures .0)
 
+-- src/lists.rt:78:32
 enum-known-found : tie.Need-enum-known-found Inv-loop μ-loop
 enum-known-found c = search needs
 
-cast-t67 : tie.Need-cast-t67 Inv-loop μ-loop
-cast-t67 c = omega (arith, c .before .before .before .before .before .before .before .before .before .before .before .before .before .before .before .before .before .before .before .before .before .before .before .before .before .before .before .before .before .before .before .before .before .before .before .before .before .before .before .before .before .pre .1 .small (c .before .before .before .before .before .before .before .before .before .before .before .before .before .before .before .before .before .loop .k))
+-- src/lists.rt:79:38
+cast-t29 : tie.Need-cast-t29 Inv-loop μ-loop
+cast-t29 c = omega (arith, c .before .before .before .before .before .before .before .before .before .before .before .before .before .before .before .before .before .before .before .pre .1 .small (c .before .before .before .before .before .before .before .before .before .loop .k))
 
+-- src/lists.rt:79:13
 returns-2 : tie.Need-returns-2 Inv-loop μ-loop
 returns-2 c =
-    let s = c .before .before .before .before .before .before .before .before .before .before .before .before .before .before .before .before .before .before .before .before .before .before .before .before .before .before .before .before .before .before .before .before .before .before .before .before .before .before .before .before .before in
-    let l = c .before .before .before .before .before .before .before .before .before .before .before .before .before .before .before .before .before .loop in
-    let b = c .before .before .before .before .before .before .before .before .before .before .before .before .before .before .by-number in
+    let s = c .before .before .before .before .before .before .before .before .before .before .before .before .before .before .before .before .before .before .before in
+    let l = c .before .before .before .before .before .before .before .before .before .loop in
+    let b = c .before .before .before .before .before .before .by-number in
     let j = c .before .before .before .judge in
     let f = c .before .found .given in
-    left-broken (history s) (s .args .t1) (l .k) (c .before .before .before .before .before .before .before .before .before .before .before .before .before .before .before .if1 .left) (b .result) (j .result) (b .ensures) (j .ensures) _ (l .inv .1) (f .0 .0) (f .0 .1 .0) (f .1)
+    left-broken (history s) (s .args .t1) (l .k) (c .before .before .before .before .before .before .before .if1 .left) (b .result) (j .result) (b .ensures) (j .ensures) _ (l .inv .1) (f .0 .0) (f .0 .1 .0) (f .1)
 
 enum-told : tie.Need-enum-told Inv-loop μ-loop
 enum-told c = search needs
 
+-- src/lists.rt:71:9
 add-k : tie.Need-add-k Inv-loop μ-loop
 add-k c = search needs
 
+-- src/lists.rt:71:5
 loop-less : tie.Need-loop-less Inv-loop μ-loop
 loop-less c = search needs
 
+-- src/lists.rt:71:5
 loop-again : tie.Need-loop-again Inv-loop μ-loop
 loop-again c =
-    let s = c .before .before .before .before .before .before .before .before .before .before .before .before .before .before .before .before .before .before .before .before .before .before .before .before .before .before .before .before .before .before .before .before .before .before .before .before .before .before .before .before in
-    let l = c .before .before .before .before .before .before .before .before .before .before .before .before .before .before .before .before .loop in
-    let b = c .before .before .before .before .before .before .before .before .before .before .before .before .before .by-number in
+    let s = c .before .before .before .before .before .before .before .before .before .before .before .before .before .before .before .before .before .before in
+    let l = c .before .before .before .before .before .before .before .before .loop in
+    let b = c .before .before .before .before .before .by-number in
     let j = c .before .before .judge in
-    (omega (arith, c .before .before .before .before .before .before .before .before .before .before .before .before .before .before .before .loop-test .taken), left-met (history s) (s .args .t1) (l .k) (c .before .before .before .before .before .before .before .before .before .before .before .before .before .before .if1 .left) (b .result) (j .result) (b .ensures) (j .ensures) _ (l .inv .1) (c .enum-told .given .1))
+    (omega (arith, c .before .before .before .before .before .before .before .loop-test .taken), left-met (history s) (s .args .t1) (l .k) (c .before .before .before .before .before .before .if1 .left) (b .result) (j .result) (b .ensures) (j .ensures) _ (l .inv .1) (c .enum-told .given .1))
 
+-- src/lists.rt:63:1
 returns-3 : tie.Need-returns-3 Inv-loop μ-loop
 returns-3 c =
-    let s = c .before .before .before .before .before .before .before .before .before .before .before .before .before .before .before .before .before .before .before .before .before .before .before .before .before in
+    let s = c .before .before .before .before .before .before .before .before .before .before .before in
     let l = c .before .loop in
     sym (l .inv .1 ∙ left-past (history s) (s .args .t1) (l .k) (s .pre .1) (omega arith))
 
@@ -150,16 +124,10 @@ first-broken-spec =
     (tie.spec
     Inv-loop
     μ-loop
+    slice-aggregate-fill
+    fill-requires
     slice-aggregate-prepare
     slice-aggregate-prepare-2
-    slice-aggregate-prepare-3
-    slice-aggregate-prepare-4
-    slice-aggregate-prepare-5
-    slice-aggregate-prepare-6
-    slice-aggregate-prepare-7
-    slice-aggregate-prepare-8
-    slice-aggregate-prepare-9
-    slice-aggregate-prepare-10
     prepare-requires
     loop-holds
     array-read-number
@@ -167,17 +135,9 @@ first-broken-spec =
     by-number-requires
     slice-aggregate-judge
     slice-aggregate-judge-2
-    slice-aggregate-judge-3
-    slice-aggregate-judge-4
-    slice-aggregate-judge-5
-    slice-aggregate-judge-6
-    slice-aggregate-judge-7
-    slice-aggregate-judge-8
-    slice-aggregate-judge-9
-    slice-aggregate-judge-10
     judge-requires
     enum-known-found
-    cast-t67
+    cast-t29
     returns-2
     enum-told
     add-k

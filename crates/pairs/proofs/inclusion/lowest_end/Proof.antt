@@ -1,142 +1,164 @@
--- `pairs::inclusion::lowest_end` meets its contract. The invariant: none of the events passed ends such a pair. Assumes nothing.
-use borrow.Author.Needs.{needs}
-use mathlib.Core.Bool.{Bool}
-use mathlib.Core.Logic.{⊎-elim}
-use Prim.Native.Nat.{ℕ, _-_, _+_, _*_, _≤_}
+-- `pairs::inclusion::lowest_end` meets its contract: the columns of a, and what `ends` leaves of the first. Assumes nothing.
+use mathlib.Core.Path.{_≡_, ap, _∙_}
+use mathlib.Core.List.{List}
+use Prim.Native.Nat.{ℕ, _≤_}
 use native.Mathlib.Omega.{arith}
+use borrow.Author.Needs.{needs}
 use lib.ListN.{length}
-use Rattle.rows.specs.Row.{has}
+use Rattle.rows.specs.Row.{andRow, Row}
 use Rattle.rows.specs.Relation.{related}
-use Rattle.rows.proofs.LowestLaws.{Searched, searched-start, searched-more, searched-hit, searched-end}
-use Rattle.rows.proofs.TableLaws.{row-room}
-use Rattle.consistency.specs.Relations.{to}
-use Rattle.consistency.specs.Predicates.{outside}
-use Rattle.rows.proofs.SliceLaws.{length-slice}
-use Rattle.pairs.proofs.InclusionLaws.{end-hit, end-none, end-before, end-held}
+use Rattle.rows.proofs.RowLaws.{length-and}
+use Rattle.pairs.proofs.CutLaws.{new, front, fronted, length-front, front-given, length-fronted, front-holds}
+use Rattle.pairs.proofs.InclusionLaws.{columns-lowest}
 use Rattle.pairs.proofs.inclusion.lowest_end.Statement.{statement}
 use Rattle.pairs.proofs.inclusion.lowest_end.Tie as tie
 
-abbrev Inv-loop : tie.InvT-loop
-Inv-loop a n q ends r w b₀ b = Searched n (outside (to (has ends) (related q w)) (related r w) a) b
-
-abbrev μ-loop : tie.MeasureT-loop
-μ-loop a n q ends r w b₀ b = n - b
-
-abbrev width : tie.Start Inv-loop μ-loop → ℕ
+abbrev width : tie.Start → ℕ
 width s = length (s .args .ends .now)
 
-abbrev start : tie.In-loop Inv-loop μ-loop → tie.Start Inv-loop μ-loop
-start c = c .before .before .before .before .before
+-- the column of q
+module _ (c : tie.After-take-column) where
+  abbrev first : tie.Start
+  first = c .before .before .before .before .before
 
-abbrev ending : tie.Start Inv-loop μ-loop → ℕ → Bool
-ending s = outside (to (has (s .args .ends .now)) (related (s .args .q .now) (width s))) (related (s .args .r .now) (width s)) (s .args .a)
+  abbrev column : List ℕ
+  column = c .take-column .last .1 .1 .1 .0
 
--- row b lies within either table
-room-q : (c : tie.In-loop Inv-loop μ-loop) → c .before .loop .b * width (start c) + width (start c) ≤ length (start c .args .q .now)
-room-q c = row-room (start c .args .n) (width (start c)) (c .before .loop .b) (length (start c .args .q .now)) (c .loop-test .taken) (start c .pre .0 .0)
+  abbrev array : List ℕ
+  array = fronted new (width first) column
 
-room-r : (c : tie.In-loop Inv-loop μ-loop) → c .before .loop .b * width (start c) + width (start c) ≤ length (start c .args .r .now)
-room-r c = row-room (start c .args .n) (width (start c)) (c .before .loop .b) (length (start c .args .r .now)) (c .loop-test .taken) (start c .pre .0 .1)
+  room : width first ≤ length array
+  room = omega (arith, length-fronted new (width first) (first .pre .0 .2) column (c .take-column .ensures .0), first .pre .0 .2)
 
-loop-holds : tie.Need-loop-holds Inv-loop μ-loop
-loop-holds c = let s = c .before .before .before in searched-start (s .args .n) (ending s)
+  held : Row (first .args .n) (related (first .args .q .now) (width first) (first .args .a)) (front array (width first))
+  held = front-holds new (width first) (first .pre .0 .2) column (c .take-column .ensures .0) (λ k m. Row (first .args .n) (related (first .args .q .now) k (first .args .a)) m) (c .take-column .ensures .1)
 
-test-requires : tie.Need-test-requires Inv-loop μ-loop
-test-requires c κs = search needs
+-- what `ends` leaves of it
+module _ (c : tie.After-intersect) where
+  abbrev second : tie.After-take-column
+  second = c .before .before .before
 
-mul-at : tie.Need-mul-at Inv-loop μ-loop
-mul-at c = omega (arith, room-q (c .before .before))
+  abbrev kept : List ℕ
+  kept = c .intersect .last .0
 
-add-end : tie.Need-add-end Inv-loop μ-loop
-add-end c = omega (arith, room-q (c .before .before))
+  same : length kept ≡ length (front (array second) (width (first second)))
+  same = ap length (c .intersect .ensures) ∙ length-and (front (array second) (width (first second))) (first second .args .ends .now)
 
-mul-test : tie.Need-mul-test Inv-loop μ-loop
-mul-test c = omega (arith, room-q (c .before .before))
+  fronts : front (fronted (array second) (width (first second)) kept) (width (first second)) ≡ andRow (front (array second) (width (first second))) (first second .args .ends .now)
+  fronts = front-given (array second) (width (first second)) (room second) kept same ∙ c .intersect .ensures
 
-sub-test : tie.Need-sub-test Inv-loop μ-loop
-sub-test c = search needs
+-- the column of r
+module _ (c : tie.After-take-column2) where
+  abbrev third : tie.After-intersect
+  third = c .before .before .before
 
-part-test-start : tie.Need-part-test-start Inv-loop μ-loop
-part-test-start c = search needs
+  abbrev start : tie.Start
+  start = first (second third)
 
-part-test-end : tie.Need-part-test-end Inv-loop μ-loop
-part-test-end c = omega (arith, room-q (c .before .before))
+  abbrev other : List ℕ
+  other = c .take-column2 .last .1 .1 .1 .0
 
-test-requires-2 : tie.Need-test-requires-2 Inv-loop μ-loop
-test-requires-2 c κs =
-    let i = c .before .before .before in
-    omega (arith, length-slice (start i .args .q .now) (width (start i)) (i .before .loop .b) (room-q i), start i .pre .1 .0, start i .pre .1 .1)
+  lacked : Row (start .args .n) (related (start .args .r .now) (width start) (start .args .a)) (front (fronted new (width start) other) (width start))
+  lacked = front-holds new (width start) (start .pre .0 .2) other (c .take-column2 .ensures .0) (λ k m. Row (start .args .n) (related (start .args .r .now) k (start .args .a)) m) (c .take-column2 .ensures .1)
 
-mul-test-2 : tie.Need-mul-test-2 Inv-loop μ-loop
-mul-test-2 c = omega (arith, room-r (c .before .before .before .before .before))
+sub-take-column : tie.Need-sub-take-column
+sub-take-column c = search needs
 
-sub-test-2 : tie.Need-sub-test-2 Inv-loop μ-loop
-sub-test-2 c = search needs
+part-left-start : tie.Need-part-left-start
+part-left-start c = search needs
 
-part-test-start-2 : tie.Need-part-test-start-2 Inv-loop μ-loop
-part-test-start-2 c = search needs
+part-left-end : tie.Need-part-left-end
+part-left-end c = search needs
 
-part-test-end-2 : tie.Need-part-test-end-2 Inv-loop μ-loop
-part-test-end-2 c = omega (arith, room-r (c .before .before .before .before .before))
+take-column-requires : tie.Need-take-column-requires
+take-column-requires c κs =
+    let s = c .before .before .before .before in
+    rw (length-front new (width s) (s .pre .0 .2)) (s .pre .0 .0, s .pre .1 .0, s .pre .1 .1)
 
-test-requires-3 : tie.Need-test-requires-3 Inv-loop μ-loop
-test-requires-3 c κs =
-    let i = c .before .before .before .before .before .before in
-    omega (arith, length-slice (start i .args .r .now) (width (start i)) (i .before .loop .b) (room-r i), start i .pre .1 .0, start i .pre .1 .1)
+sub-intersect : tie.Need-sub-intersect
+sub-intersect c = search needs
 
-returns : tie.Need-returns Inv-loop μ-loop
+part-left-start-2 : tie.Need-part-left-start-2
+part-left-start-2 c = search needs
+
+part-left-end-2 : tie.Need-part-left-end-2
+part-left-end-2 c = room (c .before)
+
+intersect-requires : tie.Need-intersect-requires
+intersect-requires c κs = search needs
+
+sub-take-column-2 : tie.Need-sub-take-column-2
+sub-take-column-2 c = search needs
+
+part-right-start : tie.Need-part-right-start
+part-right-start c = search needs
+
+part-right-end : tie.Need-part-right-end
+part-right-end c = search needs
+
+take-column-requires-2 : tie.Need-take-column-requires-2
+take-column-requires-2 c κs =
+    let s = first (second (c .before .before)) in
+    rw (length-front new (width s) (s .pre .0 .2)) (s .pre .0 .1, s .pre .1 .0, s .pre .1 .1)
+
+sub-lowest-difference : tie.Need-sub-lowest-difference
+sub-lowest-difference c = search needs
+
+part-lowest-difference-start : tie.Need-part-lowest-difference-start
+part-lowest-difference-start c = search needs
+
+part-lowest-difference-end : tie.Need-part-lowest-difference-end
+part-lowest-difference-end c =
+    let t = third (c .before .before) in
+    let k = second t in
+    omega (arith, room k, length-fronted (array k) (width (first k)) (room k) (kept t) (same t))
+
+sub-lowest-difference-2 : tie.Need-sub-lowest-difference-2
+sub-lowest-difference-2 c = search needs
+
+part-lowest-difference-start-2 : tie.Need-part-lowest-difference-start-2
+part-lowest-difference-start-2 c = search needs
+
+part-lowest-difference-end-2 : tie.Need-part-lowest-difference-end-2
+part-lowest-difference-end-2 c =
+    let t = c .before .before .before .before in
+    let s = start t in
+    omega (arith, length-fronted new (width s) (s .pre .0 .2) (other t) (t .take-column2 .ensures .0), s .pre .0 .2)
+
+lowest-difference-requires : tie.Need-lowest-difference-requires
+lowest-difference-requires c κs = search needs
+
+returns : tie.Need-returns
 returns c =
-    let i = c .before .before .before .before .before .before .before .before in
-    let s = start i in
-    searched-hit (i .before .loop .inv) (i .loop-test .taken)
-    (end-hit (width s) (s .args .q .now) (s .args .ends .now) (s .args .r .now) (s .args .a) (i .before .loop .b)
-    (c .before .before .before .before .before .before .before .test .ensures) (c .before .before .before .before .test2 .ensures) (c .before .test3 .ensures)
-    (c .before .before .before .before .before .before .if1 .taken) (c .before .before .before .if2 .taken) (c .if3 .taken))
-
-add-b : tie.Need-add-b Inv-loop μ-loop
-add-b c = search needs
-
-loop-less : tie.Need-loop-less Inv-loop μ-loop
-loop-less c = search needs
-
-loop-again : tie.Need-loop-again Inv-loop μ-loop
-loop-again c =
-    let i = c .before .before in
-    let s = start i in
-    searched-more (i .before .loop .inv) (i .loop-test .taken)
-    (⊎-elim
-    (λ t. end-held (width s) (s .args .q .now) (s .args .ends .now) (s .args .r .now) (s .args .a) (i .before .loop .b) (t .5 .ensures) (t .6 .left))
-    (λ o. ⊎-elim
-    (λ t. end-before (width s) (s .args .q .now) (s .args .ends .now) (s .args .r .now) (s .args .a) (i .before .loop .b) (t .2 .ensures) (t .3 .left))
-    (λ t. end-none (width s) (s .args .q .now) (s .args .ends .now) (s .args .r .now) (s .args .a) (i .before .loop .b) (c .before .test .ensures) (t .left))
-    o)
-    (c .if1 .came))
-
-returns-2 : tie.Need-returns-2 Inv-loop μ-loop
-returns-2 c = searched-end (c .before .loop .inv) (omega arith)
+    let t = c .before .before .before .before .before .before in
+    let i = third t in
+    let k = second i in
+    let s = start t in
+    let wide : length (front (array k) (width s)) ≡ width s = length-front (array k) (width s) (room k) in
+    columns-lowest (s .args .n) (width s) (s .args .q .now) (s .args .ends .now) (s .args .r .now) (s .args .a) (front (array k) (width s)) (front (fronted new (width s) (other t)) (width s)) (held k) (lacked t)
+    wide (omega (arith, wide, s .pre .1 .0)) (front (fronted (array k) (width s) (kept i)) (width s)) (c .lowest-difference .result) (fronts i) (c .lowest-difference .ensures)
 
 pub lowest-end-spec : {M : Type 1} → statement M
 lowest-end-spec =
     tie.close
     (tie.spec
-    Inv-loop
-    μ-loop
-    loop-holds
-    test-requires
-    mul-at
-    add-end
-    mul-test
-    sub-test
-    part-test-start
-    part-test-end
-    test-requires-2
-    mul-test-2
-    sub-test-2
-    part-test-start-2
-    part-test-end-2
-    test-requires-3
-    returns
-    add-b
-    loop-less
-    loop-again
-    returns-2)
+    sub-take-column
+    part-left-start
+    part-left-end
+    take-column-requires
+    sub-intersect
+    part-left-start-2
+    part-left-end-2
+    intersect-requires
+    sub-take-column-2
+    part-right-start
+    part-right-end
+    take-column-requires-2
+    sub-lowest-difference
+    part-lowest-difference-start
+    part-lowest-difference-end
+    sub-lowest-difference-2
+    part-lowest-difference-start-2
+    part-lowest-difference-end-2
+    lowest-difference-requires
+    returns)

@@ -4,6 +4,7 @@ use Prim.Native.Nat.{_+_, _*_, _≤_}
 use native.Mathlib.Omega.{arith}
 use borrow.Author.Needs.{needs}
 use lib.ListN.{length}
+use Rattle.rows.proofs.Tests.{told-true, told-false}
 use Rattle.rows.proofs.TableLaws.{row-room}
 use Rattle.record.specs.History.{History, vis}
 use Rattle.record.specs.Words.{historyFrom}
@@ -52,7 +53,7 @@ returns : tie.Need-returns
 returns c =
     let s = c .before .before .before .before .before in
     let t = c .before in
-    cut-none (s .args .cut) (history s) (vis (history s)) (s .args .a) (s .args .b) (t .test .result) (seen t) (c .if1 .taken)
+    cut-none (s .args .cut) (history s) (vis (history s)) (s .args .a) (s .args .b) (told-false (seen t) (c .if1 .taken))
 
 object-requires : tie.Need-object-requires
 object-requires c κs = search needs
@@ -65,13 +66,13 @@ returns-2 c =
     let s = c .before .before .before .before .before .before .before .before in
     let t = c .before .before .before .before in
     object-test (s .args .n) (s .args .w) (s .args .l .now) (s .args .v .now) (s .args .a) (s .args .b) (c .before .object .result) (c .object2 .result) (c .before .object .ensures) (c .object2 .ensures)
-    ∙ cut-object (s .args .cut) (history s) (vis (history s)) (s .args .a) (s .args .b) (t .test .result) (seen t) (c .before .before .before .if1 .left) (c .before .before .if2 .taken)
+    ∙ cut-object (s .args .cut) (history s) (vis (history s)) (s .args .a) (s .args .b) (told-true (seen t) (c .before .before .before .if1 .left)) (c .before .before .if2 .taken)
 
 returns-3 : tie.Need-returns-3
 returns-3 c =
     let s = c .before .before .before .before .before .before in
     let t = c .before .before in
-    cut-whole (s .args .cut) (history s) (vis (history s)) (s .args .a) (s .args .b) (t .test .result) (seen t) (c .before .if1 .left) (c .if2 .left)
+    cut-whole (s .args .cut) (history s) (vis (history s)) (s .args .a) (s .args .b) (told-true (seen t) (c .before .if1 .left)) (c .if2 .left)
 
 pub is-seen-spec : {M : Type 1} → statement M
 is-seen-spec =

@@ -1,21 +1,29 @@
 -- `pairs::order::take_row` meets its contract, by whether the row is cut. Assumes nothing.
-use Prim.Native.Nat.{_+_, _*_, _≤_}
+use mathlib.Core.Path.{refl}
+use Prim.Native.Nat.{ℕ, _+_, _*_, _≤_}
 use native.Mathlib.Omega.{arith}
 use borrow.Author.Needs.{needs}
 use lib.ListN.{length}
 use Rattle.rows.proofs.TableLaws.{row-room}
+use Rattle.pairs.proofs.EventLaws.{group-room}
 use Rattle.pairs.proofs.DifferenceLaws.{taken-whole, taken-cut}
 use Rattle.pairs.proofs.order.take_row.Statement.{statement}
 use Rattle.pairs.proofs.order.take_row.Tie as tie
 
--- b's row lies within g, and that of its object within `objects`
-room : (s : tie.Start) → s .args .b * s .args .w + s .args .w ≤ length (s .args .g .now)
-room s = row-room (s .args .n) (s .args .w) (s .args .b) (length (s .args .g .now)) (s .pre .0 .1) (s .pre .0 .2)
+abbrev width : tie.Start → ℕ
+width s = length (s .args .out .now)
 
-room-object : (c : tie.After-object) → c .object .result * c .before .before .before .before .before .before .before .before .before .before .before .args .w + c .before .before .before .before .before .before .before .before .before .before .before .args .w ≤ length (c .before .before .before .before .before .before .before .before .before .before .before .args .objects .now)
+-- b's row lies within g, and that of its object within `groups`
+room : (s : tie.Start) → s .args .b * width s + width s ≤ length (s .args .g .now)
+room s = row-room (s .args .n) (width s) (s .args .b) (length (s .args .g .now)) (s .pre .1) (s .pre .2)
+
+abbrev start : tie.After-object → tie.Start
+start c = c .before .before .before .before .before .before .before .before .before .before .before
+
+room-object : (c : tie.After-object) → c .object .result * width (start c) + width (start c) ≤ length (start c .args .groups .now)
 room-object c =
-    let s = c .before .before .before .before .before .before .before .before .before .before .before in
-    row-room 256 (s .args .w) (c .object .result) (length (s .args .objects .now)) (omega (arith, c .object .ensures)) (s .pre .1 .1)
+    let s = start c in
+    group-room (s .args .n) (width s) (s .args .l .now) (s .args .groups .now) (s .pre .3) (c .object .result) (omega (arith, c .object .ensures))
 
 mul-at : tie.Need-mul-at
 mul-at c = omega (arith, room (c .before .before .before .before))
@@ -67,18 +75,21 @@ same-length c = search needs
 
 returns : tie.Need-returns
 returns c =
-    let s = c .before .before .before .before .before .before .before .before .before .before .before .before .before .before .before .before in
-    let o = c .before .before .before .before .before .object in
-    taken-cut (s .args .cut) (s .args .l .now) (s .args .n) (s .args .w) (s .args .g .now) (s .args .b) (s .args .out .now) (c .before .before .before .before .before .before .before .before .before .copy .last .0) (s .pre .0 .1) (s .pre .0 .2) (s .pre .1 .2) (c .before .before .before .before .before .before .before .before .before .copy .ensures)
-    (s .args .objects .now) (c .before .before .intersect .last .0) (o .result) (c .before .before .before .before .before .before .if1 .taken) (s .pre .1 .0) (s .pre .1 .1) (o .ensures) (c .before .before .intersect .ensures)
+    let o = c .before .before .before .before .before in
+    let s = start o in
+    let k = o .before .before .before .before .copy in
+    let m = c .before .before .intersect in
+    taken-cut (s .args .cut) (s .args .l .now) (s .args .n) (width s) (s .args .g .now) (s .args .b) (s .args .out .now) (k .last .0) (s .pre .1) (s .pre .2) refl (k .ensures)
+    (s .args .groups .now) (m .last .0) (o .object .result) (o .before .if1 .taken) (s .pre .3) (o .object .ensures) (m .ensures)
 
 same-length-2 : tie.Need-same-length-2
 same-length-2 c = search needs
 
 returns-2 : tie.Need-returns-2
 returns-2 c =
-    let s = c .before .before .before .before .before .before .before .before .before .before in
-    taken-whole (s .args .cut) (s .args .l .now) (s .args .n) (s .args .w) (s .args .g .now) (s .args .b) (s .args .out .now) (c .before .before .before .copy .last .0) (s .pre .0 .1) (s .pre .0 .2) (s .pre .1 .2) (c .before .before .before .copy .ensures) (c .if1 .left)
+    let k = c .before .before .before in
+    let s = k .before .before .before .before .before .before .before in
+    taken-whole (s .args .cut) (s .args .l .now) (s .args .n) (width s) (s .args .g .now) (s .args .b) (s .args .out .now) (k .copy .last .0) (s .pre .1) (s .pre .2) refl (k .copy .ensures) (c .if1 .left)
 
 pub take-row-spec : {M : Type 1} → statement M
 take-row-spec =

@@ -3,8 +3,8 @@ use mathlib.Core.Path.{subst}
 use native.Mathlib.Omega.{arith}
 use borrow.Author.Needs.{needs}
 use Rattle.record.specs.Words.{historyFrom}
-use Rattle.tables.specs.Tables.{fieldsOf}
-use Rattle.pairs.specs.Searches.{LastBelow}
+use Rattle.events.specs.Given.{fieldsOf}
+use Rattle.pairs.specs.Searches.{FoundBelow}
 use Rattle.consistency.specs.declared.Last.the-variants.{At}
 use Rattle.consistency.proofs.ReadLaws.{held-unwritten, held-absent, held-present}
 use Rattle.pairs.proofs.reads.is_held.Statement.{statement}
@@ -37,7 +37,7 @@ value-requires-2 : tie.Need-value-requires-2
 value-requires-2 c κs =
     let s = c .before .before .before .before .before .before .before in
     let f = c .before .before .before .before .found .given in
-    let i : LastBelow (s .args .n) (At (f .0 .0)) = subst (LastBelow (s .args .n)) (f .1) (s .pre .1 .1) in
+    let i : FoundBelow (s .args .n) (At (f .0 .0)) = subst (FoundBelow (s .args .n)) (f .1) (s .pre .1 .1) in
     omega (arith, s .pre .0)
 
 returns-2 : tie.Need-returns-2

@@ -1,121 +1,117 @@
--- `reach::closure::close` meets its contract: after k rounds the table has the steps over events below k. Assumes nothing.
-use borrow.Author.Needs.{needs}
-use Prim.Native.Nat.{_+_, _-_, _*_, _≤_}
-use mathlib.Core.Path.{_≡_, refl, ap, _∙_}
-use native.Mathlib.Nat.{add-sub-cancel-left}
+-- `reach::closure::close` meets its contract: what `close_settled` leaves is between the table and its closure, so the rounds finish it. Assumes nothing.
+use mathlib.Core.Path.{_≡_, refl, sym, _∙_}
+use mathlib.Core.List.{List}
+use Prim.Native.Nat.{ℕ, _*_}
 use native.Mathlib.Omega.{arith}
-use lib.ListN.{length}
-use Rattle.rows.specs.Row.{rowAt}
-use Rattle.rows.proofs.TableLaws.{row-room, row-copied, length-row}
-use Rattle.reach.proofs.ClosureLaws.{Rounds, rounds-none, rounds-more, rounds-all}
+use borrow.Author.Needs.{needs}
+use borrow.Author.Tests.{not-false}
+use lib.ListN.{length, take, replicate}
+use Rattle.reach.proofs.ClosedLaws.{between-closure}
+use Rattle.reach.proofs.FilledLaws.{length-cut, part-long, part-rows, part-filled}
 use Rattle.reach.proofs.closure.close.Statement.{statement}
 use Rattle.reach.proofs.closure.close.Tie as tie
 
-abbrev Inv-loop : tie.InvT-loop
-Inv-loop table₀ n row₀ w k₀ table row k = (k ≤ n) × (length table ≡ length table₀) × (length row ≡ length row₀) × Rounds n (length row₀) table₀ k table
+-- the places on the way, by name
+abbrev start : tie.After-close-settled → tie.Start
+start c = c .before .before .before .before .before .before .before .before .before
 
-abbrev μ-loop : tie.MeasureT-loop
-μ-loop table₀ n row₀ w k₀ table row k = n - k
+abbrev tried : tie.After-path2 → tie.After-close-settled
+tried c = c .before .before .before .before .before .before .before
 
-place : (c : tie.In-loop Inv-loop μ-loop) → c .before .loop .k * length (c .before .before .before .before .args .row .now) + length (c .before .before .before .before .args .row .now) ≤ length (c .before .loop .table)
-place c =
-    let s = c .before .before .before .before in
-    let l = c .before .loop in
-    row-room (s .args .n) (length (s .args .row .now)) (l .k) (length (l .table)) (c .loop-test .taken) (omega (arith, l .inv .1, s .pre .0))
+-- the words that are rows
+abbrev part : tie.Start → List ℕ
+part s = take (s .args .n * s .args .w) (s .args .table .now)
 
--- `row` is the row of k
-copied : (c : tie.After-copy Inv-loop μ-loop) → c .copy .last .0 ≡ rowAt (c .before .before .before .before .before .loop .table) (length (c .before .before .before .before .before .before .before .before .args .row .now)) (c .before .before .before .before .before .loop .k)
-copied c =
+-- scratch rows are cut to the width
+cut : (s : tie.Start) → length (take {A = ℕ} (s .args .w) (replicate 8 0)) ≡ s .args .w
+cut s = length-cut 8 (s .args .w) (s .pre .1)
+
+-- and keep it
+width : (c : tie.After-close-settled) → length (c .close-settled .last .1 .1 .1 .1 .0) ≡ start c .args .w
+width c =
+    let kept : length (c .close-settled .last .1 .1 .1 .1 .0) ≡ length (take {A = ℕ} (start c .args .w) (replicate 8 0)) = search needs in
+    kept ∙ cut (start c)
+
+mul-end : tie.Need-mul-end
+mul-end c = search needs
+
+slice-relend-prefix-table : tie.Need-slice-relend-prefix-table
+slice-relend-prefix-table c = search needs
+
+slice-aggregate-table : tie.Need-slice-aggregate-table
+slice-aggregate-table c = sym (part-long (c .before .before .pre .0))
+
+array-borrow-prefix-row : tie.Need-array-borrow-prefix-row
+array-borrow-prefix-row c = search needs
+
+slice-aggregate-row : tie.Need-slice-aggregate-row
+slice-aggregate-row c = sym (cut (c .before .before .before))
+
+array-borrow-prefix-settled : tie.Need-array-borrow-prefix-settled
+array-borrow-prefix-settled c = search needs
+
+slice-aggregate-close-settled : tie.Need-slice-aggregate-close-settled
+slice-aggregate-close-settled c = sym (cut (c .before .before .before .before .before))
+
+array-borrow-prefix-rest : tie.Need-array-borrow-prefix-rest
+array-borrow-prefix-rest c = search needs
+
+slice-aggregate-close-settled-2 : tie.Need-slice-aggregate-close-settled-2
+slice-aggregate-close-settled-2 c = sym (cut (c .before .before .before .before .before .before))
+
+slice-aggregate-close-settled-3 : tie.Need-slice-aggregate-close-settled-3
+slice-aggregate-close-settled-3 c = search needs
+
+close-settled-requires : tie.Need-close-settled-requires
+close-settled-requires c κs =
     let s = c .before .before .before .before .before .before .before .before in
-    let l = c .before .before .before .before .before .loop in
-    row-copied (l .table) (length (s .args .row .now)) (l .k) (l .row) (c .copy .last .0) (l .inv .2) (place (c .before .before .before .before)) (c .copy .ensures)
+    rw (cut s) (part-rows (s .pre .0), (refl, refl, omega (arith, s .pre .0 .wide, s .pre .1), omega (arith, s .pre .0 .wide, s .pre .1)))
 
-copied-length : (c : tie.After-copy Inv-loop μ-loop) → length (c .copy .last .0) ≡ length (c .before .before .before .before .before .before .before .before .args .row .now)
-copied-length c =
-    let s = c .before .before .before .before .before .before .before .before in
-    let l = c .before .before .before .before .before .loop in
-    ap length (copied c) ∙ length-row (l .table) (length (s .args .row .now)) (l .k) (place (c .before .before .before .before))
+close-by-rounds-requires : tie.Need-close-by-rounds-requires
+close-by-rounds-requires c κs =
+    let e = tried (c .before) in
+    let s = start e in
+    rw (width e) (omega (arith, part-rows (s .pre .0) .size, e .close-settled .ensures .1 .1), s .pre .0 .wide)
 
-loop-holds : tie.Need-loop-holds Inv-loop μ-loop
-loop-holds c =
-    let s = c .before .before in
-    (omega arith, refl, refl, rounds-none (s .args .n) (length (s .args .row .now)) (s .args .table .now))
-
-mul-at : tie.Need-mul-at Inv-loop μ-loop
-mul-at c = omega (arith, place c)
-
-add-end : tie.Need-add-end Inv-loop μ-loop
-add-end c = omega (arith, place c)
-
-mul-copy : tie.Need-mul-copy Inv-loop μ-loop
-mul-copy c = omega (arith, place (c .before))
-
-sub-copy : tie.Need-sub-copy Inv-loop μ-loop
-sub-copy c = search needs
-
-part-copy-start : tie.Need-part-copy-start Inv-loop μ-loop
-part-copy-start c = search needs
-
-part-copy-end : tie.Need-part-copy-end Inv-loop μ-loop
-part-copy-end c = omega (arith, place (c .before .before))
-
-copy-requires : tie.Need-copy-requires Inv-loop μ-loop
-copy-requires c κs =
-    let s = c .before .before .before .before .before .before .before in
-    let l = c .before .before .before .before .loop in
-    rw add-sub-cancel-left (omega (arith, length-row (l .table) (length (s .args .row .now)) (l .k) (place (c .before .before .before)), l .inv .2))
-
-take-in-requires : tie.Need-take-in-requires Inv-loop μ-loop
-take-in-requires c κs =
-    let s = c .before .before .before .before .before .before .before .before .before .before .before .before in
-    let l = c .before .before .before .before .before .before .before .before .before .loop in
-    let e = copied-length (c .before .before .before .before) in
-    rw e (omega (arith, s .pre .0, l .inv .1), omega (arith, s .pre .1))
-
-add-k : tie.Need-add-k Inv-loop μ-loop
-add-k c = search needs
-
-loop-less : tie.Need-loop-less Inv-loop μ-loop
-loop-less c = search needs
-
-loop-again : tie.Need-loop-again Inv-loop μ-loop
-loop-again c =
-    let s = c .before .before .before .before .before .before .before .before .before .before .before .before .before .before .before in
-    let l = c .before .before .before .before .before .before .before .before .before .before .before .before .loop in
-    let k = c .before .before .before .before .before .before .before in
-    let t = c .before .before .take-in in
-    (omega arith, t .ensures .1 ∙ l .inv .1, copied-length k, rounds-more (s .args .n) (length (s .args .row .now)) (s .args .table .now) (l .k) (l .table) (l .inv .3) (k .copy .last .0) (t .last .0) (omega arith) (copied k) (rw (copied-length k) at (t .ensures .0)))
-
-same-length : tie.Need-same-length Inv-loop μ-loop
+same-length : tie.Need-same-length
 same-length c = search needs
 
-same-length-2 : tie.Need-same-length-2 Inv-loop μ-loop
+returns : tie.Need-returns
+returns c =
+    let d = c .before .before .before in
+    let e = tried (d .before .before) in
+    let s = start e in
+    part-filled (s .pre .0) (d .close-by-rounds .last .0) (d .close-by-rounds .ensures .1 ∙ e .close-settled .ensures .1 .1)
+    (between-closure (s .args .w) (part s) (e .close-settled .last .0) (d .close-by-rounds .last .0) (rw (cut s) at (e .close-settled .ensures .1 .0)) (rw (width e) at (d .close-by-rounds .ensures .0)))
+
+same-length-2 : tie.Need-same-length-2
 same-length-2 c = search needs
 
-returns : tie.Need-returns Inv-loop μ-loop
-returns c =
-    let s = c .before .before .before .before in
-    let l = c .before .loop in
-    (rounds-all (s .args .n) (length (s .args .row .now)) (s .args .table .now) (l .k) (l .table) (l .inv .3) (omega arith), l .inv .1)
+returns-2 : tie.Need-returns-2
+returns-2 c =
+    let l = c .before .before .before in
+    let e = tried (l .before) in
+    let s = start e in
+    part-filled (s .pre .0) (e .close-settled .last .0) (e .close-settled .ensures .1 .1)
+    (rw (cut s) at (e .close-settled .ensures .0 (not-false (e .close-settled .result) (l .if1 .left))))
 
 pub close-spec : {M : Type 1} → statement M
 close-spec =
     tie.close
     (tie.spec
-    Inv-loop
-    μ-loop
-    loop-holds
-    mul-at
-    add-end
-    mul-copy
-    sub-copy
-    part-copy-start
-    part-copy-end
-    copy-requires
-    take-in-requires
-    add-k
-    loop-less
-    loop-again
+    mul-end
+    slice-relend-prefix-table
+    slice-aggregate-table
+    array-borrow-prefix-row
+    slice-aggregate-row
+    array-borrow-prefix-settled
+    slice-aggregate-close-settled
+    array-borrow-prefix-rest
+    slice-aggregate-close-settled-2
+    slice-aggregate-close-settled-3
+    close-settled-requires
+    close-by-rounds-requires
     same-length
+    returns
     same-length-2
-    returns)
+    returns-2)

@@ -77,6 +77,9 @@ returns c =
     let r = asked (c .before .before) in
     (closed r, (kept r, λ t. absurd (false≢true t)))
 
+cast-path : tie.Need-cast-path Inv-loop μ-loop
+cast-path c = search needs
+
 mul-path : tie.Need-mul-path Inv-loop μ-loop
 mul-path c = search needs
 
@@ -117,6 +120,9 @@ mul-e c = search needs
 
 slice-read-e : tie.Need-slice-read-e Inv-loop μ-loop
 slice-read-e c = search needs
+
+cast-e : tie.Need-cast-e Inv-loop μ-loop
+cast-e c = omega (arith, c .slice-known10 .given (at-loop (asked (c .before .before .before)) .loop .depth - 1))
 
 add-counter : tie.Need-add-counter Inv-loop μ-loop
 add-counter c = search needs
@@ -170,6 +176,7 @@ close-from-spec =
     same-length-4
     same-length-5
     returns
+    cast-path
     mul-path
     slice-write-path
     add-depth
@@ -183,6 +190,7 @@ close-from-spec =
     sub-depth
     mul-e
     slice-read-e
+    cast-e
     add-counter
     loop-less
     loop-again

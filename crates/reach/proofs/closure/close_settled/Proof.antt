@@ -9,7 +9,7 @@ use borrow.Author.Tests.{not-false}
 use lib.ListN.{length, length-replicate}
 use Rattle.rows.specs.Row.{has}
 use Rattle.reach.specs.Walks.{Closed}
-use Rattle.rows.proofs.ReachLaws.{room-kept, table-closed}
+use Rattle.rows.proofs.ReachLaws.{room-kept}
 use Rattle.reach.proofs.ClosedLaws.{closed-none, closed-between, closed-again, closed-then, closed-all}
 use Rattle.reach.proofs.closure.close_settled.Statement.{statement}
 use Rattle.reach.proofs.closure.close_settled.Tie as tie
@@ -65,7 +65,7 @@ close-from-requires c κs =
     let l = c .before .before .before .before .before .before in
     let s = start (cleared l) in
     let i = l .loop .inv in
-    rw (i .4) (room-kept (l .loop .table) (s .pre .0) (i .1), ((width l, i .3 ∙ s .pre .1 .1, omega (arith, i .5, s .pre .1 .2)), (search needs, closed-again (i .6))))
+    rw (i .4) (room-kept (l .loop .table) (s .pre .0) (i .1), ((width l, i .3 ∙ s .pre .1 .1, omega (arith, i .5, s .pre .1 .2), s .pre .1 .3), (search needs, closed-again (i .6))))
 
 same-length : tie.Need-same-length Inv-loop μ-loop
 same-length c = search needs
@@ -85,7 +85,7 @@ same-length-5 c = search needs
 returns : tie.Need-returns Inv-loop μ-loop
 returns c =
     let e = passed (c .before) in
-    (λ r t q. absurd (false≢true q), (closed-between (closed e), search needs))
+    (λ q. absurd (false≢true q), (closed-between (closed e), search needs))
 
 add-b : tie.Need-add-b Inv-loop μ-loop
 add-b c = search needs
@@ -126,9 +126,8 @@ same-length-10 c = search needs
 returns-2 : tie.Need-returns-2 Inv-loop μ-loop
 returns-2 c =
     let l = c .before in
-    let s = start (cleared l) .args in
     let i = l .loop .inv in (
-      λ r t q. table-closed (s .n) (length (s .row .now)) r (s .table .now) t (l .loop .table) (closed-all (i .6) (λ x h. i .7 x (omega arith))),
+      λ q. closed-all (i .6) (λ x h. i .7 x (omega arith)),
       (closed-between (i .6), i .1),
     )
 

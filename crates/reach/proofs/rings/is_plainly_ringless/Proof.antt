@@ -93,7 +93,7 @@ set-requires c κs = search needs
 settle-from-requires : tie.Need-settle-from-requires Inv-loop μ-loop
 settle-from-requires c κs =
     let l = at-loop (c .before .before .before) in
-    (rw (width l) (start l .pre .0), (l .loop .inv .3, (search needs, search needs)))
+    (rw (width l) (start l .pre .0), (l .loop .inv .3, (search needs, search needs, search needs)))
 
 same-length : tie.Need-same-length Inv-loop μ-loop
 same-length c = search needs

@@ -1,188 +1,90 @@
--- `reach::rings::lowest_on_ring` meets its contract: no event passed reaches itself, and no settled one does. Assumes nothing.
-use mathlib.Core.Path.{_≡_, sym, ap, _∙_, subst}
-use mathlib.Core.Bool.{Bool, true, false}
-use mathlib.Core.Logic.{⊎-elim}
-use mathlib.Core.List.{List}
-use Prim.Native.Nat.{ℕ, _-_, _<_, _≤_}
+-- `reach::rings::lowest_on_ring` meets its contract: where not all events are settled, the others are looked at. Assumes nothing.
+use mathlib.Core.Path.{_≡_, sym, _∙_}
+use Prim.Native.Nat.{ℕ}
 use native.Mathlib.Omega.{arith}
 use borrow.Author.Needs.{needs}
-use borrow.Author.Count.{below-more}
-use borrow.Author.Tests.{not-false}
-use lib.ListN.{length}
-use Rattle.rows.specs.Row.{has}
+use lib.ListN.{length, take, replicate}
 use Rattle.rows.specs.Relation.{reaches, related}
-use Rattle.rows.proofs.LowestLaws.{lowest-hit, lowest-none}
-use Rattle.rows.proofs.RowLaws.{row-has}
+use Rattle.rows.proofs.LowestLaws.{lowest-none}
+use Rattle.reach.proofs.FilledLaws.{length-cut}
 use Rattle.reach.proofs.rings.lowest_on_ring.Statement.{statement}
 use Rattle.reach.proofs.rings.lowest_on_ring.Tie as tie
 
--- event x reaches itself
-abbrev ring : List ℕ → ℕ → ℕ → ℕ → Bool
-ring g n w x = reaches n (related g w) x x
-
-abbrev Inv-loop : tie.InvT-loop
-Inv-loop table n found₀ done₀ settled path a₀ found done a =
-    (a ≤ n) × (length found ≡ length found₀) × (length done ≡ length found₀) × ((x : ℕ) → x < a → ring table n (length found₀) x ≡ false)
-
-abbrev μ-loop : tie.MeasureT-loop
-μ-loop table n found₀ done₀ settled path a₀ found done a = n - a
-
 -- the places on the way, by name
-abbrev start : tie.After-is-plainly-ringless Inv-loop μ-loop → tie.Start Inv-loop μ-loop
-start c = c .before .before .before .before .before .before .before .before
+abbrev start : tie.After-is-plainly-ringless → tie.Start
+start c = c .before .before .before .before .before
 
-abbrev asked : tie.At-loop Inv-loop μ-loop → tie.After-is-plainly-ringless Inv-loop μ-loop
-asked c = c .before .before .before .before .before .before
+abbrev asked : tie.After-path2 → tie.After-is-plainly-ringless
+asked c = c .before .before .before
 
-abbrev at-loop : tie.After-test Inv-loop μ-loop → tie.At-loop Inv-loop μ-loop
-at-loop c = c .before .before .before
+-- scratch rows are cut to the width
+cut : (s : tie.Start) → length (take {A = ℕ} (s .args .w) (replicate 8 0)) ≡ s .args .w
+cut s = length-cut 8 (s .args .w) (s .pre .1)
 
-abbrev tested : tie.After-reaching Inv-loop μ-loop → tie.After-test Inv-loop μ-loop
-tested c = c .before .before .before .before
+-- and keep it
+width : (c : tie.After-is-plainly-ringless) → length (c .is-plainly-ringless .last .1 .1 .0) ≡ start c .args .w
+width c =
+    let kept : length (c .is-plainly-ringless .last .1 .1 .0) ≡ length (take {A = ℕ} (start c .args .w) (replicate 8 0)) = search needs in
+    kept ∙ cut (start c)
 
-abbrev rings : tie.Start Inv-loop μ-loop → ℕ → Bool
-rings s = ring (s .args .table .now) (s .args .n) (length (s .args .found .now))
+array-borrow-prefix-settled : tie.Need-array-borrow-prefix-settled
+array-borrow-prefix-settled c = search needs
 
--- the rows keep their width
-width : (c : tie.After-is-plainly-ringless Inv-loop μ-loop) → length (c .is-plainly-ringless .last .1 .1 .0) ≡ length (start c .args .found .now)
-width c = search needs
+slice-aggregate-settled : tie.Need-slice-aggregate-settled
+slice-aggregate-settled c = sym (cut (c .before .before))
 
-kept-found : (c : tie.After-reaching Inv-loop μ-loop) → length (c .reaching .last .1 .1 .1 .0) ≡ length (at-loop (tested c) .loop .found)
-kept-found c = search needs
+slice-aggregate-is-plainly-ringless : tie.Need-slice-aggregate-is-plainly-ringless
+slice-aggregate-is-plainly-ringless c = search needs
 
-kept-done : (c : tie.After-reaching Inv-loop μ-loop) → length (c .reaching .last .1 .1 .1 .1 .0) ≡ length (at-loop (tested c) .loop .done)
-kept-done c = search needs
-
--- a settled event is on no ring
-off-ring : (c : tie.After-is-plainly-ringless Inv-loop μ-loop) (x : ℕ) → has (c .is-plainly-ringless .last .1 .1 .0) x ≡ true → rings (start c) x ≡ false
-off-ring c x t =
-    let s = start c .args in
-    subst (λ k. ring (s .table .now) (s .n) k x ≡ false) (width c) (c .is-plainly-ringless .ensures .0 .ringless x t)
-
--- whether the event of this turn is on a ring
-on-ring : (c : tie.After-reaching Inv-loop μ-loop) → let l = at-loop (tested c) in has (c .reaching .last .1 .1 .1 .0) (l .loop .a) ≡ rings (start (asked l)) (l .loop .a)
-on-ring c =
-    let l = at-loop (tested c) in
-    let s = start (asked l) .args in
-    row-has (s .n) (λ x. reaches (s .n) (related (s .table .now) (length (l .loop .found))) x (l .loop .a)) (c .reaching .last .1 .1 .1 .0)
-    (c .reaching .ensures) (l .loop .a) (tested c .before .before .loop-test .taken)
-    ∙ ap (λ k. ring (s .table .now) (s .n) k (l .loop .a)) (l .loop .inv .1)
-
-is-plainly-ringless-requires : tie.Need-is-plainly-ringless-requires Inv-loop μ-loop
+is-plainly-ringless-requires : tie.Need-is-plainly-ringless-requires
 is-plainly-ringless-requires c κs =
-    let s = c .before .before .before .before .before .before .before in
-    (rw (s .pre .1 .1) (s .pre .0), s .pre .1 .2)
+    let s = c .before .before .before .before in
+    (rw (cut s) (s .pre .0), (omega (arith, s .pre .0 .wide, s .pre .1), omega (arith, s .pre .0 .wide, s .pre .1)))
 
-same-length : tie.Need-same-length Inv-loop μ-loop
-same-length c = search needs
-
-same-length-2 : tie.Need-same-length-2 Inv-loop μ-loop
-same-length-2 c = search needs
-
-returns : tie.Need-returns Inv-loop μ-loop
+returns : tie.Need-returns
 returns c =
-    let e = c .before .before .before .before .before in
+    let t = c .before in
+    let e = asked (t .before) in
+    let s = start e .args in
+    let p = e .is-plainly-ringless .ensures in
+    sym (lowest-none (s .n) (λ a. reaches (s .n) (related (s .table .now) (s .w)) a a) (λ a h. rw (width e) at (p .0 .ringless a (p .1 (t .if1 .taken) a h))))
+
+array-borrow-prefix-found : tie.Need-array-borrow-prefix-found
+array-borrow-prefix-found c = search needs
+
+slice-aggregate-lowest-unsettled : tie.Need-slice-aggregate-lowest-unsettled
+slice-aggregate-lowest-unsettled c = sym (cut (start (asked (c .before .before .before))))
+
+array-borrow-prefix-done : tie.Need-array-borrow-prefix-done
+array-borrow-prefix-done c = search needs
+
+slice-aggregate-lowest-unsettled-2 : tie.Need-slice-aggregate-lowest-unsettled-2
+slice-aggregate-lowest-unsettled-2 c = sym (cut (start (asked (c .before .before .before .before))))
+
+lowest-unsettled-requires : tie.Need-lowest-unsettled-requires
+lowest-unsettled-requires c κs =
+    let e = asked (c .before .before .before .before) in
     let s = start e in
-    sym (lowest-none (s .args .n) (rings s) (λ a h. off-ring e a (e .is-plainly-ringless .ensures .1 (c .if1 .taken) a h)))
+    (rw (width e) (s .pre .0), (e .is-plainly-ringless .ensures .0, (rw (width e) (cut s), rw (width e) (cut s))))
 
-loop-holds : tie.Need-loop-holds Inv-loop μ-loop
-loop-holds c = (search needs, search needs, search needs, λ x h. absurd (omega arith))
-
-test-requires : tie.Need-test-requires Inv-loop μ-loop
-test-requires c κs = omega (arith, width (asked (c .before .before)), start (asked (c .before .before)) .pre .0 .wide, c .before .loop-test .taken)
-
-reaching-requires : tie.Need-reaching-requires Inv-loop μ-loop
-reaching-requires c κs =
-    let t = c .before .before .before in
-    let l = at-loop t in
-    (rw (l .loop .inv .1) (start (asked l) .pre .0), (l .loop .inv .2 ∙ sym (l .loop .inv .1), t .before .before .loop-test .taken))
-
-test-requires-2 : tie.Need-test-requires-2 Inv-loop μ-loop
-test-requires-2 c κs =
-    let e = c .before .before .before .before .before in
-    let l = at-loop (tested e) in
-    omega (arith, kept-found e, l .loop .inv .1, start (asked l) .pre .0 .wide, tested e .before .before .loop-test .taken)
-
-same-length-3 : tie.Need-same-length-3 Inv-loop μ-loop
-same-length-3 c = search needs
-
-same-length-4 : tie.Need-same-length-4 Inv-loop μ-loop
-same-length-4 c = search needs
-
-same-length-5 : tie.Need-same-length-5 Inv-loop μ-loop
-same-length-5 c = search needs
-
-same-length-6 : tie.Need-same-length-6 Inv-loop μ-loop
-same-length-6 c = search needs
-
-returns-2 : tie.Need-returns-2 Inv-loop μ-loop
+returns-2 : tie.Need-returns-2
 returns-2 c =
-    let e = c .before .before .before .before .before .before .before in
-    let l = at-loop (tested e) in
-    let s = start (asked l) in
-    sym (lowest-hit (s .args .n) (rings s) (l .loop .a) (tested e .before .before .loop-test .taken) (l .loop .inv .3)
-    (sym (on-ring e) ∙ sym (c .before .test2 .ensures) ∙ c .if3 .taken))
-
-add-a : tie.Need-add-a Inv-loop μ-loop
-add-a c = search needs
-
-loop-less : tie.Need-loop-less Inv-loop μ-loop
-loop-less c = search needs
-
-loop-again : tie.Need-loop-again Inv-loop μ-loop
-loop-again c =
-    let l = at-loop (c .before) in
-    let i = l .loop .inv in
-    ⊎-elim
-    (λ w.
-    let e : tie.After-reaching Inv-loop μ-loop = record { before = record { before = record { before = record { before = c .before; if2 = w .0 }; reaching-arg = w .1 }; reaching-arg2 = w .2 }; reaching = w .3 } in
-    (search needs, rw (w .11) (kept-found e ∙ i .1), rw (w .12) (kept-done e ∙ i .2), below-more _ _ (i .3) (sym (on-ring e) ∙ sym (w .9 .ensures) ∙ w .10 .left)))
-    (λ w.
-    (search needs, rw (w .1) (i .1), rw (w .2) (i .2), below-more _ _ (i .3) (off-ring (asked l) (l .loop .a) (sym (c .before .test .ensures) ∙ not-false (c .before .test .result) (w .0 .left)))))
-    (c .if2 .came)
-
-same-length-7 : tie.Need-same-length-7 Inv-loop μ-loop
-same-length-7 c = search needs
-
-same-length-8 : tie.Need-same-length-8 Inv-loop μ-loop
-same-length-8 c = search needs
-
-same-length-9 : tie.Need-same-length-9 Inv-loop μ-loop
-same-length-9 c = search needs
-
-same-length-10 : tie.Need-same-length-10 Inv-loop μ-loop
-same-length-10 c = search needs
-
-returns-3 : tie.Need-returns-3 Inv-loop μ-loop
-returns-3 c =
-    let l = c .before in
-    let s = start (asked l) in
-    sym (lowest-none (s .args .n) (rings s) (λ x h. l .loop .inv .3 x (omega arith)))
+    let u = c .before .before .before in
+    let e = asked (u .before .before .before .before .before) in
+    rw (width e) at (u .lowest-unsettled .ensures)
 
 pub lowest-on-ring-spec : {M : Type 1} → statement M
 lowest-on-ring-spec =
     tie.close
     (tie.spec
-    Inv-loop
-    μ-loop
+    array-borrow-prefix-settled
+    slice-aggregate-settled
+    slice-aggregate-is-plainly-ringless
     is-plainly-ringless-requires
-    same-length
-    same-length-2
     returns
-    loop-holds
-    test-requires
-    reaching-requires
-    test-requires-2
-    same-length-3
-    same-length-4
-    same-length-5
-    same-length-6
-    returns-2
-    add-a
-    loop-less
-    loop-again
-    same-length-7
-    same-length-8
-    same-length-9
-    same-length-10
-    returns-3)
+    array-borrow-prefix-found
+    slice-aggregate-lowest-unsettled
+    array-borrow-prefix-done
+    slice-aggregate-lowest-unsettled-2
+    lowest-unsettled-requires
+    returns-2)

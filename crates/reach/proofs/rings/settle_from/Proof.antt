@@ -103,6 +103,9 @@ returns c =
     let i = at-loop (c .before .before) .loop .inv in
     (i .4, (i .5, λ t. absurd (false≢true t)))
 
+cast-path : tie.Need-cast-path Inv-loop μ-loop
+cast-path c = search needs
+
 mul-path : tie.Need-mul-path Inv-loop μ-loop
 mul-path c = search needs
 
@@ -138,6 +141,9 @@ mul-e c = search needs
 
 slice-read-e : tie.Need-slice-read-e Inv-loop μ-loop
 slice-read-e c = search needs
+
+cast-e : tie.Need-cast-e Inv-loop μ-loop
+cast-e c = omega (arith, c .slice-known4 .given (at-loop (c .before .before .before .before .before .before .before) .loop .depth - 1))
 
 add-counter : tie.Need-add-counter Inv-loop μ-loop
 add-counter c = search needs
@@ -187,6 +193,7 @@ settle-from-spec =
     same-length
     same-length-2
     returns
+    cast-path
     mul-path
     slice-write-path
     add-depth
@@ -198,6 +205,7 @@ settle-from-spec =
     sub-depth
     mul-e
     slice-read-e
+    cast-e
     add-counter
     loop-less
     loop-again

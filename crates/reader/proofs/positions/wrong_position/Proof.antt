@@ -9,28 +9,24 @@ use Rattle.rows.proofs.LowestLaws.{Searched, searched-start, searched-more, sea
 use Rattle.record.specs.Layout.{gcr1, slotAt}
 use Rattle.record.specs.History.{historyOf}
 use Rattle.record.specs.Questions.{wrongPosition}
+use Rattle.record.proofs.SoundLayout.{gcr1-sound, slot-step}
 use Rattle.record.proofs.PositionLaws.{taken-none, position-large, position-taken, position-free, taken-more, Taken}
 use Rattle.reader.proofs.positions.wrong_position.Statement.{statement}
 use Rattle.reader.proofs.positions.wrong_position.Tie as tie
 
 abbrev Inv-loop : tie.InvT-loop
-Inv-loop s n taken₀ at₀ e₀ taken at e = Searched n (wrongPosition (historyOf gcr1 s)) e × (length taken ≡ length taken₀) × Taken (historyOf gcr1 s) e taken × (at ≡ slotAt gcr1 e)
+Inv-loop s n taken₀ at₀ e₀ taken at e = Searched n (wrongPosition (historyOf gcr1 s)) e × (length taken ≡ 8) × Taken (historyOf gcr1 s) e taken × (at ≡ slotAt gcr1 e)
 
 abbrev μ-loop : tie.MeasureT-loop
 μ-loop s n taken₀ at₀ e₀ taken at e = n - e
 
 -- what was read is the position of event e
-read : (c : tie.After-u16-at Inv-loop μ-loop) → c .u16-at .result ≡ historyOf gcr1 (c .before .before .before .before .before .before .before .before .before .args .s .now) .position (c .before .before .loop .e)
+read : (c : tie.After-u16-at Inv-loop μ-loop) → c .u16-at .result ≡ historyOf gcr1 (c .before .before .before .before .args .s .now) .position (c .before .before .loop .e)
 unfolding historyOf
-read c = c .u16-at .ensures ∙ ap (λ (x : ℕ). little 2 (c .before .before .before .before .before .before .before .before .before .args .s .now) (x + 10)) (c .before .before .loop .inv .3)
-
-clear-requires : tie.Need-clear-requires Inv-loop μ-loop
-clear-requires c κs = search needs
+read c = c .u16-at .ensures ∙ ap (λ (x : ℕ). little 2 (c .before .before .before .before .args .s .now) (x + 10)) (c .before .before .loop .inv .3)
 
 loop-holds : tie.Need-loop-holds Inv-loop μ-loop
-loop-holds c =
-    let s = c .before .before .before .before .before .before in
-    (searched-start _ _, refl, taken-none (historyOf gcr1 (s .args .s .now)) (length (s .args .taken .now)) (c .before .before .clear .last .0) (c .before .before .clear .ensures), refl)
+loop-holds c = (searched-start _ _, refl, taken-none (historyOf gcr1 (c .before .args .s .now)) 8 _ refl, refl)
 
 add-u16-at : tie.Need-add-u16-at Inv-loop μ-loop
 add-u16-at c = search needs
@@ -41,26 +37,26 @@ u16-at-requires c κs = search needs
 cast-p : tie.Need-cast-p Inv-loop μ-loop
 cast-p c = search needs
 
-same-length : tie.Need-same-length Inv-loop μ-loop
-same-length c = search needs
-
 returns : tie.Need-returns Inv-loop μ-loop
 unfolding historyOf
 returns c =
     let l = c .before .before .before in
-    (searched-hit (l .loop .inv .0) (c .before .before .loop-test .taken) (position-large (historyOf gcr1 _) (l .loop .e) (c .before .u16-at .result) (l .loop .taken) (l .loop .inv .2) (read (c .before)) (omega arith)), search needs)
+    searched-hit (l .loop .inv .0) (c .before .before .loop-test .taken) (position-large (historyOf gcr1 _) (l .loop .e) (c .before .u16-at .result) (l .loop .taken) (l .loop .inv .2) (read (c .before)) (omega arith))
+
+slice-aggregate-test : tie.Need-slice-aggregate-test Inv-loop μ-loop
+slice-aggregate-test c = search needs
 
 test-requires : tie.Need-test-requires Inv-loop μ-loop
 test-requires c κs = search needs
-
-same-length-2 : tie.Need-same-length-2 Inv-loop μ-loop
-same-length-2 c = search needs
 
 returns-2 : tie.Need-returns-2 Inv-loop μ-loop
 returns-2 c =
     let l = c .before .before .before .before .before .before in
     let p = c .before .before .before .before in
-    (searched-hit (l .loop .inv .0) (p .before .loop-test .taken) (position-taken (historyOf gcr1 _) (l .loop .e) (p .u16-at .result) (l .loop .taken) (l .loop .inv .2) (read p) (sym (c .before .test .ensures) ∙ c .if2 .taken)), search needs)
+    searched-hit (l .loop .inv .0) (p .before .loop-test .taken) (position-taken (historyOf gcr1 _) (l .loop .e) (p .u16-at .result) (l .loop .taken) (l .loop .inv .2) (read p) (sym (c .before .test .ensures) ∙ c .if2 .taken))
+
+slice-aggregate-set : tie.Need-slice-aggregate-set Inv-loop μ-loop
+slice-aggregate-set c = search needs
 
 set-requires : tie.Need-set-requires Inv-loop μ-loop
 set-requires c κs = search needs
@@ -77,21 +73,18 @@ loop-less c = search needs
 loop-again : tie.Need-loop-again Inv-loop μ-loop
 unfolding historyOf
 loop-again c =
-    let d = c .before in
-    let l = d .before .before .before .before .before .before .before .before .before .before in
-    let p = d .before .before .before .before .before .before .before .before in
-    let h = historyOf gcr1 (l .before .before .before .before .before .before .before .args .s .now) in (
-      searched-more (l .loop .inv .0) (p .before .loop-test .taken) (position-free h (l .loop .e) (p .u16-at .result) (l .loop .taken) (l .loop .inv .2) (read p) (omega arith) (sym (d .before .before .before .before .before .test .ensures) ∙ d .before .before .before .before .if2 .left)),
+    let free = c .before .before .before .before in
+    let p = free .before .before .before .before in
+    let l = p .before .before in
+    let h = historyOf gcr1 (l .before .before .args .s .now) in (
+      searched-more (l .loop .inv .0) (p .before .loop-test .taken) (position-free h (l .loop .e) (p .u16-at .result) (l .loop .taken) (l .loop .inv .2) (read p) (omega arith) (sym (free .before .test .ensures) ∙ free .if2 .left)),
       search needs,
-      taken-more h (l .loop .e) (p .u16-at .result) (l .loop .taken) (l .loop .inv .2) (read p) (d .before .before .set .last .0) (d .before .before .set .ensures) (search needs),
-      c .next-slot .ensures (l .loop .e) (l .loop .inv .3),
+      taken-more h (l .loop .e) (p .u16-at .result) (l .loop .taken) (l .loop .inv .2) (read p) (c .before .before .set .last .0) (c .before .before .set .ensures) (search needs),
+      slot-step gcr1 gcr1-sound (l .loop .e) (l .loop .at) _ (l .loop .inv .3) (c .next-slot .ensures),
     )
 
-same-length-3 : tie.Need-same-length-3 Inv-loop μ-loop
-same-length-3 c = search needs
-
 returns-3 : tie.Need-returns-3 Inv-loop μ-loop
-returns-3 c = (searched-end (c .before .loop .inv .0) (c .loop-test .left), search needs)
+returns-3 c = searched-end (c .before .loop .inv .0) (c .loop-test .left)
 
 pub wrong-position-spec : {M : Type 1} → statement M
 wrong-position-spec =
@@ -99,20 +92,18 @@ wrong-position-spec =
     (tie.spec
     Inv-loop
     μ-loop
-    clear-requires
     loop-holds
     add-u16-at
     u16-at-requires
     cast-p
-    same-length
     returns
+    slice-aggregate-test
     test-requires
-    same-length-2
     returns-2
+    slice-aggregate-set
     set-requires
     next-slot-requires
     add-e
     loop-less
     loop-again
-    same-length-3
     returns-3)

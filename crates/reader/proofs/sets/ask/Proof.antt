@@ -1,107 +1,203 @@
--- `reader::sets::ask` meets its contract: rings are looked for once question 9 got a yes, which keeps the rows below n. Assumes nothing.
-use mathlib.Core.Path.{_≡_, sym, _∙_, subst}
+-- `reader::sets::ask` meets its contract: rings are looked for once question 9 got a yes, which keeps the rows below n. The words that the sets do not fill are
+-- cleared at the end, and all of them where a question gets a no. Assumes nothing.
+use mathlib.Core.Path.{_≡_, refl, sym, _∙_}
 use mathlib.Core.Bool.{false}
-use Prim.Native.Nat.{ℕ, _<_}
+use mathlib.Core.List.{List, _++_}
+use Prim.Native.Nat.{ℕ, _+_, _*_, _<_, _≤_, min}
 use native.Mathlib.Omega.{arith}
 use borrow.Author.Needs.{needs}
-use lib.ListN.{length}
+use lib.ListN.{length, take, drop, replicate}
 use Rattle.rows.specs.Lowest.{lowest}
-use Rattle.rows.specs.Relation.{Rel, reaches, related}
+use Rattle.rows.specs.Relation.{Rel}
 use Rattle.record.specs.declared.Reading.the-variants.{Passed, WrongSet, OnRing}
 use Rattle.record.specs.Layout.{gcr1}
+use Rattle.record.specs.History.{historyOf, vis}
 use Rattle.record.specs.Questions.{wrongSet, onRing, askEach, setQuestions}
+use Rattle.record.specs.Words.{slotWords, workAfter}
+use Rattle.record.proofs.StoresLaws.{Bytes}
 use Rattle.record.proofs.AskLaws.{each-yes, each-found, each-past, none-past}
-use Rattle.record.proofs.SetLaws.{sets-graph}
+use Rattle.record.proofs.SlotWords.{length-slot-words}
+use Rattle.record.proofs.SetLaws.{loaded-graph, loaded-ring}
+use Rattle.record.proofs.WorkLaws.{zero-first, loaded-past, visible-cleared, work-refused, work-passed}
 use Rattle.reader.proofs.sets.ask.Statement.{statement}
 use Rattle.reader.proofs.sets.ask.Tie as tie
 
--- the places on the way, by name
-abbrev sets-asked : tie.After-lowest-on-ring → tie.Else1
-sets-asked c = c .before .before .before .before .before
+-- what is asked of
+abbrev start : tie.After-load-sets → tie.Start
+start c = c .before .before .before .before
 
-abbrev start : tie.Else1 → tie.Start
-start c = c .before .before .before .before .before
+abbrev bytes : tie.After-load-sets → List ℕ
+bytes c = start c .args .s .now
 
-abbrev vis : tie.Start → Rel
-vis c = related (c .args .table .now) 4
+abbrev sees : tie.After-load-sets → Rel
+sees c = vis (historyOf gcr1 (bytes c))
+
+range : (c : tie.After-load-sets) → Bytes (bytes c)
+range c i = c .before .before .before .shared-slice-known .given i .fits
+
+-- the table with the sets, as far as they are loaded: the words behind are as they were
+abbrev table : tie.After-load-sets → List ℕ
+table c = c .load-sets .last .1 .1 .0
+
+long : (c : tie.After-load-sets) → 1024 ≤ length (table c)
+long c = search needs
+
+past : (c : tie.After-load-sets) → drop 1024 (table c) ≡ drop 1024 (start c .args .table .now)
+past c =
+    let k : ℕ = min (start c .args .n) (c .load-sets .result + 1) in
+    loaded-past (slotWords gcr1 32 4 (bytes c) k) (start c .args .table .now) (table c) (k * 4) 1024 (c .load-sets .ensures .1)
+    (length-slot-words gcr1 32 4 (bytes c) k) (omega arith)
+
+-- a no: all words cleared
+cleared : (c : tie.After-load-sets) (number : ℕ) (z : List ℕ) → 3 ≤ number → z ≡ replicate (length (take 1024 (table c))) 0
+    → z ++ drop 1024 (table c) ≡ workAfter gcr1 number (bytes c) (start c .args .table .now)
+cleared c number z h q =
+    let t = start c .args .table .now in
+    work-refused gcr1 number (bytes c) t (z ++ drop 1024 (table c)) h (zero-first 1024 t (table c) z (long c) (past c) q)
 
 -- question 9 got a yes
-no-wrong-set : (c : tie.Else1) → (e : ℕ) → e < start c .args .n → wrongSet 4 (start c .args .n) (vis (start c)) e ≡ false
-no-wrong-set c =
-    let w = c .before .before in
-    let n = start c .args .n in
-    none-past n (wrongSet 4 n (vis (start c))) (w .wrong-set .result) (w .wrong-set .ensures .0) (c .if1 .left)
+abbrev loaded : tie.Else1 → tie.After-load-sets
+loaded c = c .before .before .before
 
-to-rings : (c : tie.Else1) → setQuestions gcr1 (start c .args .n) (vis (start c)) ≡ askEach (start c .args .n) (onRing (start c .args .n) (vis (start c))) OnRing Passed
+all : (c : tie.Else1) → table (loaded c) ≡ slotWords gcr1 32 4 (bytes (loaded c)) (start (loaded c) .args .n) ++ drop (start (loaded c) .args .n * 4) (start (loaded c) .args .table .now)
+all c =
+    let l = loaded c in
+    let n = start l .args .n in
+    let m : min n (l .load-sets .result + 1) ≡ n = omega arith in
+    rw m at (l .load-sets .ensures .1)
+
+right : (c : tie.Else1) → (e : ℕ) → e < start (loaded c) .args .n → wrongSet 4 (start (loaded c) .args .n) (sees (loaded c)) e ≡ false
+right c =
+    let l = loaded c in
+    none-past (start l .args .n) (wrongSet 4 (start l .args .n) (sees l)) (l .load-sets .result) (l .load-sets .ensures .0) (c .if1 .left)
+
+to-rings : (c : tie.Else1)
+    → let n = start (loaded c) .args .n in
+    setQuestions gcr1 n (sees (loaded c)) ≡ askEach n (onRing n (sees (loaded c))) OnRing Passed
 unfolding setQuestions
-to-rings c = let n = start c .args .n in each-yes n (wrongSet 4 n (vis (start c))) WrongSet _ (no-wrong-set c)
+to-rings c = let n = start (loaded c) .args .n in each-yes n (wrongSet 4 n (sees (loaded c))) WrongSet _ (right c)
 
--- the row that was lent is as wide as it was
-width : (c : tie.Else1) → length (c .before .before .wrong-set .last .1 .1 .0) ≡ 4
-width c = c .before .before .wrong-set .ensures .1
-
-ring : (c : tie.After-lowest-on-ring) → c .lowest-on-ring .result ≡ lowest (start (sets-asked c) .args .n) (onRing (start (sets-asked c) .args .n) (vis (start (sets-asked c))))
-unfolding onRing
+ring : (c : tie.After-lowest-on-ring)
+    → let l = loaded (c .before .before) in
+    c .lowest-on-ring .result ≡ lowest (start l .args .n) (onRing (start l .args .n) (sees l))
 ring c =
-    let s = start (sets-asked c) in
-    subst (λ w. c .lowest-on-ring .result ≡ lowest (s .args .n) (λ a. reaches (s .args .n) (related (s .args .table .now) w) a a)) (width (sets-asked c)) (c .lowest-on-ring .ensures)
+    let e = c .before .before in
+    let l = loaded e in
+    c .lowest-on-ring .ensures ∙ loaded-ring gcr1 (bytes l) (range l) (start l .args .n) _ (table l) (all e) (search needs) (right e)
 
-slice-aggregate-wrong-set : tie.Need-slice-aggregate-wrong-set
-slice-aggregate-wrong-set c = search needs
+load-sets-requires : tie.Need-load-sets-requires
+load-sets-requires c κs = search needs
 
-wrong-set-requires : tie.Need-wrong-set-requires
-wrong-set-requires c κs = search needs
+sub-clear : tie.Need-sub-clear
+sub-clear c = search needs
+
+part-clear-start : tie.Need-part-clear-start
+part-clear-start c = search needs
+
+part-clear-end : tie.Need-part-clear-end
+part-clear-end c = search needs
+
+clear-requires : tie.Need-clear-requires
+clear-requires c κs = search needs
+
+same-length : tie.Need-same-length
+same-length c = search needs
 
 returns : tie.Need-returns
 unfolding setQuestions
 returns c =
-    let w = c .before .before in
-    let s = w .before .before .before in
-    sym (each-found (s .args .n) (wrongSet 4 (s .args .n) (vis s)) WrongSet _ (w .wrong-set .result) (w .wrong-set .ensures .0) (c .if1 .taken))
-
-slice-aggregate-lowest-on-ring : tie.Need-slice-aggregate-lowest-on-ring
-slice-aggregate-lowest-on-ring c = search needs
-
-slice-aggregate-lowest-on-ring-2 : tie.Need-slice-aggregate-lowest-on-ring-2
-slice-aggregate-lowest-on-ring-2 c = search needs
-
-slice-aggregate-lowest-on-ring-3 : tie.Need-slice-aggregate-lowest-on-ring-3
-slice-aggregate-lowest-on-ring-3 c = search needs
-
-slice-aggregate-lowest-on-ring-4 : tie.Need-slice-aggregate-lowest-on-ring-4
-slice-aggregate-lowest-on-ring-4 c = search needs
+    let t = c .before .before .before .before in
+    let l = t .before .before .before in
+    let n = start l .args .n in
+    (sym (each-found n (wrongSet 4 n (sees l)) WrongSet _ (l .load-sets .result) (l .load-sets .ensures .0) (t .if1 .taken)), cleared l 9 _ (omega arith) (c .before .before .clear .ensures))
 
 lowest-on-ring-requires : tie.Need-lowest-on-ring-requires
 lowest-on-ring-requires c κs =
-    let e = c .before .before .before .before in
-    let a = start e .args in
-    (rw (width e) (sets-graph (a .table .now) (a .n) 4 (omega arith) (omega arith) (omega arith) (no-wrong-set e)), (sym (width e), sym (width e), search needs))
+    let e = c .before in
+    let l = loaded e in
+    (loaded-graph gcr1 (bytes l) (range l) (start l .args .n) _ (table l) (all e) (omega arith) (right e) (omega arith), omega arith)
+
+sub-clear-2 : tie.Need-sub-clear-2
+sub-clear-2 c = search needs
+
+part-clear-start-2 : tie.Need-part-clear-start-2
+part-clear-start-2 c = search needs
+
+part-clear-end-2 : tie.Need-part-clear-end-2
+part-clear-end-2 c = search needs
+
+clear-requires-2 : tie.Need-clear-requires-2
+clear-requires-2 c κs = search needs
+
+same-length-2 : tie.Need-same-length-2
+same-length-2 c = search needs
 
 returns-2 : tie.Need-returns-2
 returns-2 c =
-    let r = c .before .before .before .before .before in
-    let e = sets-asked r in
-    let n = start e .args .n in
-    sym (to-rings e ∙ each-found n (onRing n (vis (start e))) OnRing Passed (r .lowest-on-ring .result) (ring r) (c .if2 .taken))
+    let t = c .before .before .before .before in
+    let r = t .before in
+    let e = r .before .before in
+    let l = loaded e in
+    let n = start l .args .n in
+    (sym (to-rings e ∙ each-found n (onRing n (sees l)) OnRing Passed (r .lowest-on-ring .result) (ring r) (t .if2 .taken)), cleared l 10 _ (omega arith) (c .before .before .clear2 .ensures))
+
+mul-at : tie.Need-mul-at
+mul-at c = search needs
+
+mul-clear : tie.Need-mul-clear
+mul-clear c = search needs
+
+sub-clear-3 : tie.Need-sub-clear-3
+sub-clear-3 c = search needs
+
+part-clear-start-3 : tie.Need-part-clear-start-3
+part-clear-start-3 c = search needs
+
+part-clear-end-3 : tie.Need-part-clear-end-3
+part-clear-end-3 c = search needs
+
+clear-requires-3 : tie.Need-clear-requires-3
+clear-requires-3 c κs = search needs
+
+same-length-3 : tie.Need-same-length-3
+same-length-3 c = search needs
 
 returns-3 : tie.Need-returns-3
 returns-3 c =
-    let r = c .before .before .before .before .before in
-    let e = sets-asked r in
-    let n = start e .args .n in
-    sym (to-rings e ∙ each-past n (onRing n (vis (start e))) OnRing Passed (r .lowest-on-ring .result) (ring r) (c .if2 .left))
+    let k = c .before .before .before .before in
+    let r = k .before in
+    let e = r .before .before in
+    let l = loaded e in
+    let a = start l .args in
+    let n = a .n in (
+      sym (to-rings e ∙ each-past n (onRing n (sees l)) OnRing Passed (r .lowest-on-ring .result) (ring r) (k .if2 .left)),
+      work-passed gcr1 0 (bytes l) (a .table .now) _ refl
+          (visible-cleared gcr1 (bytes l) (omega arith) n (a .table .now) (table l) _ (start l .pre .0 .0) (all e) (long l) (c .before .before .clear3 .ensures)),
+    )
 
 pub ask-spec : {M : Type 1} → statement M
 ask-spec =
     tie.close
     (tie.spec
-    slice-aggregate-wrong-set
-    wrong-set-requires
+    load-sets-requires
+    sub-clear
+    part-clear-start
+    part-clear-end
+    clear-requires
+    same-length
     returns
-    slice-aggregate-lowest-on-ring
-    slice-aggregate-lowest-on-ring-2
-    slice-aggregate-lowest-on-ring-3
-    slice-aggregate-lowest-on-ring-4
     lowest-on-ring-requires
+    sub-clear-2
+    part-clear-start-2
+    part-clear-end-2
+    clear-requires-2
+    same-length-2
     returns-2
+    mul-at
+    mul-clear
+    sub-clear-3
+    part-clear-start-3
+    part-clear-end-3
+    clear-requires-3
+    same-length-3
     returns-3)

@@ -6,6 +6,7 @@ use borrow.Author.Needs.{needs}
 use Rattle.rows.proofs.LowestLaws.{Searched, searched-start, searched-more, searched-hit, searched-end}
 use Rattle.record.specs.Layout.{gcr1, slotAt}
 use Rattle.record.specs.Slots.{slotRight}
+use Rattle.record.proofs.SoundLayout.{gcr1-sound, slot-step}
 use Rattle.reader.proofs.slots.wrong_slot.Statement.{statement}
 use Rattle.reader.proofs.slots.wrong_slot.Tie as tie
 
@@ -44,7 +45,7 @@ loop-less c = search needs
 loop-again : tie.Need-loop-again Inv-loop μ-loop
 loop-again c =
     let l = c .before .before .before .before in
-    (searched-more (l .loop .inv .0) (c .before .before .before .loop-test .taken) (rw (c .before .before .slot-holds .ensures) at (c .before .if1 .left)), c .next-slot .ensures (l .loop .e) (l .loop .inv .1))
+    (searched-more (l .loop .inv .0) (c .before .before .before .loop-test .taken) (rw (c .before .before .slot-holds .ensures) at (c .before .if1 .left)), slot-step gcr1 gcr1-sound (l .loop .e) (l .loop .at) _ (l .loop .inv .1) (c .next-slot .ensures))
 
 returns-2 : tie.Need-returns-2 Inv-loop μ-loop
 returns-2 c = searched-end (c .before .loop .inv .0) (c .loop-test .left)

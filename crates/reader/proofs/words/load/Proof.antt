@@ -10,6 +10,7 @@ use Rattle.rows.specs.Octets.{words}
 use Rattle.rows.proofs.TableLaws.{row-room, length-row}
 use Rattle.record.specs.Layout.{gcr1, slotAt}
 use Rattle.record.specs.Words.{slotWords}
+use Rattle.record.proofs.SoundLayout.{gcr1-sound, slot-step}
 use Rattle.record.proofs.SlotWords.{slot-words-none, slot-words-put}
 use Rattle.reader.proofs.words.load.Statement.{statement}
 use Rattle.reader.proofs.words.load.Tie as tie
@@ -71,7 +72,7 @@ loop-again c =
       search needs,
       rw add-sub-cancel-left (slot-words-put gcr1 (a .off) (a .w) (a .s .now) (l .e) (a .out .now) (l .out) (c .before .before .before .load .last .0) (l .inv .2)
           (c .before .before .before .load .ensures ∙ ap₂ (λ k p. words k (a .s .now) (p + a .off)) (rw add-sub-cancel-left (length-row (l .out) (a .w) (l .e) (room i))) (l .inv .3))),
-      c .next-slot .ensures (l .e) (l .inv .3),
+      slot-step gcr1 gcr1-sound (l .e) (l .slot) _ (l .inv .3) (c .next-slot .ensures),
     )
 
 same-length : tie.Need-same-length Inv-loop μ-loop

@@ -1,6 +1,6 @@
--- `rehearsal::copies::outstanding` meets its contract: it is at most the product that something is taken from. Assumes nothing.
+-- `rehearsal::copies::outstanding` meets its contract: the puts times the other sites, less the deliveries, which may be more. Assumes nothing.
 use Prim.Native.Nat.{_-_}
-use native.Mathlib.Nat.{mul-le-mul-right, sub-le}
+use native.Mathlib.Nat.{mul-le-mul-right}
 use native.Mathlib.Omega.{arith}
 use borrow.Author.Needs.{needs}
 use Rattle.rehearsal.proofs.copies.outstanding.Statement.{statement}
@@ -16,10 +16,10 @@ mul-all : tie.Need-mul-all
 mul-all c = omega (arith, mul-le-mul-right (c .before .args .n - 1) (c .puts .ensures .0))
 
 returns : tie.Need-returns
-returns c = search needs
+returns c = rw (← (c .before .puts .ensures .1)) (omega arith)
 
 returns-2 : tie.Need-returns-2
-returns-2 c = λ st h. rw (← (c .before .puts .ensures .1 st h)) (sub-le _ _)
+returns-2 c = rw (← (c .before .puts .ensures .1)) (omega arith)
 
 pub outstanding-spec : {M : Type 1} → statement M
 outstanding-spec = tie.close (tie.spec puts-requires sub-all mul-all returns returns-2)

@@ -2,12 +2,12 @@
 use mathlib.Core.Bool.{true, false}
 use mathlib.Core.List.{List}
 use mathlib.Core.Logic.{⊎-elim}
-use mathlib.Core.Path.{_≡_, sym, ap, _∙_}
+use mathlib.Core.Path.{_≡_, refl, sym, ap, _∙_}
 use Prim.Native.Nat.{ℕ, _≤_, _-_}
 use native.Mathlib.Omega.{arith}
 use lib.ListN.{getD}
 use Rattle.calls.specs.Mirror.{eventOf}
-use Rattle.rehearsal.specs.Arrays.{pastEvent}
+use Rattle.rehearsal.specs.Arrays.{pastEvent, ranStore}
 use Rattle.calls.specs.declared.KeptEvent.{KeptEvent}
 use Rattle.store.specs.Rehearsal.{puts}
 use Rattle.store.specs.Store.{Event}
@@ -56,9 +56,8 @@ returns : tie.Need-returns Inv-loop μ-loop
 returns c =
     let l = c .before .loop in
     let ran = c .before .before .before .args .ran in
-    let f : ℕ → Event = kept (ran .events) in
     let all : l .i ≡ ran .count = omega arith in
-    (omega arith, λ st h. l .inv .1 .1 ∙ ap (puts f) all ∙ puts-same f (st .event) (ran .count) (λ e k. ap (λ (x : Event). x .isPut) (h .event e k)) ∙ ap (puts (st .event)) (h .count))
+    (omega arith, l .inv .1 .1 ∙ ap (puts (kept (ran .events))) all ∙ puts-same (kept (ran .events)) (ranStore ran .event) (ran .count) (λ e k. refl))
 
 pub puts-spec : {M : Type 1} → statement M
 puts-spec =

@@ -6,6 +6,7 @@ use native.Mathlib.Omega.{arith}
 use Rattle.record.specs.Layout.{gcr1}
 use Rattle.record.specs.Encode.{withSlots}
 use Rattle.store.specs.Recorded.{recorded}
+use Rattle.rehearsal.specs.Arrays.{ranStore}
 use Rattle.rehearsal.proofs.ImageLaws.{Slotted, slotted-none, slotted-more}
 use Rattle.rehearsal.proofs.image.put_slots.Statement.{statement}
 use Rattle.rehearsal.proofs.image.put_slots.Tie as tie
@@ -17,7 +18,7 @@ abbrev μ-loop : tie.MeasureT-loop
 μ-loop rec₀ positions events sees count k₀ rec k = count - k
 
 positions-requires : tie.Need-positions-requires Inv-loop μ-loop
-positions-requires c κs = c .before .pre .0
+positions-requires c κs = (c .before .pre .0, c .before .pre .1 .0)
 
 loop-holds : tie.Need-loop-holds Inv-loop μ-loop
 loop-holds c = let g = c .before .before .before .before .args in slotted-none (g .ran .count) (g .ran .events) (g .ran .sees) (g .rec .now)
@@ -62,8 +63,8 @@ loop-again c =
     let positions = l .before .before .before in
     let start = positions .before .before in
     let g = start .args in
-    slotted-more (g .ran .count) (g .ran .events) (g .ran .sees) (g .rec .now) (start .pre .0) (positions .positions .result) (positions .positions .ensures)
-    (l .loop .k) (inside .loop-test .taken) (row .row-of .result) (row .row-of .ensures) (slot .slot .result) (slot .slot .ensures)
+    slotted-more (g .ran .count) (g .ran .events) (g .ran .sees) (g .rec .now) (start .pre .0)
+    (l .loop .k) (inside .loop-test .taken) _ (positions .positions .ensures (l .loop .k)) (row .row-of .result) (row .row-of .ensures) (slot .slot .result) (slot .slot .ensures)
     (l .loop .rec) (put .put-slot .last .0) (l .loop .inv) (put .put-slot .kept .0) (put .put-slot .ensures)
 
 same-length : tie.Need-same-length Inv-loop μ-loop
@@ -74,7 +75,7 @@ returns c =
     let l = c .before .loop in
     let g = c .before .before .before .before .before .before .args in
     let all : l .k ≡ g .ran .count = omega (arith, l .inv .within) in
-    λ st h d. l .inv .written st h d ∙ ap (λ (i : ℕ). withSlots gcr1 (recorded st) i (g .rec .now)) all
+    l .inv .written ∙ ap (λ (i : ℕ). withSlots gcr1 (recorded (ranStore (g .ran))) i (g .rec .now)) all
 
 pub put-slots-spec : {M : Type 1} → statement M
 put-slots-spec =

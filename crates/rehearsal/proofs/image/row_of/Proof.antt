@@ -1,6 +1,4 @@
 -- `rehearsal::image::row_of` meets its contract: the words of the row, one by one. Assumes nothing.
-use mathlib.Core.Path.{ap}
-use Rattle.rows.specs.Row.{has}
 use Rattle.rehearsal.proofs.ImageLaws.{four-words}
 use borrow.Author.Needs.{needs}
 use Rattle.rehearsal.proofs.image.row_of.Statement.{statement}
@@ -43,7 +41,7 @@ shared-slice-read-t18 : tie.Need-shared-slice-read-t18
 shared-slice-read-t18 c = search needs
 
 returns : tie.Need-returns
-returns c = ap has (four-words (c .before .before .before .before .args .sees .now) (c .before .before .before .before .args .k) (c .before .before .before .before .pre))
+returns c = four-words (c .before .before .before .before .args .sees .now) (c .before .before .before .before .args .k) (c .before .before .before .before .pre)
 
 pub row-of-spec : {M : Type 1} → statement M
 row-of-spec =

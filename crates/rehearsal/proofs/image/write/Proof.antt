@@ -1,6 +1,8 @@
 -- `rehearsal::image::write` meets its contract: zero bytes, block 0, the slots and the checks. Assumes nothing.
 use mathlib.Core.Path.{refl}
 use borrow.Author.Needs.{needs}
+use native.Mathlib.Omega.{arith}
+use Rattle.rehearsal.specs.Arrays.{ranStore}
 use Rattle.rehearsal.proofs.ImageLaws.{image-written}
 use Rattle.rehearsal.proofs.image.write.Statement.{statement}
 use Rattle.rehearsal.proofs.image.write.Tie as tie
@@ -21,7 +23,11 @@ header-requires : tie.Need-header-requires
 header-requires c κs = search needs
 
 put-slots-requires : tie.Need-put-slots-requires
-put-slots-requires c κs = search needs
+put-slots-requires c κs =
+    let header = c .before .before .before in
+    let clear = header .before .before .before .before in
+    let start = clear .before .before .before in
+    (start .pre .0, (start .pre .1 .0, omega arith))
 
 seal-requires : tie.Need-seal-requires
 seal-requires c κs = search needs
@@ -40,7 +46,7 @@ returns c =
     let clear = header .before .before .before .before in
     let g = clear .before .before .before .args in (
       refl,
-      image-written (g .n) (g .ran .count) (g .ran .events) (g .ran .sees) _ (g .rec .now) _ _ _ _ refl (clear .clear .ensures) (header .header .ensures)
+      image-written (g .n) (ranStore (g .ran)) _ (g .rec .now) _ _ _ _ refl (clear .clear .ensures) (header .header .ensures)
           (slots .put-slots .ensures) (seal .seal .ensures),
     )
 

@@ -6,7 +6,8 @@ use native.Mathlib.Omega.{arith}
 use lib.ListN.{length}
 use borrow.Author.Needs.{needs}
 use borrow.Author.Tests.{not-true, not-false}
-use Rattle.rehearsal.proofs.RunLaws.{Turned, turned-none, count-few, Turn, keptSite, keptEvent, Right, Delivered, Makes, is-refused, is-early, is-delivered, is-made, delivers, makes, carried, turned-refused, turned-delivered, turned-made, whole-answers, whole-stands}
+use Rattle.store.proofs.WholeList.{deliveries-most}
+use Rattle.rehearsal.proofs.RunLaws.{Turned, turned-none, count-few, Turn, keptSite, keptEvent, Right, Delivered, Makes, is-refused, is-early, is-delivered, is-made, delivers, makes, carried, turned-refused, turned-delivered, turned-made, whole-answers, whole-ends}
 use Rattle.rehearsal.proofs.run.run.Statement.{statement}
 use Rattle.rehearsal.proofs.run.run.Tie as tie
 
@@ -199,7 +200,10 @@ learn-requires c κs =
     (l .inv .sized .known, l .inv .sized .sees, omega arith, omega arith)
 
 add-deliveries : tie.Need-add-deliveries Inv-loop μ-loop
-add-deliveries c = omega (arith, few (c .before .before .before .before .before .before .before .before .before .before .before .before .before .before .before .before .before), turn (c .before .before .before .before .before .before .before .before .before .before .before .before .before .before .before .before .before) .loop .inv .few)
+add-deliveries c =
+    let h = c .before .before .before .before .before .before .before .before .before .before .before .before .before .before .before .before .before in
+    let l = turn h .loop in
+    omega (arith, few h, l .inv .delivered, deliveries-most (l .k) (entry h .args .n) (entry h .args .script .now))
 
 mul-write-3 : tie.Need-mul-write-3 Inv-loop μ-loop
 mul-write-3 c = omega (arith, few (c .before .before .before .before .before .before .before .before .before .before .before .before .before .before .before .before .before .before))
@@ -306,7 +310,7 @@ returns c =
     let l = c .before .loop in
     let all : l .k ≡ length (g .script .now) / 8 = omega (arith, l .inv .within) in (
       whole-answers (g .n) (g .script .now) (g .out .now) (l .out) _ (l .deliveries) (l .k) (l .inv) all (c .before .before .before .before .before .before .before .pre .1 .0),
-      whole-stands (g .n) (g .script .now) (g .out .now) (l .out) _ (l .deliveries) (l .k) (l .inv) all,
+      whole-ends (g .n) (g .script .now) (g .out .now) (l .out) _ (l .deliveries) (l .k) (l .inv) all,
     )
 
 pub run-spec : {M : Type 1} → statement M

@@ -3,7 +3,6 @@ use mathlib.Core.Logic.{⊎-elim}
 use mathlib.Core.Path.{_≡_}
 use Rattle.calls.specs.Mirror.{shownOf}
 use Rattle.store.specs.Rules.{valueOr0}
-use Rattle.rehearsal.proofs.EventLaws.{slot-of}
 use borrow.Author.Needs.{needs}
 use Rattle.rehearsal.proofs.slots.slot.Statement.{statement}
 use Rattle.rehearsal.proofs.slots.slot.Tie as tie
@@ -28,7 +27,7 @@ returns c =
     let g = c .before .before .before .args in
     let shown : c .before .before .if1 .value ≡ valueOr0 (shownOf (g .e .present) (g .e .value)) =
     ⊎-elim (λ w. rw (w .0 .taken) (w .1)) (λ w. rw (w .0 .left) (w .1)) (c .before .before .if1 .came) in
-    λ st small h p. slot-of st (g .k) (g .e) (g .sees) (g .position) (c .before .before .if1 .value) shown small h p
+    rw shown
 
 pub slot-spec : {M : Type 1} → statement M
 slot-spec = tie.close (tie.spec cast-t8 cast-t10 mul-t12 mul-t14 add-t15 returns)

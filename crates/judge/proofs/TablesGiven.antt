@@ -1,0 +1,124 @@
+-- The judge's six tables in their slice, as parts of it are lent and given back: swept, closed, and filled with ar. Assumes nothing.
+use mathlib.Core.Path.{_≡_, sym, ap, _∙_}
+use mathlib.Core.List.{List, _++_, append-assoc}
+use Prim.Native.Nat.{ℕ, _+_, _-_, _*_, _≤_, _<_}
+use native.Mathlib.Nat.{add-sub-cancel-left}
+use native.Mathlib.Omega.{arith}
+use lib.ListN.{length, take, drop, length-append}
+use lib.Seq.{length-take-le, drop-at, drop-drop}
+use Rattle.rows.specs.Row.{rowAt, RowPut}
+use Rattle.rows.specs.Relation.{Table, Graph, Filled, reaches, related}
+use Rattle.rows.proofs.TableLaws.{putRow, length-put, row-put-same, row-put-other}
+use Rattle.rows.proofs.SliceLaws.{sliceAt, slice-row, length-slice, giveBack}
+use Rattle.rows.proofs.ReachLaws.{table-graph}
+use Rattle.reach.proofs.FilledLaws.{table-closed}
+use Rattle.record.specs.History.{History}
+use Rattle.record.specs.Words.{historyFrom}
+use Rattle.consistency.specs.Relations.{ar, step, hb}
+use Rattle.events.specs.Given.{Given, fieldsOf}
+use Rattle.tables.specs.Tables.{part, Prepared}
+use Rattle.tables.specs.Sweep.{Sweeps}
+use Rattle.judge.proofs.PreparedLaws.{fields-ars}
+
+-- lists that are the same from j on are so from k on
+pub same-later : (j k : ℕ) (x y : List ℕ) → j ≤ k → drop j x ≡ drop j y → drop k x ≡ drop k y
+same-later j k x y h e =
+    let on : k ≡ j + (k - j) = omega arith in
+    ap (λ (i : ℕ). drop i x) on ∙ sym (drop-drop (k - j) j x) ∙ ap (drop (k - j)) e ∙ drop-drop (k - j) j y ∙ ap (λ (i : ℕ). drop i y) (sym on)
+
+-- ---- a row of w words that is given back
+
+module _ (w c : ℕ) (g m : List ℕ) (wide : length m ≡ w) (room : c * w + w ≤ length g) where
+  given : giveBack g w c m ≡ putRow g w c m
+  given = rw add-sub-cancel-left
+
+  pub row-back : RowPut w c m g (giveBack g w c m)
+  row-back = record {
+    size = ap length given ∙ length-put g w c m wide room;
+    same = ap (λ (x : List ℕ). rowAt x w c) given ∙ row-put-same g w c m wide room;
+    other = λ d ne. ap (λ (x : List ℕ). rowAt x w d) given ∙ row-put-other g w c m wide room d ne;
+  }
+
+  -- what stands after it stays
+  pub rest-back : (k : ℕ) → c * w + w ≤ k → drop k (giveBack g w c m) ≡ drop k g
+  rest-back k h =
+      let a : ℕ = c * w in
+      let front : List ℕ = take a g ++ m in
+      let long : length front ≡ a + w = length-append (take a g) m ∙ omega (arith, length-take-le a g (omega arith)) in
+      let left : giveBack g w c m ≡ front ++ drop (a + w) g =
+      rw add-sub-cancel-left (sym (append-assoc (take a g) m (drop w (drop a g))) ∙ ap (λ (r : List ℕ). front ++ r) (drop-drop w a g)) in
+      let split : k ≡ a + w + (k - (a + w)) = omega arith in
+      ap (drop k) left
+      ∙ ap (λ (j : ℕ). drop j (front ++ drop (a + w) g)) split
+      ∙ sym (drop-drop (k - (a + w)) (a + w) (front ++ drop (a + w) g))
+      ∙ ap (drop (k - (a + w))) (drop-at front (drop (a + w) g) (a + w) long)
+      ∙ drop-drop (k - (a + w)) (a + w) g
+      ∙ ap (λ (j : ℕ). drop j g) (sym split)
+
+-- ---- the tables, after the sweep
+
+module _ (n : ℕ) (l v t : List ℕ) (g : Given n 4 l v) (sw : Sweeps n 4 l v t) (size : 6 * (n * 4) ≤ length t) where
+  abbrev h : History
+  h = historyFrom n 4 l v
+
+  -- tables 4 and 5 as they are lent
+  abbrev steps : List ℕ
+  steps = sliceAt t (n * 4) 4
+
+  steps-hold : Table n 4 (step h) steps
+  steps-hold = rw (slice-row t (n * 4) 4) (sw .steps)
+
+  steps-long : length steps ≡ n * 4
+  steps-long = length-slice t (n * 4) 4 (omega arith)
+
+  pub steps-graph : Graph steps n 4
+  steps-graph = table-graph n 4 (step h) steps steps-hold (omega (arith, steps-long)) (g .rows .wide) (omega arith)
+
+  module _ (closed : List ℕ) (fill : Filled n 4 (reaches n (related steps 4)) steps closed) where
+    abbrev t₂ : List ℕ
+    t₂ = giveBack t (n * 4) 4 closed
+
+    closed-long : length closed ≡ n * 4
+    closed-long = fill .size ∙ steps-long
+
+    second : RowPut (n * 4) 4 closed t t₂
+    second = row-back (n * 4) 4 t closed closed-long (omega arith)
+
+    abbrev positions : List ℕ
+    positions = sliceAt t₂ (n * 4) 5
+
+    pub positions-long : length positions ≡ n * 4
+    positions-long = length-slice t₂ (n * 4) 5 (omega (arith, second .size))
+
+    module _ (placed : List ℕ) (fill₅ : Filled n 4 (ar (fieldsOf l)) positions placed) where
+      abbrev t₃ : List ℕ
+      t₃ = giveBack t₂ (n * 4) 5 placed
+
+      placed-long : length placed ≡ n * 4
+      placed-long = fill₅ .size ∙ positions-long
+
+      third : RowPut (n * 4) 5 placed t₂ t₃
+      third = row-back (n * 4) 5 t₂ placed placed-long (omega (arith, second .size))
+
+      kept : (k : ℕ) → k < 4 → part n 4 k t₃ ≡ part n 4 k t
+      kept k i = third .other k (λ e. omega arith) ∙ second .other k (λ e. omega arith)
+
+      pub tables-ready : Prepared n 4 h t₃
+      unfolding hb historyFrom
+      tables-ready = record {
+        size = omega (arith, third .size, second .size);
+        timed = record {
+          rbs = rw (kept 0 (omega arith)) (sw .timed .rbs);
+          sos = rw (kept 1 (omega arith)) (sw .timed .sos);
+          middles = rw (kept 2 (omega arith)) (sw .timed .middles);
+          objects = rw (kept 3 (omega arith)) (sw .timed .objects);
+        };
+        hbs = rw (third .other 4 (λ e. omega arith), second .same) (table-closed n 4 (step h) steps closed steps-hold fill);
+        ars = rw (third .same) (fields-ars n l v placed (fill₅ .table));
+      }
+
+      pub tables-size : length t₃ ≡ length t
+      tables-size = third .size ∙ second .size
+
+      pub tables-rest : drop (6 * (n * 4)) t₃ ≡ drop (6 * (n * 4)) t
+      tables-rest = rest-back (n * 4) 5 t₂ placed placed-long (omega (arith, second .size)) (6 * (n * 4)) (omega arith) ∙ rest-back (n * 4) 4 t closed closed-long (omega arith) (6 * (n * 4)) (omega arith)

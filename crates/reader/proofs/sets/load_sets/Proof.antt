@@ -1,0 +1,214 @@
+-- `reader::sets::load_sets` meets its contract: the sets of the events passed are loaded and right, and slot e starts at `slot`. Assumes nothing.
+use mathlib.Core.Path.{_≡_, refl, sym, ap₂, _∙_}
+use mathlib.Core.List.{List, _++_}
+use Prim.Native.Nat.{ℕ, _+_, _*_, _-_, min}
+use native.Mathlib.Nat.{add-sub-cancel-left}
+use native.Mathlib.Omega.{arith}
+use borrow.Author.Needs.{needs}
+use lib.ListN.{length, take, drop}
+use Rattle.rows.specs.Octets.{words}
+use Rattle.rows.proofs.Tests.{told-true, told-false}
+use Rattle.rows.proofs.LowestLaws.{Searched, searched-start, searched-more, searched-hit, searched-end}
+use Rattle.rows.proofs.TableLaws.{length-row}
+use Rattle.record.specs.Layout.{gcr1, slotAt}
+use Rattle.record.specs.History.{historyOf, vis}
+use Rattle.record.specs.Questions.{wrongSet}
+use Rattle.record.specs.Words.{slotWords}
+use Rattle.record.proofs.SoundLayout.{gcr1-sound, slot-step}
+use Rattle.record.proofs.SlotWords.{slot-words-none, slot-words-put}
+use Rattle.record.proofs.SetLaws.{byte-itself, loaded-outside, loaded-right}
+use Rattle.reader.proofs.sets.load_sets.Statement.{statement}
+use Rattle.reader.proofs.sets.load_sets.Tie as tie
+
+abbrev Inv-loop : tie.InvT-loop
+Inv-loop s n table₀ below slot₀ e₀ table slot e = Searched n (wrongSet 4 n (vis (historyOf gcr1 s))) e × (length table ≡ length table₀) × (table ≡ slotWords gcr1 32 4 s e ++ drop (e * 4) table₀) × (slot ≡ slotAt gcr1 e)
+
+abbrev μ-loop : tie.MeasureT-loop
+μ-loop s n table₀ below slot₀ e₀ table slot e = n - e
+
+-- the places on the way, by name
+abbrev at-loop : tie.After-load Inv-loop μ-loop → tie.At-loop Inv-loop μ-loop
+at-loop c = c .before .before .before
+
+abbrev entry : tie.After-load Inv-loop μ-loop → tie.After-shared-slice-known Inv-loop μ-loop
+entry c = at-loop c .before .before .before .before .before
+
+abbrev loaded : tie.After-is-subset Inv-loop μ-loop → tie.After-load Inv-loop μ-loop
+loaded c = c .before .before .before .before .before .before
+
+-- the table with the set of event e
+abbrev table : tie.After-load Inv-loop μ-loop → List ℕ
+table c = let l = at-loop c .loop in take (l .e * 4) (l .table) ++ (c .load .last .0 ++ drop 4 (drop (l .e * 4) (l .table)))
+
+put : (c : tie.After-load Inv-loop μ-loop)
+    → let a = entry c .before .args in
+    let e = at-loop c .loop .e in
+    table c ≡ slotWords gcr1 32 4 (a .s .now) (e + 1) ++ drop ((e + 1) * 4) (a .table .now)
+put c =
+    let a = entry c .before .args in
+    let l = at-loop c .loop in
+    slot-words-put gcr1 32 4 (a .s .now) (l .e) (a .table .now) (l .table) (c .load .last .0) (l .inv .2)
+    (c .load .ensures ∙ ap₂ (λ k p. words k (a .s .now) (p + 32)) (rw add-sub-cancel-left (length-row (l .table) 4 (l .e) (search needs))) (l .inv .3))
+
+slice-aggregate-fill-below : tie.Need-slice-aggregate-fill-below Inv-loop μ-loop
+slice-aggregate-fill-below c = search needs
+
+fill-below-requires : tie.Need-fill-below-requires Inv-loop μ-loop
+fill-below-requires c κs = search needs
+
+loop-holds : tie.Need-loop-holds Inv-loop μ-loop
+loop-holds c = (searched-start _ _, refl, slot-words-none _ _ _ _ _, refl)
+
+mul-at : tie.Need-mul-at Inv-loop μ-loop
+mul-at c = search needs
+
+add-end : tie.Need-add-end Inv-loop μ-loop
+add-end c = search needs
+
+mul-load : tie.Need-mul-load Inv-loop μ-loop
+mul-load c = search needs
+
+sub-load : tie.Need-sub-load Inv-loop μ-loop
+sub-load c = search needs
+
+part-load-start : tie.Need-part-load-start Inv-loop μ-loop
+part-load-start c = search needs
+
+part-load-end : tie.Need-part-load-end Inv-loop μ-loop
+part-load-end c = search needs
+
+add-load : tie.Need-add-load Inv-loop μ-loop
+add-load c = search needs
+
+load-requires : tie.Need-load-requires Inv-loop μ-loop
+load-requires c κs = search needs
+
+mul-is-subset : tie.Need-mul-is-subset Inv-loop μ-loop
+mul-is-subset c = search needs
+
+sub-is-subset : tie.Need-sub-is-subset Inv-loop μ-loop
+sub-is-subset c = search needs
+
+part-is-subset-start : tie.Need-part-is-subset-start Inv-loop μ-loop
+part-is-subset-start c = search needs
+
+part-is-subset-end : tie.Need-part-is-subset-end Inv-loop μ-loop
+part-is-subset-end c = search needs
+
+slice-aggregate-is-subset : tie.Need-slice-aggregate-is-subset Inv-loop μ-loop
+slice-aggregate-is-subset c = search needs
+
+is-subset-requires : tie.Need-is-subset-requires Inv-loop μ-loop
+is-subset-requires c κs = search needs
+
+same-length : tie.Need-same-length Inv-loop μ-loop
+same-length c = search needs
+
+returns : tie.Need-returns Inv-loop μ-loop
+returns c =
+    let d = loaded (c .before) in
+    let l = at-loop d in
+    let f = l .before .before in
+    let a = entry d .before .args in
+    let e = l .loop .e in
+    let m : min (a .n) (e + 1) ≡ e + 1 = omega arith in (
+      searched-hit (l .loop .inv .0) (d .before .before .loop-test .taken)
+          (loaded-outside gcr1 (a .s .now) (λ b. entry d .shared-slice-known .given b .fits) (e + 1) _ (table d) (put d) (a .n) e
+          (f .fill-below .last .0) (f .fill-below .ensures .0) (omega arith)
+          (rw add-sub-cancel-left at (told-false (c .before .is-subset .ensures) (c .if1 .taken)))),
+      rw (add-sub-cancel-left, m) (put d),
+    )
+
+add-test : tie.Need-add-test Inv-loop μ-loop
+add-test c = search needs
+
+test-requires : tie.Need-test-requires Inv-loop μ-loop
+test-requires c κs = search needs
+
+same-length-2 : tie.Need-same-length-2 Inv-loop μ-loop
+same-length-2 c = search needs
+
+returns-2 : tie.Need-returns-2 Inv-loop μ-loop
+returns-2 c =
+    let d = loaded (c .before .before .before) in
+    let l = at-loop d in
+    let a = entry d .before .args in
+    let e = l .loop .e in
+    let m : min (a .n) (e + 1) ≡ e + 1 = omega arith in (
+      searched-hit (l .loop .inv .0) (d .before .before .loop-test .taken)
+          (byte-itself gcr1 (a .s .now) (a .n) e (omega arith) (rw (l .loop .inv .3) at (sym (c .before .test .ensures) ∙ c .if2 .taken))),
+      rw (add-sub-cancel-left, m) (put d),
+    )
+
+next-slot-requires : tie.Need-next-slot-requires Inv-loop μ-loop
+next-slot-requires c κs = search needs
+
+add-e : tie.Need-add-e Inv-loop μ-loop
+add-e c = search needs
+
+loop-less : tie.Need-loop-less Inv-loop μ-loop
+loop-less c = search needs
+
+loop-again : tie.Need-loop-again Inv-loop μ-loop
+loop-again c =
+    let k = c .before .before .before in
+    let d = loaded (k .before) in
+    let l = at-loop d in
+    let f = l .before .before in
+    let a = entry d .before .args in
+    let e = l .loop .e in (
+      searched-more (l .loop .inv .0) (d .before .before .loop-test .taken)
+          (loaded-right gcr1 (a .s .now) (λ b. entry d .shared-slice-known .given b .fits) (e + 1) _ (table d) (put d) (a .n) e
+          (f .fill-below .last .0) (f .fill-below .ensures .0) (omega arith)
+          (rw add-sub-cancel-left at (told-true (k .before .is-subset .ensures) (k .if1 .left))) (omega arith)
+          (rw (l .loop .inv .3) at (sym (c .before .before .test .ensures) ∙ c .before .if2 .left))),
+      omega (arith, k .before .before .before .before .before .before .table .given),
+      rw add-sub-cancel-left (put d),
+      slot-step gcr1 gcr1-sound e (l .loop .slot) _ (l .loop .inv .3) (c .next-slot .ensures),
+    )
+
+same-length-3 : tie.Need-same-length-3 Inv-loop μ-loop
+same-length-3 c = search needs
+
+returns-3 : tie.Need-returns-3 Inv-loop μ-loop
+returns-3 c =
+    let l = c .before .loop in
+    let n = c .before .before .before .before .before .before .before .args .n in
+    let end : min n (n + 1) ≡ l .e = omega arith in
+    (searched-end (l .inv .0) (c .loop-test .left), rw end (l .inv .2))
+
+pub load-sets-spec : {M : Type 1} → statement M
+load-sets-spec =
+    tie.close
+    (tie.spec
+    Inv-loop
+    μ-loop
+    slice-aggregate-fill-below
+    fill-below-requires
+    loop-holds
+    mul-at
+    add-end
+    mul-load
+    sub-load
+    part-load-start
+    part-load-end
+    add-load
+    load-requires
+    mul-is-subset
+    sub-is-subset
+    part-is-subset-start
+    part-is-subset-end
+    slice-aggregate-is-subset
+    is-subset-requires
+    same-length
+    returns
+    add-test
+    test-requires
+    same-length-2
+    returns-2
+    next-slot-requires
+    add-e
+    loop-less
+    loop-again
+    same-length-3
+    returns-3)

@@ -1,0 +1,69 @@
+-- `tables::groups::fill` meets its contract. Assumes nothing.
+use mathlib.Core.Path.{sym}
+use Prim.Native.Nat.{_*_}
+use native.Mathlib.Omega.{arith}
+use lib.Seq.{length-take-le}
+use Rattle.tables.proofs.GroupLaws.{groups-of}
+use borrow.Author.Needs.{needs}
+use Rattle.tables.proofs.groups.fill.Statement.{statement}
+use Rattle.tables.proofs.groups.fill.Tie as tie
+
+mul-objects : tie.Need-mul-objects
+mul-objects c = search needs
+
+mul-end : tie.Need-mul-end
+mul-end c = search needs
+
+slice-relend-prefix-fill-objects : tie.Need-slice-relend-prefix-fill-objects
+slice-relend-prefix-fill-objects c = search needs
+
+slice-aggregate-fill-objects : tie.Need-slice-aggregate-fill-objects
+slice-aggregate-fill-objects c = let s = c .before .before .before in sym (length-take-le (256 * s .args .w) (s .args .g .now) (omega arith))
+
+fill-objects-requires : tie.Need-fill-objects-requires
+fill-objects-requires c κs =
+    let s = c .before .before .before in
+    omega (arith, length-take-le (256 * s .args .w) (s .args .g .now) (omega arith))
+
+mul-fill-kinds : tie.Need-mul-fill-kinds
+mul-fill-kinds c = search needs
+
+sub-fill-kinds : tie.Need-sub-fill-kinds
+sub-fill-kinds c = search needs
+
+part-fill-kinds-start : tie.Need-part-fill-kinds-start
+part-fill-kinds-start c = search needs
+
+part-fill-kinds-end : tie.Need-part-fill-kinds-end
+part-fill-kinds-end c = search needs
+
+fill-kinds-requires : tie.Need-fill-kinds-requires
+fill-kinds-requires c κs = search needs
+
+same-length : tie.Need-same-length
+same-length c = search needs
+
+returns : tie.Need-returns
+returns c =
+    let k = c .before .before in
+    let o = k .before .before .before .before in
+    let s = o .before .before .before .before in
+    groups-of (s .args .n) (s .args .w) (s .args .l .now) (s .args .g .now) (o .fill-objects .last .1 .1 .1 .0) (k .fill-kinds .last .1 .1 .1 .0) (s .pre .1) (o .fill-objects .ensures .1) (k .fill-kinds .ensures .1 .1 .1)
+    (o .fill-objects .ensures .0) (k .fill-kinds .ensures .0) (k .fill-kinds .ensures .1 .0) (k .fill-kinds .ensures .1 .1 .0)
+
+pub fill-spec : {M : Type 1} → statement M
+fill-spec =
+    tie.close
+    (tie.spec
+    mul-objects
+    mul-end
+    slice-relend-prefix-fill-objects
+    slice-aggregate-fill-objects
+    fill-objects-requires
+    mul-fill-kinds
+    sub-fill-kinds
+    part-fill-kinds-start
+    part-fill-kinds-end
+    fill-kinds-requires
+    same-length
+    returns)
