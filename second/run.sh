@@ -10,7 +10,7 @@ root=$here/..
 bin=${SECOND_BIN:-$root/target/bin}
 folder=${SECOND_STATICLIB:-$root/target/staticlib}
 case $folder in /*) ;; *) folder=$here/$folder ;; esac
-export SECOND_STATICLIB=$folder
+export SECOND_STATICLIB="$folder"
 keep=${SECOND_KEEP:-$root/target/second-failures}
 status=0
 totals=$(mktemp)
@@ -34,12 +34,12 @@ feature() {
     case $1 in reader | models | rehearsal) echo linked ;; esac
 }
 
-# Seeds of a CI run: a spawned program costs a millisecond, a script more than a record.
+# Seeds of a CI run: a spawned program costs a millisecond, a script more than a record. With these every answer that
+# a comparer must meet occurs twenty times and more.
 seeds() {
     case $1 in
-    inspect | verdict | rehearse) echo $((600 * share)) ;;
     reader | models) echo $((4000 * share)) ;;
-    rehearsal) echo $((2000 * share)) ;;
+    *) echo $((2000 * share)) ;;
     esac
 }
 
@@ -60,10 +60,12 @@ compare() {
     return $result
 }
 
-for comparer in ${*:-inspect reader verdict models rehearse rehearsal}; do
+named=$#
+[ $# -gt 0 ] || set -- inspect reader verdict models rehearse rehearsal
+for comparer in "$@"; do
     if [ -e "$(needs "$comparer")" ]; then
         compare "$comparer" || status=1
-    elif [ $# -gt 0 ]; then
+    elif [ "$named" -gt 0 ]; then
         echo "$comparer: nothing at $(needs "$comparer")"
         echo "0 passed, 1 failed" >>"$totals"
         status=1

@@ -1,8 +1,9 @@
 //! What the programs write for an input.
 
-use crate::predicates::{Answer, Judged};
+use crate::models::{answers, Answers};
+use crate::predicates::{Answer, PREDICATES};
 use crate::questions::{ask, Refusal};
-use crate::record::{Record, MOST_BYTES};
+use crate::record::MOST_BYTES;
 use crate::store::rehearse;
 use std::io::{self, Read, Write};
 
@@ -11,23 +12,22 @@ fn refused_line(refusal: Refusal) -> String {
 }
 
 pub fn inspect(bytes: &[u8]) -> String {
-    match ask(bytes) {
-        Ok(_) => "passed\n".to_string(),
-        Err(refusal) => refused_line(refusal),
-    }
+    inspect_line(ask(bytes).err())
+}
+
+pub fn inspect_line(refusal: Option<Refusal>) -> String {
+    refusal.map_or("passed\n".to_string(), refused_line)
 }
 
 pub fn verdict(bytes: &[u8]) -> String {
-    match ask(bytes) {
-        Ok(record) => predicate_lines(&record),
-        Err(refusal) => refused_line(refusal),
-    }
+    verdict_lines(&answers(bytes))
 }
 
-fn predicate_lines(record: &Record) -> String {
-    let answers = Judged::new(record).answers();
-    let numbered = answers.iter().zip(1..);
-    numbered.map(|(answer, number)| predicate_line(number, *answer)).collect()
+pub fn verdict_lines(answers: &Answers) -> String {
+    match answers {
+        Ok(answers) => PREDICATES.zip(answers).map(|(number, &answer)| predicate_line(number, answer)).collect(),
+        Err(refusal) => refused_line(*refusal),
+    }
 }
 
 fn predicate_line(number: u32, answer: Answer) -> String {
@@ -39,15 +39,23 @@ fn predicate_line(number: u32, answer: Answer) -> String {
 
 /// `rehearse`: a byte of sites, then the script; gives the record or a line.
 pub fn rehearsal(input: &[u8]) -> Vec<u8> {
-    let (sites, script) = input.split_first().map_or((0, input), |(&sites, script)| (sites, script));
+    let (sites, script) = sites_and_script(input);
+    rehearsal_output(sites, script, &mut vec![0; script.len()]).1
+}
+
+pub fn sites_and_script(input: &[u8]) -> (u32, &[u8]) {
+    input.split_first().map_or((0, input), |(&sites, script)| (sites as u32, script))
+}
+
+/// The rehearsal's number, and what is written; the calls' answers are left in their buffer.
+pub fn rehearsal_output(sites: u32, script: &[u8], answers: &mut [u8]) -> (u32, Vec<u8>) {
     let mut record = vec![0; MOST_BYTES];
-    let mut answers = vec![0; script.len()];
-    let outcome = rehearse(sites as u32, script, &mut record, &mut answers);
-    if outcome.number != 0 {
-        return format!("refused {}\n", outcome.number).into_bytes();
-    }
+    let outcome = rehearse(sites, script, &mut record, answers);
     record.truncate(outcome.length);
-    record
+    match outcome.number {
+        0 => (0, record),
+        number => (number, format!("refused {number}\n").into_bytes()),
+    }
 }
 
 /// Runs a program's reading of its whole input.

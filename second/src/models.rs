@@ -1,6 +1,6 @@
 //! The models, and the packing of answers into one number.
 
-use crate::predicates::{Answer, Judged};
+use crate::predicates::{Answer, Judged, PREDICATES};
 use crate::questions::{ask, Refusal};
 
 /// Model k's predicates stand at k - 1.
@@ -28,6 +28,12 @@ pub fn refused(refusal: Refusal) -> u64 {
     REFUSED + 1_024 * refusal.number as u64 + refusal.place as u64
 }
 
+/// The refusal that a call's number holds, where it holds one.
+pub fn refusal_in(packed: u64) -> Option<Refusal> {
+    let inside = packed.checked_sub(REFUSED)?;
+    Some(Refusal { number: (inside / 1_024) as u32, place: (inside % 1_024) as u32 })
+}
+
 pub fn judged(answer: Answer) -> u64 {
     match answer {
         Answer::Met => MET,
@@ -35,11 +41,15 @@ pub fn judged(answer: Answer) -> u64 {
     }
 }
 
+/// Where in a model's list the first broken predicate stands.
+pub fn first_broken(list: &[u32], answers: &[Answer]) -> Option<usize> {
+    list.iter().position(|&predicate| answers[predicate as usize - 1] != Answer::Met)
+}
+
 /// The first broken predicate of a model's list gives the answer.
 pub fn answer_of(model: u32, answers: &[Answer]) -> Answer {
-    let list = MODELS[model as usize - 1].iter();
-    let mut in_turn = list.map(|&predicate| answers[predicate as usize - 1]);
-    in_turn.find(|&answer| answer != Answer::Met).unwrap_or(Answer::Met)
+    let list = MODELS[model as usize - 1];
+    first_broken(list, answers).map_or(Answer::Met, |at| answers[list[at] as usize - 1])
 }
 
 /// What the thirteen predicates say of a record, in order, or what refuses it.
@@ -71,15 +81,14 @@ fn packed_by(answer: impl Fn(u32, &[Answer]) -> Answer, number: u32, answers: &A
     }
 }
 
-/// All thirteen over the front of `out`, as many as fit; it stays where the record is refused.
+/// All thirteen over the front of `out`, as many as fit. A refusal stands in each of their words too, so that none
+/// reads as met.
 pub fn packed_all(answers: &Answers, out: &mut [u64]) -> u64 {
+    for (word, predicate) in out.iter_mut().zip(PREDICATES) {
+        *word = packed_predicate(predicate, answers);
+    }
     match answers {
         Err(refusal) => refused(*refusal),
-        Ok(answers) => {
-            for (word, &answer) in out.iter_mut().zip(answers) {
-                *word = judged(answer);
-            }
-            0
-        }
+        Ok(_) => 0,
     }
 }

@@ -43,7 +43,7 @@ fn all_zero(bytes: &[u8]) -> bool {
 
 fn length(bytes: &[u8]) -> Option<usize> {
     let within = (BLOCK_BYTES..=MOST_BYTES).contains(&bytes.len());
-    no_at_zero(within && bytes.len() % BLOCK_BYTES == 0)
+    no_at_zero(within && bytes.len().is_multiple_of(BLOCK_BYTES))
 }
 
 fn block_checks(bytes: &[u8]) -> Option<usize> {

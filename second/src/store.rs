@@ -230,7 +230,7 @@ fn done_answer(event: usize, found: Option<u32>) -> [u8; 8] {
 fn first_no(sites: u32, script: usize, record: usize, answers: usize) -> Option<u32> {
     if !(1..=MOST_SITES as u32).contains(&sites) {
         Some(20)
-    } else if script % CALL_BYTES != 0 || script > MOST_SCRIPT_BYTES {
+    } else if !script.is_multiple_of(CALL_BYTES) || script > MOST_SCRIPT_BYTES {
         Some(21)
     } else if record < MOST_BYTES {
         Some(22)

@@ -9,7 +9,7 @@ use second::compare::{models, reader, rehearsal, Seeds};
 use second::generate;
 use second::models::{judged, refused};
 use second::predicates::Answer::{Broken, Met};
-use second::predicates::Judged;
+use second::predicates::{Judged, PREDICATES};
 use second::questions::ask;
 
 fn all_passed(tally: Tally, at_least: u64) {
@@ -49,17 +49,15 @@ fn judges_predicates_alike() {
 fn judges_alone_and_all_at_once() {
     for seed in 20_000..20_300 {
         let bytes = generate::record(seed).bytes;
-        let mut verdicts = [7; 13];
+        let mut verdicts = [7; 14];
         let answer = judge_all(&bytes, &mut verdicts);
         let (whole, each) = match ask(&bytes) {
-            Err(refusal) => (refused(refusal), [7; 13]),
-            Ok(record) => (0, std::array::from_fn(|at| judged(Judged::new(&record).answers()[at]))),
+            Err(refusal) => (refused(refusal), vec![refused(refusal); 13]),
+            Ok(record) => (0, Judged::new(&record).answers().into_iter().map(judged).collect()),
         };
-        assert_eq!((answer, verdicts), (whole, each), "seed {seed}");
-        for (at, &verdict) in each.iter().enumerate() {
-            let alone = if whole == 0 { verdict } else { whole };
-            assert_eq!(judge_predicate(at as u32 + 1, &bytes), alone, "seed {seed}");
-        }
+        assert_eq!((answer, &verdicts[..13], verdicts[13]), (whole, &each[..], 7), "seed {seed}");
+        let alone: Vec<u64> = PREDICATES.map(|predicate| judge_predicate(predicate, &bytes)).collect();
+        assert_eq!(alone, each, "seed {seed}");
     }
 }
 

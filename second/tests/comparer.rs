@@ -121,12 +121,25 @@ fn store_failures(fault: fn(u64, &mut [u8], &mut [u8]) -> u64) -> u64 {
 #[test]
 fn faults_of_all_thirteen() {
     assert_eq!(words_failures(|_, _| ()), 0);
-    let refused_written = |right, out: &mut [u64]| {
+    let refused_met = |right, out: &mut [u64]| {
         if right != 0 {
-            out.fill(0);
+            let fit = out.len().min(13);
+            out[..fit].fill(0);
         }
     };
-    assert!(words_failures(refused_written) > 0);
+    assert!(words_failures(refused_met) > 0);
+    let refused_unwritten = |right, out: &mut [u64]| {
+        if right != 0 {
+            out.fill(models::LENT_WORD);
+        }
+    };
+    assert!(words_failures(refused_unwritten) > 0);
+    let refused_beyond = |right, out: &mut [u64]| {
+        if right != 0 {
+            out.fill(right);
+        }
+    };
+    assert!(words_failures(refused_beyond) > 0);
     let last_lost = |_, out: &mut [u64]| {
         if let Some(word) = out.get_mut(12) {
             *word = 1;

@@ -1,8 +1,11 @@
 //! The generators reach what they are for.
 
+use second::compare::occurrences::Row;
+use second::compare::tally::Tally;
+use second::compare::{answered, must_occur, Seeds};
 use second::generate::random::Random;
 use second::generate::{meeting, record, scripts};
-use second::models::MODELS;
+use second::models::{answers, MODELS};
 use second::predicates::Answer::{Broken, Met};
 use second::predicates::{Judged, PREDICATES};
 use second::questions::ask;
@@ -66,23 +69,34 @@ fn records_meet_what_they_are_made_for() {
     }
 }
 
+/// Over the seeds of a CI run every listed answer occurs twenty times and more, and no other answer does.
+fn assert_all_occur(list: &[Row], seeds: u64, count: impl FnMut(u64, &mut Tally)) {
+    let mut tally = Tally::counting();
+    tally.occurrences.must(list);
+    let listed = tally.occurrences.rarer_than(u64::MAX);
+    Seeds::first(seeds).each(&mut tally, count);
+    assert_eq!(tally.occurrences.rarer_than(u64::MAX), listed);
+    assert!(tally.occurrences.rarer_than(20).is_empty(), "{}", tally.occurrences.table());
+}
+
+/// The programs get the fewest seeds.
+#[test]
+fn every_answer_of_records() {
+    assert_all_occur(must_occur::VERDICT, 2_000, |seed, tally| {
+        let answers = answers(&record(seed).bytes);
+        answered::reading(answers.as_ref().err().copied(), tally);
+        answered::predicates(answers.as_deref().unwrap_or_default(), tally);
+    });
+}
+
 #[test]
 fn every_answer_of_calls_and_rehearsals() {
-    let mut numbers: BTreeMap<u32, u32> = BTreeMap::new();
-    for seed in 0..400 {
+    assert_all_occur(must_occur::REHEARSAL, 2_000, |seed, tally| {
         let given = scripts::rehearsal(seed);
-        let mut record = vec![0; given.record_bytes];
-        let mut answers = vec![0; given.answer_bytes];
+        let (mut record, mut answers) = (vec![0; given.record_bytes], vec![0; given.answer_bytes]);
         let outcome = rehearse(given.sites, &given.script, &mut record, &mut answers);
-        *numbers.entry(outcome.number).or_default() += 1;
-        if outcome.number == 0 {
-            for answer in answers[..given.script.len()].chunks(8) {
-                *numbers.entry(answer[0] as u32).or_default() += 1;
-            }
-        }
-    }
-    let reached: Vec<u32> = numbers.keys().copied().collect();
-    assert_eq!(reached, [0, 20, 21, 22, 23, 31, 32, 33, 34, 35, 36], "{numbers:?}");
+        answered::rehearsal(outcome.number, &given.script, &answers, tally);
+    });
 }
 
 #[test]

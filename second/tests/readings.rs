@@ -1,7 +1,7 @@
 //! The readings of READINGS.md, each by a record or script that tells.
 
 use second::lines;
-use second::models::refused;
+use second::models::{answers, packed_all, refused};
 use second::predicates::Answer::{self, Broken, Met};
 use second::predicates::Judged;
 use second::questions::{ask, Refusal};
@@ -209,6 +209,20 @@ fn rehearsal_refusals_in_order() {
     assert_eq!(number(8, 32_768, 19_455, 0), 22);
     assert_eq!(number(8, 32_768, 19_456, 32_767), 23);
     assert_eq!(number(8, 32_768, 19_456, 32_768), 0);
+}
+
+#[test]
+fn all_thirteen_hold_a_refusal_too() {
+    let words_after = |bytes: &[u8], words: usize| {
+        let mut out = vec![7; words];
+        (packed_all(&answers(bytes), &mut out), out)
+    };
+    let refusal = refused(Refusal { number: 3, place: 0 });
+    assert_eq!(words_after(&[], 0), (refusal, vec![]));
+    assert_eq!(words_after(&[], 5), (refusal, vec![refusal; 5]));
+    assert_eq!(words_after(&[], 15), (refusal, [vec![refusal; 13], vec![7; 2]].concat()));
+    let met = Record { sites: 1, events: vec![] }.to_bytes();
+    assert_eq!(words_after(&met, 15), (0, [vec![0; 13], vec![7; 2]].concat()));
 }
 
 #[test]

@@ -37,11 +37,15 @@ fn judge_list(list: &[u32], record: &[u8]) -> u64 {
     }
 }
 
-/// All thirteen by one reading, as many as `verdicts` has room for; it stays where the record is refused.
+/// All thirteen by one reading, as many as `verdicts` has room for; a refusal is each one's answer too.
 pub fn judge_all(record: &[u8], verdicts: &mut [u64]) -> u64 {
     let mut columns = Columns::new();
     match prepare(record, &mut columns) {
-        Err((number, place)) => refused(number, place),
+        Err((number, place)) => {
+            let (refusal, fit) = (refused(number, place), verdicts.len().min(13));
+            verdicts[..fit].fill(refusal);
+            refusal
+        }
         Ok(()) => {
             for (verdict, predicate) in verdicts.iter_mut().zip(1..=13) {
                 *verdict = packed(columns.broken(predicate));

@@ -47,7 +47,7 @@ pub fn read(record: &[u8], work: &mut [u64]) -> u64 {
 /// Fills the first n rows; what a refusal leaves in them is not settled.
 pub fn fill(record: &[u8], rows: &mut [Row]) -> Result<usize, (u32, usize)> {
     let length = record.len();
-    if length == 0 || length > 38 * BLOCK || length % BLOCK != 0 {
+    if length == 0 || length > 38 * BLOCK || !length.is_multiple_of(BLOCK) {
         return Err((3, 0));
     }
     if let Some(block) = wrong_check(record) {
@@ -74,7 +74,8 @@ fn wrong_check(record: &[u8]) -> Option<usize> {
 /// Eight sums side by side, put together at the end with one remainder each.
 /// Of the first 248 words, word 8r + l weighs 248 - 8r - l in B then; it enters
 /// `later` once for each of the 30 - r rows after its own.
-#[inline]
+/// By itself it compiles to vectors, whatever becomes of its callers.
+#[inline(never)]
 pub fn check(number: u32, block: &[u8; BLOCK]) -> u32 {
     let (words, _) = block[..508].as_chunks::<2>();
     let (rows, rest) = words.as_chunks::<8>();
@@ -93,7 +94,7 @@ pub fn check(number: u32, block: &[u8; BLOCK]) -> u32 {
         a += u16::from_le_bytes(*word) as u32;
         b += a;
     }
-    a % 65_521 | (b % 65_521) << 16
+    (a % 65_521) | ((b % 65_521) << 16)
 }
 
 #[inline]

@@ -43,7 +43,7 @@ pub fn rehearse(sites: u32, script: &[u8], record: &mut [u8], answers: &mut [u8]
     if sites.wrapping_sub(1) >= 8 {
         return 20;
     }
-    if script.len() % 8 != 0 || script.len() > 32_768 {
+    if !script.len().is_multiple_of(8) || script.len() > 32_768 {
         return 21;
     }
     if record.len() < 19_456 {

@@ -11,6 +11,7 @@ const USAGE: &str = "compare WHAT [--seeds N] [--from K] [--seconds T] [--keep F
   programs:  inspect | verdict | rehearse   [--bin FOLDER, by default ../target/bin]
   libraries: reader | models | rehearsal    [--against linked | baseline | itself]
              [--exact-outstanding]
+  --few      for some seeds by hand: an answer that never occurred is no failure
   linked needs a build with --features linked";
 
 struct Options {
@@ -19,28 +20,34 @@ struct Options {
     programs: PathBuf,
     against: String,
     outstanding: Outstanding,
+    few: bool,
 }
 
 fn main() -> ExitCode {
     let mut arguments = std::env::args().skip(1);
     let what = arguments.next().unwrap_or_default();
-    let mut tally = None;
-    let outcome = options(arguments).and_then(|options| {
-        println!("{what}: {} seeds from {}", options.seeds.count, options.seeds.from);
-        let tally = tally.insert(Tally::keeping(options.keep.clone()));
-        run(&what, &options, tally)
-    });
-    match (outcome, tally) {
-        (Ok(()), Some(tally)) => {
+    match options(arguments).and_then(|options| run(&what, &options)) {
+        Ok(tally) => {
             println!("{}", tally.summary());
             ExitCode::from((tally.failed > 0) as u8)
         }
-        (Err(message), _) => {
+        Err(message) => {
             eprintln!("{message}\n{USAGE}");
             ExitCode::from(2)
         }
-        (Ok(()), None) => unreachable!("a run has a tally"),
     }
+}
+
+/// Compares, and shows how often each answer occurred.
+fn run(what: &str, options: &Options) -> Result<Tally, String> {
+    println!("{what}: {} seeds from {}", options.seeds.count, options.seeds.from);
+    let mut tally = Tally::keeping(options.keep.clone());
+    compare(what, options, &mut tally)?;
+    print!("{}", tally.occurrences.table());
+    if !options.few {
+        tally.fail_what_never_occurred().iter().for_each(|sentence| println!("{sentence}"));
+    }
+    Ok(tally)
 }
 
 /// The repository's root: the parent of this folder.
@@ -55,14 +62,17 @@ fn options(mut arguments: impl Iterator<Item = String>) -> Result<Options, Strin
         programs: root().join("target/bin"),
         against: "linked".to_string(),
         outstanding: Outstanding::Bounded,
+        few: false,
     };
     while let Some(name) = arguments.next() {
-        if name == "--exact-outstanding" {
-            options.outstanding = Outstanding::Exact;
-            continue;
+        match name.as_str() {
+            "--exact-outstanding" => options.outstanding = Outstanding::Exact,
+            "--few" => options.few = true,
+            _ => {
+                let value = arguments.next().ok_or(format!("{name} needs a value"))?;
+                set(&mut options, &name, value)?;
+            }
         }
-        let value = arguments.next().ok_or(format!("{name} needs a value"))?;
-        set(&mut options, &name, value)?;
     }
     Ok(options)
 }
@@ -84,7 +94,7 @@ fn number(value: &str) -> Result<u64, String> {
     value.parse().map_err(|_| format!("{value} is no number"))
 }
 
-fn run(what: &str, options: &Options, tally: &mut Tally) -> Result<(), String> {
+fn compare(what: &str, options: &Options, tally: &mut Tally) -> Result<(), String> {
     let (seeds, program) = (&options.seeds, options.programs.join(what));
     let against = options.against.as_str();
     match what {

@@ -12,7 +12,10 @@ vectors --list   writes what inspect, verdict and rehearse answer to each";
 
 fn main() -> ExitCode {
     let outcome = match std::env::args().nth(1).as_deref() {
-        Some("--list") => Ok(list()),
+        Some("--list") => {
+            list();
+            Ok(())
+        }
         Some(folder) if !folder.starts_with('-') => write(Path::new(folder)),
         _ => Err(io::Error::other(USAGE)),
     };

@@ -1,8 +1,11 @@
 //! Holds another implementation against the second checker.
 
+pub mod answered;
 #[cfg(feature = "linked")]
 pub mod linked;
 pub mod models;
+pub mod must_occur;
+pub mod occurrences;
 pub mod programs;
 pub mod reader;
 pub mod rehearsal;

@@ -2,9 +2,9 @@
 
 use super::subject::Judge;
 use super::tally::{Case, Tally};
-use super::Seeds;
+use super::{answered, must_occur, Seeds};
 use crate::generate::{self, Sample};
-use crate::models::{answers, packed, packed_all, packed_predicate};
+use crate::models::{answers, packed, packed_all, packed_predicate, Answers};
 use crate::samples;
 
 const NUMBERS: [u32; 17] = [0, 1, 2, 3, 4, 5, 6, 7, 8, 9, 10, 11, 12, 13, 14, 256, u32::MAX];
@@ -12,7 +12,11 @@ const NUMBERS: [u32; 17] = [0, 1, 2, 3, 4, 5, 6, 7, 8, 9, 10, 11, 12, 13, 14, 25
 /// Buffers for all thirteen: none, too short, and longer than they are.
 const OUT_LENGTHS: [usize; 3] = [0, 5, 15];
 
+/// What each word of such a buffer holds before the call: no answer of it.
+pub const LENT_WORD: u64 = u64::MAX;
+
 pub fn compare(subject: &dyn Judge, seeds: &Seeds, tally: &mut Tally) {
+    tally.occurrences.must(must_occur::MODELS);
     one_record(subject, "models-empty".to_string(), &[], tally);
     for sample in samples::records() {
         one_record(subject, format!("models-{}", sample.name), &sample.bytes, tally);
@@ -23,18 +27,28 @@ pub fn compare(subject: &dyn Judge, seeds: &Seeds, tally: &mut Tally) {
     });
 }
 
+/// Once a record, though many calls are made of it.
+fn count(answers: &Answers, tally: &mut Tally) {
+    answered::reading(answers.as_ref().err().copied(), tally);
+    if let Ok(answers) = answers {
+        answered::predicates(answers, tally);
+        answered::models(answers, tally);
+    }
+}
+
 fn one_record(subject: &dyn Judge, name: String, bytes: &[u8], tally: &mut Tally) {
     let case = Case { name, input: bytes };
     let given = bytes.to_vec();
     let answers = answers(bytes);
+    count(&answers, tally);
     for number in NUMBERS {
-        let model = subject.judge_model(number, &given);
-        tally.equal(&case, &format!("model {number}"), &packed(number, &answers), &model);
-        let predicate = subject.judge_predicate(number, &given);
-        tally.equal(&case, &format!("predicate {number}"), &packed_predicate(number, &answers), &predicate);
+        let (model, predicate) = (packed(number, &answers), packed_predicate(number, &answers));
+        answered::number_given(number, tally);
+        tally.equal(&case, &format!("model {number}"), &model, &subject.judge_model(number, &given));
+        tally.equal(&case, &format!("predicate {number}"), &predicate, &subject.judge_predicate(number, &given));
     }
     for words in OUT_LENGTHS {
-        let (mut due, mut out) = (vec![u64::MAX; words], vec![u64::MAX; words]);
+        let (mut due, mut out) = (vec![LENT_WORD; words], vec![LENT_WORD; words]);
         let result = subject.judge_all(&given, &mut out);
         tally.equal(&case, &format!("all over {words} words"), &packed_all(&answers, &mut due), &result);
         tally.equal(&case, &format!("the {words} words"), &due, &out);

@@ -1,8 +1,10 @@
 //! The programs: what they write for an input on standard input.
 
 use super::tally::{Case, Tally};
-use super::Seeds;
+use super::{answered, must_occur, Seeds};
 use crate::generate::{self, scripts, Sample};
+use crate::models::answers;
+use crate::questions::ask;
 use crate::{lines, samples};
 use std::io::{self, Read, Write};
 use std::path::Path;
@@ -14,49 +16,73 @@ use std::time::Duration;
 /// How long one program may take for one input.
 const PATIENCE: Duration = Duration::from_secs(20);
 
-/// What a program should write for its input.
-type Writes = fn(&[u8]) -> Vec<u8>;
+/// What a program should write for its input; the answers that stand behind it are counted.
+type Due = fn(&[u8], &mut Tally) -> Vec<u8>;
 
 const LENGTHS: [usize; 7] = [0, 1, 511, 512, 19_456, 19_968, 200_000];
 
 pub fn inspect(program: &Path, seeds: &Seeds, tally: &mut Tally) {
-    records(program, |bytes| lines::inspect(bytes).into_bytes(), seeds, tally);
+    tally.occurrences.must(must_occur::INSPECT);
+    records(program, inspect_due, seeds, tally);
 }
 
 pub fn verdict(program: &Path, seeds: &Seeds, tally: &mut Tally) {
-    records(program, |bytes| lines::verdict(bytes).into_bytes(), seeds, tally);
-}
-
-fn records(program: &Path, writes: Writes, seeds: &Seeds, tally: &mut Tally) {
-    for length in LENGTHS {
-        one(program, writes, format!("length-{length}"), &vec![0; length], tally);
-    }
-    for sample in samples::records() {
-        one(program, writes, sample.name, &sample.bytes, tally);
-    }
-    seeds.each(tally, |seed, tally| {
-        let Sample { family, bytes } = generate::record(seed);
-        one(program, writes, format!("{seed}-{family}"), &bytes, tally);
-    });
+    tally.occurrences.must(must_occur::VERDICT);
+    records(program, verdict_due, seeds, tally);
 }
 
 pub fn rehearse(program: &Path, seeds: &Seeds, tally: &mut Tally) {
-    one(program, lines::rehearsal, "empty".to_string(), &[], tally);
+    tally.occurrences.must(must_occur::REHEARSE);
+    one(program, rehearse_due, "empty".to_string(), &[], tally);
     for sites in 0..=10 {
-        one(program, lines::rehearsal, format!("sites-{sites}"), &[sites], tally);
+        one(program, rehearse_due, format!("sites-{sites}"), &[sites], tally);
         let long = vec![sites; 200_001];
-        one(program, lines::rehearsal, format!("long-{sites}"), &long, tally);
+        one(program, rehearse_due, format!("long-{sites}"), &long, tally);
     }
     seeds.each(tally, |seed, tally| {
         let input = super::rehearsal::program_input(&scripts::rehearsal(seed));
-        one(program, lines::rehearsal, seed.to_string(), &input, tally);
+        one(program, rehearse_due, seed.to_string(), &input, tally);
     });
 }
 
-fn one(program: &Path, writes: Writes, name: String, input: &[u8], tally: &mut Tally) {
+fn inspect_due(bytes: &[u8], tally: &mut Tally) -> Vec<u8> {
+    let refusal = ask(bytes).err();
+    answered::reading(refusal, tally);
+    lines::inspect_line(refusal).into_bytes()
+}
+
+fn verdict_due(bytes: &[u8], tally: &mut Tally) -> Vec<u8> {
+    let answers = answers(bytes);
+    answered::reading(answers.as_ref().err().copied(), tally);
+    answered::predicates(answers.as_deref().unwrap_or_default(), tally);
+    lines::verdict_lines(&answers).into_bytes()
+}
+
+fn rehearse_due(input: &[u8], tally: &mut Tally) -> Vec<u8> {
+    let (sites, script) = lines::sites_and_script(input);
+    let mut answers = vec![0; script.len()];
+    let (number, output) = lines::rehearsal_output(sites, script, &mut answers);
+    answered::rehearsal(number, script, &answers, tally);
+    output
+}
+
+fn records(program: &Path, due: Due, seeds: &Seeds, tally: &mut Tally) {
+    for length in LENGTHS {
+        one(program, due, format!("length-{length}"), &vec![0; length], tally);
+    }
+    for sample in samples::records() {
+        one(program, due, sample.name, &sample.bytes, tally);
+    }
+    seeds.each(tally, |seed, tally| {
+        let Sample { family, bytes } = generate::record(seed);
+        one(program, due, format!("{seed}-{family}"), &bytes, tally);
+    });
+}
+
+fn one(program: &Path, due: Due, name: String, input: &[u8], tally: &mut Tally) {
     let stem = program.file_stem().unwrap_or_default().to_string_lossy();
     let case = Case { name: format!("{stem}-{name}"), input };
-    let due = writes(input);
+    let due = due(input, tally);
     match run(program, input) {
         Err(error) => tally.check(&case, false, || format!("did not run to its end: {error}")),
         Ok(written) => tally

@@ -2,9 +2,10 @@
 
 use super::subject::Reader;
 use super::tally::{Case, Tally};
-use super::Seeds;
+use super::{answered, must_occur, Seeds};
 use crate::generate::random::Random;
 use crate::generate::{self, Sample};
+use crate::models::refusal_in;
 use crate::record::seal;
 use crate::samples;
 
@@ -12,6 +13,7 @@ const WORK_LENGTHS: [usize; 4] = [1_024, 1_030, 1_023, 0];
 const RECORD_LENGTHS: [usize; 12] = [0, 1, 511, 512, 513, 1_024, 19_455, 19_456, 19_457, 19_968, 20_480, 65_536];
 
 pub fn compare(subject: &dyn Reader, seeds: &Seeds, tally: &mut Tally) {
+    tally.occurrences.must(must_occur::READER);
     lengths(subject, tally);
     for sample in samples::records() {
         let case = Case { name: format!("reader-{}", sample.name), input: &sample.bytes };
@@ -41,11 +43,12 @@ fn lengths(subject: &dyn Reader, tally: &mut Tally) {
 fn one_record(subject: &dyn Reader, seed: u64, case: &Case, tally: &mut Tally) {
     let mut random = Random::new(seed);
     for words in WORK_LENGTHS {
-        let mut expected: Vec<u64> = (0..words).map(|_| random.next()).collect();
+        let mut expected: Vec<u64> = (0..words).map(|_| random.word()).collect();
         let mut work = expected.clone();
         let given = case.input.to_vec();
         let result = subject.read(&given, &mut work);
         let due = crate::reader::read(case.input, &mut expected);
+        answered::reading(refusal_in(due), tally);
         tally.equal(case, &format!("result with {words} words"), &due, &result);
         let differs = work.iter().zip(&expected).position(|(got, due)| got != due);
         tally.equal(case, &format!("first differing word of {words}"), &None, &differs);

@@ -3,7 +3,7 @@
 
 use super::subject::Rehearser;
 use super::tally::{Case, Tally};
-use super::Seeds;
+use super::{answered, must_occur, Seeds};
 use crate::generate::random::Random;
 use crate::generate::scripts::{self, Rehearsal};
 use crate::predicates::{Answer, Judged};
@@ -18,6 +18,7 @@ pub enum Outstanding {
 }
 
 pub fn compare(subject: &dyn Rehearser, asked: Outstanding, seeds: &Seeds, tally: &mut Tally) {
+    tally.occurrences.must(must_occur::REHEARSAL);
     seeds.each(tally, |seed, tally| {
         let rehearsal = scripts::rehearsal(seed);
         let input = program_input(&rehearsal);
@@ -39,6 +40,7 @@ fn one(subject: &dyn Rehearser, asked: Outstanding, seed: u64, given: &Rehearsal
     let mut answers = random.noise(given.answer_bytes);
     let (mut due_record, mut due_answers) = (record.clone(), answers.clone());
     let due = rehearse(given.sites, &given.script, &mut due_record, &mut due_answers);
+    answered::rehearsal(due.number, &given.script, &due_answers, tally);
     let script = given.script.clone();
     let result = subject.rehearse(given.sites, &script, &mut record, &mut answers);
     tally.same_bytes(case, "record buffer", &due_record, &record);

@@ -1,5 +1,6 @@
-//! What passed and what failed, with every failing input kept as a file.
+//! What passed, what failed and what occurred, with every failing input kept as a file.
 
+use super::occurrences::Occurrences;
 use std::fs::{self, File};
 use std::os::unix::fs::FileExt;
 use std::path::{Path, PathBuf};
@@ -10,9 +11,12 @@ const MOST_KEPT: u64 = 100;
 /// Left behind only where a run did not come to its end.
 const LAST_SEED: &str = "last-seed.txt";
 
+#[derive(Default)]
 pub struct Tally {
     pub passed: u64,
     pub failed: u64,
+    pub occurrences: Occurrences,
+    in_seeds: bool,
     keep: Option<PathBuf>,
     noted: Option<File>,
 }
@@ -25,12 +29,12 @@ pub struct Case<'a> {
 
 impl Tally {
     pub fn keeping(folder: PathBuf) -> Tally {
-        Tally { passed: 0, failed: 0, keep: Some(folder), noted: None }
+        Tally { keep: Some(folder), ..Tally::default() }
     }
 
     /// Counts without writing files.
     pub fn counting() -> Tally {
-        Tally { passed: 0, failed: 0, keep: None, noted: None }
+        Tally::default()
     }
 
     pub fn check(&mut self, case: &Case, same: bool, difference: impl FnOnce() -> String) {
@@ -42,6 +46,21 @@ impl Tally {
         if self.failed <= MOST_KEPT {
             self.report(case, &difference());
         }
+    }
+
+    /// Counts an answer that the second checker gives. Only those of seeds count: the samples have every refusal,
+    /// whatever the seeds give.
+    pub fn occurred(&mut self, sort: &'static str, number: u32) {
+        if self.in_seeds {
+            self.occurrences.count(sort, number);
+        }
+    }
+
+    /// What must occur and never did is a failure each; gives the sentences that say so.
+    pub fn fail_what_never_occurred(&mut self) -> Vec<String> {
+        let never = self.occurrences.rarer_than(1);
+        self.failed += never.len() as u64;
+        never.iter().map(|answer| format!("{answer} never occurred")).collect()
     }
 
     /// Compares two values that can be shown.
@@ -73,6 +92,7 @@ impl Tally {
 
     /// Notes the seed, so that a subject that ends the process can be found.
     pub fn begin(&mut self, seed: u64) {
+        self.in_seeds = true;
         if self.noted.is_none() {
             self.noted = self.keep.as_ref().and_then(|folder| note_in(folder));
         }
@@ -83,7 +103,8 @@ impl Tally {
     }
 
     /// The run came to its end, so nothing needs to be found.
-    pub fn end(&self) {
+    pub fn end(&mut self) {
+        self.in_seeds = false;
         if let Some(folder) = &self.keep {
             let _ = fs::remove_file(folder.join(LAST_SEED));
         }

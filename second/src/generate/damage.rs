@@ -2,28 +2,43 @@
 
 use super::random::Random;
 use crate::record::*;
+use Damage::{Bytes, Length};
 
-type Damage = fn(&mut Random, &mut Vec<u8>);
+/// Most damage keeps the record's length.
+#[derive(Clone, Copy)]
+enum Damage {
+    Length(fn(&mut Random, &mut Vec<u8>)),
+    Bytes(fn(&mut Random, &mut [u8])),
+}
 
-const DAMAGES: [Damage; 14] = [
-    length,
-    block_check,
-    checks_out_of_range,
-    swapped_blocks,
-    header,
-    header_numbers,
-    block_count,
-    slot_field,
-    slot_field,
-    past_the_events,
-    block_tail,
-    position,
-    visible_set,
-    ring,
+/// Those of late questions stand here more than once: earlier damage hides theirs.
+const DAMAGES: [Damage; 19] = [
+    Length(length),
+    Bytes(block_check),
+    Bytes(checks_out_of_range),
+    Bytes(swapped_blocks),
+    Bytes(header),
+    Bytes(header_numbers),
+    Length(block_count),
+    Bytes(slot_field),
+    Bytes(slot_field),
+    Bytes(past_the_events),
+    Bytes(block_tail),
+    Bytes(position),
+    Bytes(position),
+    Bytes(position),
+    Bytes(visible_set),
+    Bytes(visible_set),
+    Bytes(ring),
+    Bytes(ring),
+    Bytes(ring),
 ];
 
 pub fn once(random: &mut Random, bytes: &mut Vec<u8>) {
-    random.pick(&DAMAGES)(random, bytes);
+    match random.pick(&DAMAGES) {
+        Length(damage) => damage(random, bytes),
+        Bytes(damage) => damage(random, bytes),
+    }
 }
 
 /// Flips one bit before the checks, and seals.
@@ -43,12 +58,13 @@ fn length(random: &mut Random, bytes: &mut Vec<u8>) {
     }
 }
 
+/// Often block 0: place 0 is an edge of its own.
 fn any_block(random: &mut Random, bytes: &[u8]) -> Option<usize> {
     let blocks = bytes.len() / BLOCK_BYTES;
-    (blocks > 0).then(|| random.index(blocks))
+    (blocks > 0).then(|| if random.chance(25) { 0 } else { random.index(blocks) })
 }
 
-fn block_check(random: &mut Random, bytes: &mut Vec<u8>) {
+fn block_check(random: &mut Random, bytes: &mut [u8]) {
     if let Some(block) = any_block(random, bytes) {
         let within = if random.chance(50) { random.index(BLOCK_BYTES) } else { 508 + random.index(4) };
         bytes[block * BLOCK_BYTES + within] ^= 1 << random.below(8);
@@ -56,7 +72,7 @@ fn block_check(random: &mut Random, bytes: &mut Vec<u8>) {
 }
 
 /// A stored check congruent to the right one, or simply too large.
-fn checks_out_of_range(random: &mut Random, bytes: &mut Vec<u8>) {
+fn checks_out_of_range(random: &mut Random, bytes: &mut [u8]) {
     let Some(block) = any_block(random, bytes) else { return };
     let at = block * BLOCK_BYTES + random.pick(&[508, 510]);
     let stored = u16_at(bytes, at);
@@ -65,7 +81,7 @@ fn checks_out_of_range(random: &mut Random, bytes: &mut Vec<u8>) {
 }
 
 /// Two whole blocks change places, checks and all.
-fn swapped_blocks(random: &mut Random, bytes: &mut Vec<u8>) {
+fn swapped_blocks(random: &mut Random, bytes: &mut [u8]) {
     let (Some(a), Some(b)) = (any_block(random, bytes), any_block(random, bytes)) else { return };
     for within in 0..BLOCK_BYTES {
         bytes.swap(a * BLOCK_BYTES + within, b * BLOCK_BYTES + within);
@@ -75,7 +91,7 @@ fn swapped_blocks(random: &mut Random, bytes: &mut Vec<u8>) {
     }
 }
 
-fn header(random: &mut Random, bytes: &mut Vec<u8>) {
+fn header(random: &mut Random, bytes: &mut [u8]) {
     if bytes.len() >= BLOCK_BYTES {
         let any = 7 + random.index(501);
         let at = random.pick(&[0, 1, 2, 3, 7, 8, 507, any, any]);
@@ -84,7 +100,7 @@ fn header(random: &mut Random, bytes: &mut Vec<u8>) {
     }
 }
 
-fn header_numbers(random: &mut Random, bytes: &mut Vec<u8>) {
+fn header_numbers(random: &mut Random, bytes: &mut [u8]) {
     if bytes.len() < BLOCK_BYTES {
         return;
     }
@@ -127,8 +143,13 @@ fn any_event(random: &mut Random, bytes: &[u8]) -> Option<usize> {
     any_slot(random, bytes, n)
 }
 
-fn slot_field(random: &mut Random, bytes: &mut Vec<u8>) {
-    let Some(event) = any_event(random, bytes) else { return };
+/// Often event 0, as with blocks.
+fn first_or_any(random: &mut Random, bytes: &[u8]) -> Option<usize> {
+    any_event(random, bytes).map(|event| if random.chance(45) { 0 } else { event })
+}
+
+fn slot_field(random: &mut Random, bytes: &mut [u8]) {
+    let Some(event) = first_or_any(random, bytes) else { return };
     let sites = bytes[6];
     let slot = slot_mut(bytes, event);
     match random.below(9) {
@@ -159,7 +180,7 @@ fn pending_with_value(random: &mut Random, slot: &mut [u8]) {
     slot[24..32].fill(0);
 }
 
-fn past_the_events(random: &mut Random, bytes: &mut Vec<u8>) {
+fn past_the_events(random: &mut Random, bytes: &mut [u8]) {
     if let Some(slot) = any_slot(random, bytes, usize::MAX) {
         let n = event_count(bytes);
         let last = BLOCK_SLOTS * (bytes.len() / BLOCK_BYTES - 1);
@@ -169,20 +190,19 @@ fn past_the_events(random: &mut Random, bytes: &mut Vec<u8>) {
     }
 }
 
-fn block_tail(random: &mut Random, bytes: &mut Vec<u8>) {
-    match any_block(random, bytes) {
-        None | Some(0) => {}
-        Some(block) => {
-            let any = SLOTS_END + random.index(60);
-            let within = random.pick(&[SLOTS_END, CHECKED_BYTES - 1, any]);
-            bytes[block * BLOCK_BYTES + within] ^= 1 << random.below(8);
-            seal(bytes);
-        }
+fn block_tail(random: &mut Random, bytes: &mut [u8]) {
+    let with_slots = (bytes.len() / BLOCK_BYTES).saturating_sub(1);
+    if with_slots > 0 {
+        let block = 1 + random.index(with_slots);
+        let any = SLOTS_END + random.index(60);
+        let within = random.pick(&[SLOTS_END, CHECKED_BYTES - 1, any]);
+        bytes[block * BLOCK_BYTES + within] ^= 1 << random.below(8);
+        seal(bytes);
     }
 }
 
-fn position(random: &mut Random, bytes: &mut Vec<u8>) {
-    let (Some(event), Some(other)) = (any_event(random, bytes), any_event(random, bytes)) else { return };
+fn position(random: &mut Random, bytes: &mut [u8]) {
+    let (Some(event), Some(other)) = (first_or_any(random, bytes), any_event(random, bytes)) else { return };
     let n = event_count(bytes) as u16;
     let equal = u16_at(slot(bytes, other), 10);
     let position = random.pick(&[equal, equal, equal, n, n.wrapping_add(1), 256, u16::MAX]);
@@ -194,8 +214,8 @@ fn set_visible(bytes: &mut [u8], a: usize, b: usize) {
     slot_mut(bytes, b)[32 + a / 8] |= 1 << (a % 8);
 }
 
-fn visible_set(random: &mut Random, bytes: &mut Vec<u8>) {
-    let Some(event) = any_event(random, bytes) else { return };
+fn visible_set(random: &mut Random, bytes: &mut [u8]) {
+    let Some(event) = first_or_any(random, bytes) else { return };
     let n = event_count(bytes).min(MOST_EVENTS);
     let seen = match random.below(3) {
         _ if n == MOST_EVENTS => event,
@@ -208,7 +228,7 @@ fn visible_set(random: &mut Random, bytes: &mut Vec<u8>) {
 }
 
 /// A ring of two or more events, through what is visible already or not.
-fn ring(random: &mut Random, bytes: &mut Vec<u8>) {
+fn ring(random: &mut Random, bytes: &mut [u8]) {
     let Some(first) = any_event(random, bytes) else { return };
     let mut from = first;
     for _ in 0..1 + random.below(4) {

@@ -21,9 +21,9 @@ type Family = fn(&mut Random) -> Vec<u8>;
 
 /// Each family with its share of a hundred seeds.
 const FAMILIES: [(u64, &str, Family); 7] = [
-    (30, "small", small),
-    (28, "edge", edge),
-    (24, "damaged", damaged),
+    (27, "small", small),
+    (25, "edge", edge),
+    (30, "damaged", damaged),
     (6, "bit", one_bit),
     (4, "large", large),
     (4, "large-edge", large_edge),

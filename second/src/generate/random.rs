@@ -7,11 +7,12 @@ pub struct Random {
 impl Random {
     pub fn new(seed: u64) -> Random {
         let mut random = Random { state: seed ^ 0x5851_f42d_4c95_7f2d };
-        random.next();
+        random.word();
         random
     }
 
-    pub fn next(&mut self) -> u64 {
+    /// Any 64 bits.
+    pub fn word(&mut self) -> u64 {
         self.state = self.state.wrapping_add(0x9e37_79b9_7f4a_7c15);
         let mut mixed = self.state;
         mixed = (mixed ^ (mixed >> 30)).wrapping_mul(0xbf58_476d_1ce4_e5b9);
@@ -21,7 +22,7 @@ impl Random {
 
     /// 0 to bound - 1.
     pub fn below(&mut self, bound: u64) -> u64 {
-        self.next() % bound
+        self.word() % bound
     }
 
     pub fn index(&mut self, bound: usize) -> usize {
@@ -37,7 +38,7 @@ impl Random {
     }
 
     pub fn byte(&mut self) -> u8 {
-        self.next() as u8
+        self.word() as u8
     }
 
     /// 0 to n - 1 in a random order.

@@ -100,7 +100,7 @@ fn call(random: &mut Random, mix: &Mix, store: &Store) -> [u8; CALL_BYTES] {
 fn event(random: &mut Random, mix: &Mix) -> Call {
     let (site, object) = (random.index(mix.sites), random.index(mix.objects));
     if random.chance(mix.puts) {
-        let any = random.next() as u32;
+        let any = random.word() as u32;
         let value = random.pick(&[0, 1, 7, u32::MAX, any]);
         Call::Put { site, object, value }
     } else {
