@@ -1,8 +1,13 @@
-/* Holds the header's unpacking against a small rehearsal; exits with 0 where all of it is right. */
+/* Holds the headers' unpacking against a small rehearsal, and what gcr_judge_all writes against gcr_judge_predicate.
+ * Names each check that fails; exits with 0 where none does. */
 #include "gcr.h"
+#include <stdio.h>
+
+#define LENGTH 1024 /* bytes of the rehearsal's record */
+#define ROOM 15     /* words lent to gcr_judge_all: two more than it writes */
+#define STAYS 7     /* what they hold before */
 
 static uint8_t record[GCR_RECORD_MOST];
-static uint64_t work[GCR_WORK_WORDS];
 
 /* A put of 70,000 at site 0, a get there, the put delivered to its own site. */
 static const uint8_t script[3 * GCR_CALL_BYTES] = {1, 0, 5, 0, 0x70, 0x11, 1, 0, 2, 0, 5, 0, 0, 0, 0, 0, 3};
@@ -13,23 +18,72 @@ static int answers_are_right(const uint8_t *answers) {
            gcr_answer_number(answers, 2) == 35;
 }
 
-static int rehearsal_is_right(uint64_t done, const uint8_t *answers) {
-    return gcr_rehearsed_number(done) == 0 && gcr_rehearsed_length(done) == 1024 &&
+static int rehearsal_is_right(void) {
+    uint8_t answers[sizeof script];
+    uint64_t done = gcr_rehearse(2, script, sizeof script, record, sizeof record, answers, sizeof answers);
+    return gcr_rehearsed_number(done) == 0 && gcr_rehearsed_length(done) == LENGTH &&
            gcr_rehearsed_outstanding(done) <= 1 && answers_are_right(answers);
 }
 
 static int reading_is_right(void) {
-    return gcr_is_met(gcr_read(record, 1024, work, GCR_WORK_WORDS)) && gcr_is_visible(work, 0, 1) &&
-           !gcr_is_visible(work, 1, 0);
+    static uint64_t work[GCR_WORK_WORDS];
+    uint64_t passed = gcr_read(record, LENGTH, work, GCR_WORK_WORDS);
+    uint64_t short_work = gcr_read(record, LENGTH, work, GCR_WORK_WORDS - 1);
+    return gcr_is_passed(passed) && !gcr_is_refused(passed) && gcr_is_visible(work, 0, 1) &&
+           !gcr_is_visible(work, 1, 0) && !gcr_is_passed(short_work) && gcr_refused_number(short_work) == 1;
 }
 
-static int refusal_is_right(uint64_t answer) {
-    return gcr_is_refused(answer) && gcr_refused_number(answer) == 3 && gcr_refused_place(answer) == 0;
+/* What a rehearsal leaves is causal; there is no model 14. */
+static int judging_is_right(void) {
+    uint64_t met = gcr_judge_model(4, record, LENGTH);
+    uint64_t no_model = gcr_judge_model(14, record, LENGTH);
+    return gcr_is_met(met) && !gcr_is_broken(met) && !gcr_is_refused(met) && gcr_refused_number(no_model) == 2;
+}
+
+/* The first 1,000 bytes are no record. */
+static int refusal_is_right(void) {
+    uint64_t cut = gcr_judge_predicate(1, record, 1000);
+    return gcr_is_refused(cut) && !gcr_is_met(cut) && !gcr_is_broken(cut) && gcr_refused_number(cut) == 3 &&
+           gcr_refused_place(cut) == 0;
+}
+
+/* Word p - 1 is what gcr_judge_predicate answers for p, of a refused record too; words that are not lent, and those
+ * after the thirteenth, stay. */
+static int words_are_right(const uint64_t *out, size_t len, size_t words) {
+    for (uint32_t p = 1; p <= ROOM; p++) {
+        int written = p <= words && p <= GCR_PREDICATES;
+        if (out[p - 1] != (written ? gcr_judge_predicate(p, record, len) : STAYS))
+            return 0;
+    }
+    return 1;
+}
+
+static int all_is_right(size_t len, size_t words) {
+    uint64_t out[ROOM];
+    for (size_t i = 0; i < ROOM; i++)
+        out[i] = STAYS;
+    uint64_t answer = gcr_judge_all(record, len, out, words);
+    int refused = gcr_is_refused(gcr_judge_predicate(1, record, len));
+    return gcr_is_refused(answer) == refused && gcr_is_judged(answer) == !refused && words_are_right(out, len, words);
+}
+
+static int every_length_is_right(size_t len) {
+    return all_is_right(len, 0) && all_is_right(len, 5) && all_is_right(len, GCR_PREDICATES) && all_is_right(len, ROOM);
+}
+
+/* 1 where the check failed, with its name written. */
+static int wrong(const char *name, int right) {
+    if (!right)
+        printf("header_check: %s is not as the header says\n", name);
+    return !right;
 }
 
 int main(void) {
-    uint8_t answers[sizeof script];
-    uint64_t done = gcr_rehearse(2, script, sizeof script, record, sizeof record, answers, sizeof answers);
-    uint64_t cut = gcr_judge_predicate(1, record, 1000);
-    return !(rehearsal_is_right(done, answers) && reading_is_right() && refusal_is_right(cut));
+    int failed = wrong("a rehearsal", rehearsal_is_right());
+    failed += wrong("a read", reading_is_right());
+    failed += wrong("a judgment", judging_is_right());
+    failed += wrong("a refusal", refusal_is_right());
+    failed += wrong("gcr_judge_all of a record that passes", every_length_is_right(LENGTH));
+    failed += wrong("gcr_judge_all of a refused record", every_length_is_right(1000));
+    return failed != 0;
 }

@@ -1,14 +1,18 @@
-//! The library's calls as C has them (`include/gcr.h`). All unsafe code of this package is here.
+//! The library's calls as C has them (`include/gcr.h`, `include/gcr_reader.h`), with a type for each kind of answer. All
+//! unsafe code of this package is here.
 //!
 //! Each wrapper is sound for the same reasons: a pointer and its length come from one slice, which outlives the call;
 //! a written slice is `&mut`, so it overlaps no other; the library keeps no pointer, reads and writes inside those
-//! lengths only, and answers any bytes and any lengths. What a wrapper adds to that stands beside it.
+//! lengths only, and answers any bytes and any lengths. An answer's type is one 64-bit number. What a wrapper adds to
+//! that stands beside it.
+
+use crate::packing::{Judgment, Reading, Rehearsal};
 
 extern "C" {
-    fn gcr_read(record: *const u8, len: usize, work: *mut u64, words: usize) -> u64;
-    fn gcr_judge_model(model: u32, record: *const u8, len: usize) -> u64;
-    fn gcr_judge_predicate(predicate: u32, record: *const u8, len: usize) -> u64;
-    fn gcr_judge_all(record: *const u8, len: usize, out: *mut u64, words: usize) -> u64;
+    fn gcr_read(record: *const u8, len: usize, work: *mut u64, words: usize) -> Reading;
+    fn gcr_judge_model(model: u32, record: *const u8, len: usize) -> Judgment;
+    fn gcr_judge_predicate(predicate: u32, record: *const u8, len: usize) -> Judgment;
+    fn gcr_judge_all(record: *const u8, len: usize, out: *mut Judgment, words: usize) -> Reading;
     fn gcr_rehearse(
         sites: u32,
         script: *const u8,
@@ -17,30 +21,30 @@ extern "C" {
         record_len: usize,
         answers: *mut u8,
         answers_len: usize,
-    ) -> u64;
+    ) -> Rehearsal;
 }
 
-pub fn read(record: &[u8], work: &mut [u64]) -> u64 {
+pub fn read(record: &[u8], work: &mut [u64]) -> Reading {
     // SAFETY: `work` is aligned for its words, and `words` counts words.
     unsafe { gcr_read(record.as_ptr(), record.len(), work.as_mut_ptr(), work.len()) }
 }
 
-pub fn judge_model(model: u32, record: &[u8]) -> u64 {
+pub fn judge_model(model: u32, record: &[u8]) -> Judgment {
     // SAFETY: nothing is written; a number that is no model is answered.
     unsafe { gcr_judge_model(model, record.as_ptr(), record.len()) }
 }
 
-pub fn judge_predicate(predicate: u32, record: &[u8]) -> u64 {
+pub fn judge_predicate(predicate: u32, record: &[u8]) -> Judgment {
     // SAFETY: nothing is written; a number that is no predicate is answered.
     unsafe { gcr_judge_predicate(predicate, record.as_ptr(), record.len()) }
 }
 
-pub fn judge_all(record: &[u8], out: &mut [u64]) -> u64 {
-    // SAFETY: `out` is aligned for its words, and `words` counts words.
+pub fn judge_all(record: &[u8], out: &mut [Judgment]) -> Reading {
+    // SAFETY: `out` is aligned for its words, and `words` counts words; any number is a `Judgment`.
     unsafe { gcr_judge_all(record.as_ptr(), record.len(), out.as_mut_ptr(), out.len()) }
 }
 
-pub fn rehearse(sites: u32, script: &[u8], record: &mut [u8], answers: &mut [u8]) -> u64 {
+pub fn rehearse(sites: u32, script: &[u8], record: &mut [u8], answers: &mut [u8]) -> Rehearsal {
     let (record_len, answers_len) = (record.len(), answers.len());
     // SAFETY: both buffers are `&mut`, so they are apart from each other and from the script.
     unsafe {
@@ -53,5 +57,44 @@ pub fn rehearse(sites: u32, script: &[u8], record: &mut [u8], answers: &mut [u8]
             answers.as_mut_ptr(),
             answers_len,
         )
+    }
+}
+
+#[cfg(test)]
+mod tests {
+    use super::*;
+
+    const LISTING: &[u8] = include_bytes!("../../../records/listing.gcr");
+
+    /// Of a record, over so many words: word p - 1 is what the call of predicate p answers, and later words stay.
+    fn words_are_those_of_each_predicate(record: &[u8], words: usize) {
+        let mut out = vec![Judgment::UNWRITTEN; words];
+        let reading = judge_all(record, &mut out);
+        for (p, &word) in (1..).zip(&out) {
+            let alone = if p <= 13 { judge_predicate(p, record) } else { Judgment::UNWRITTEN };
+            assert_eq!(word, alone, "word {} of {words}", p - 1);
+        }
+        assert_eq!(reading.passed().err(), judge_predicate(1, record).verdict().err());
+    }
+
+    fn at_every_length(record: &[u8]) {
+        for words in [0, 1, 5, 13, 15] {
+            words_are_those_of_each_predicate(record, words);
+        }
+    }
+
+    #[test]
+    fn all_at_once_are_as_each_alone() {
+        at_every_length(LISTING);
+    }
+
+    /// So that no word of a refused record reads as met.
+    #[test]
+    fn a_refused_record_leaves_its_refusal_in_each_word() {
+        let mut damaged = LISTING.to_vec();
+        damaged[600] ^= 1;
+        for record in [&damaged, &LISTING[..512], &[]] {
+            at_every_length(record);
+        }
     }
 }

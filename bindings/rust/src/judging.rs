@@ -1,6 +1,7 @@
 //! Judging a record against a model, a predicate, or all predicates.
 
-use crate::{ffi, packing, Model, Predicate, Refusal};
+use crate::packing::Judgment;
+use crate::{ffi, Model, Predicate, Refusal};
 use std::fmt;
 
 /// What the judge finds of a record that passes the questions.
@@ -36,7 +37,7 @@ impl fmt::Display for Verdict {
 /// assert_eq!(refusal.number, 3);
 /// ```
 pub fn judge_model(model: Model, record: &[u8]) -> Result<Verdict, Refusal> {
-    packing::verdict(ffi::judge_model(model.number(), record))
+    ffi::judge_model(model.number(), record).verdict()
 }
 
 /// Judges one predicate.
@@ -48,10 +49,11 @@ pub fn judge_model(model: Model, record: &[u8]) -> Result<Verdict, Refusal> {
 /// assert_eq!((refusal.number, refusal.place), (4, 0));
 /// ```
 pub fn judge_predicate(predicate: Predicate, record: &[u8]) -> Result<Verdict, Refusal> {
-    packing::verdict(ffi::judge_predicate(predicate.number(), record))
+    ffi::judge_predicate(predicate.number(), record).verdict()
 }
 
-/// Judges all thirteen predicates, reading the record once. Predicate k's verdict stands at k - 1.
+/// Judges all thirteen predicates, reading the record once. Predicate k's verdict stands at k - 1. A refused record has
+/// no verdicts.
 ///
 /// ```
 /// use gcr::{judge_all, Predicate, Verdict};
@@ -70,6 +72,11 @@ pub fn judge_predicate(predicate: Predicate, record: &[u8]) -> Result<Verdict, R
 /// # Ok::<(), gcr::Refusal>(())
 /// ```
 pub fn judge_all(record: &[u8]) -> Result<[Verdict; 13], Refusal> {
-    let mut answers = [0; 13];
-    packing::verdict(ffi::judge_all(record, &mut answers)).map(|_| answers.map(packing::judged))
+    let mut words = [Judgment::UNWRITTEN; 13];
+    ffi::judge_all(record, &mut words).passed()?;
+    let mut verdicts = [Verdict::Met; 13]; // each is written over, or none is returned
+    for (verdict, word) in verdicts.iter_mut().zip(words) {
+        *verdict = word.verdict()?;
+    }
+    Ok(verdicts)
 }

@@ -21,8 +21,10 @@
 //! # Ok::<(), gcr::Refusal>(())
 //! ```
 //!
+//! A record or a script that is refused is an `Err`, of every call: no [`Verdict`] stands for it.
+//!
 //! The library has no static state and keeps nothing that it is lent, so every call here may run on several threads
-//! at once.
+//! at once. 128 KB of the thread's stack are enough for any of them.
 
 #![deny(unsafe_code)]
 #![warn(missing_docs)]

@@ -1,21 +1,60 @@
-//! Taking apart the numbers in which the library packs its answers.
+//! The numbers in which the library packs its answers. Each kind has a type of its own, since 0 means something else in
+//! each: a record that passed or was judged is not thereby met.
 
 use crate::{Refusal, Rehearsed, Verdict};
 
-/// 0 met; 1,048,576 + 1,024 × a + b broken; 2,097,152 + 1,024 × number + place refused.
-pub fn verdict(answer: u64) -> Result<Verdict, Refusal> {
-    match answer >> 20 {
-        0 | 1 => Ok(judged(answer)),
-        _ => Err(Refusal { number: upper(answer).into(), place: lower(answer).into() }),
+/// Whether a record passed the questions: 0, or 2,097,152 + 1,024 × number + place refused. The answer of a read, and of
+/// a judgment of all predicates, whose words say what was found.
+#[repr(transparent)]
+#[derive(Clone, Copy, Debug, PartialEq, Eq)]
+#[must_use]
+pub struct Reading(u64);
+
+impl Reading {
+    pub fn passed(self) -> Result<(), Refusal> {
+        match self.0 {
+            0 => Ok(()),
+            answer => Err(refusal(answer)),
+        }
     }
 }
 
-/// An answer that is known to be no refusal.
-pub fn judged(answer: u64) -> Verdict {
-    match answer >> 20 {
-        0 => Verdict::Met,
-        _ => Verdict::Broken { a: upper(answer), b: lower(answer) },
+/// What was found of one predicate or model: 0 met; 1,048,576 + 1,024 × a + b broken; else refused, as a reading.
+#[repr(transparent)]
+#[derive(Clone, Copy, Debug, PartialEq, Eq)]
+#[must_use]
+pub struct Judgment(u64);
+
+impl Judgment {
+    /// For a word that is about to be written: anything but met.
+    pub const UNWRITTEN: Judgment = Judgment(u64::MAX);
+
+    pub fn verdict(self) -> Result<Verdict, Refusal> {
+        match self.0 >> 20 {
+            0 => Ok(Verdict::Met),
+            1 => Ok(Verdict::Broken { a: upper(self.0), b: lower(self.0) }),
+            _ => Err(refusal(self.0)),
+        }
     }
+}
+
+/// What a rehearsal came to: number + 256 × length + 16,777,216 × outstanding.
+#[repr(transparent)]
+#[derive(Clone, Copy, Debug, PartialEq, Eq)]
+#[must_use]
+pub struct Rehearsal(u64);
+
+impl Rehearsal {
+    pub fn done(self) -> Result<Rehearsed, Refusal> {
+        match self.0 & 255 {
+            0 => Ok(Rehearsed { length: (self.0 >> 8 & 65535) as usize, outstanding: self.0 >> 24 }),
+            number => Err(Refusal { number: number as u32, place: 0 }),
+        }
+    }
+}
+
+fn refusal(answer: u64) -> Refusal {
+    Refusal { number: upper(answer).into(), place: lower(answer).into() }
 }
 
 fn upper(answer: u64) -> u16 {
@@ -26,31 +65,35 @@ fn lower(answer: u64) -> u16 {
     (answer & 1023) as u16
 }
 
-/// Number + 256 × length + 16,777,216 × outstanding.
-pub fn rehearsed(answer: u64) -> Result<Rehearsed, Refusal> {
-    match answer & 255 {
-        0 => Ok(Rehearsed { length: (answer >> 8 & 65535) as usize, outstanding: answer >> 24 }),
-        number => Err(Refusal { number: number as u32, place: 0 }),
-    }
-}
-
 #[cfg(test)]
 mod tests {
     use super::*;
 
+    fn verdict(answer: u64) -> Result<Verdict, Refusal> {
+        Judgment(answer).verdict()
+    }
+
     #[test]
-    fn verdicts_come_apart_at_the_ends_of_their_ranges() {
+    fn judgments_come_apart_at_the_ends_of_their_ranges() {
         assert_eq!(verdict(0), Ok(Verdict::Met));
         assert_eq!(verdict(1_048_576), Ok(Verdict::Broken { a: 0, b: 0 }));
         assert_eq!(verdict(1_048_576 + 1_024 * 255 + 254), Ok(Verdict::Broken { a: 255, b: 254 }));
         assert_eq!(verdict(2_097_152 + 1_024), Err(Refusal { number: 1, place: 0 }));
         assert_eq!(verdict(2_097_152 + 1_024 * 10 + 255), Err(Refusal { number: 10, place: 255 }));
+        assert!(Judgment::UNWRITTEN.verdict().is_err());
+    }
+
+    #[test]
+    fn readings_come_apart_at_the_ends_of_their_ranges() {
+        assert_eq!(Reading(0).passed(), Ok(()));
+        assert_eq!(Reading(2_097_152 + 1_024).passed(), Err(Refusal { number: 1, place: 0 }));
+        assert_eq!(Reading(2_097_152 + 1_024 * 10 + 255).passed(), Err(Refusal { number: 10, place: 255 }));
     }
 
     #[test]
     fn rehearsals_come_apart_at_the_ends_of_their_ranges() {
         let most = Rehearsed { length: 19_456, outstanding: 256 * 7 };
-        assert_eq!(rehearsed(256 * 19_456 + 16_777_216 * 256 * 7), Ok(most));
-        assert_eq!(rehearsed(20), Err(Refusal { number: 20, place: 0 }));
+        assert_eq!(Rehearsal(256 * 19_456 + 16_777_216 * 256 * 7).done(), Ok(most));
+        assert_eq!(Rehearsal(20).done(), Err(Refusal { number: 20, place: 0 }));
     }
 }

@@ -1,6 +1,6 @@
 //! The record reader, and the visible sets that it lays out.
 
-use crate::{ffi, packing, Refusal};
+use crate::{ffi, Refusal};
 
 /// The words of work memory that [`read`] asks for; more will do.
 pub const WORK_WORDS: usize = 1024;
@@ -20,7 +20,7 @@ pub const RECORD_MOST: usize = 19_456;
 /// assert_eq!(work, [0; gcr::WORK_WORDS]);
 /// ```
 pub fn read(record: &[u8], work: &mut [u64]) -> Result<(), Refusal> {
-    packing::verdict(ffi::read(record, work)).map(|_| ())
+    ffi::read(record, work).passed()
 }
 
 /// Whether event `a` is visible to event `b`, by the words that a [`read`] which passed has filled.

@@ -1,6 +1,6 @@
 //! The rehearsal of the store.
 
-use crate::{ffi, packing, Refusal};
+use crate::{ffi, Refusal};
 
 /// The bytes of the longest script.
 pub const SCRIPT_MOST: usize = 32_768;
@@ -33,5 +33,5 @@ pub struct Rehearsed {
 /// # Ok::<(), gcr::Refusal>(())
 /// ```
 pub fn rehearse(sites: u32, script: &[u8], record: &mut [u8], answers: &mut [u8]) -> Result<Rehearsed, Refusal> {
-    packing::rehearsed(ffi::rehearse(sites, script, record, answers))
+    ffi::rehearse(sites, script, record, answers).done()
 }

@@ -1,0 +1,97 @@
+#include "largest.h"
+
+#define EVENTS 256
+#define BLOCK 512
+#define SLOT 64
+#define SLOTS 7 /* in a block */
+
+static uint8_t script[GCR_SCRIPT_MOST];
+static uint8_t records[LARGEST_RECORDS][GCR_RECORD_MOST];
+
+/* Bytes that look random and are the same on every run. */
+static uint8_t drawn(void) {
+    static uint32_t state = 1;
+    state = state * 1664525 + 1013904223;
+    return (uint8_t)(state >> 24);
+}
+
+/* A put, a get, or the delivery of an event, at any of the sites. */
+static void draw_call(uint8_t *call) {
+    call[0] = (uint8_t)(1 + drawn() % 3);
+    call[1] = drawn() % LARGEST_SITES;
+    call[2] = call[0] == 3 ? 0 : drawn() % 32;
+    call[4] = call[0] == 2 ? 0 : drawn();
+}
+
+const uint8_t *largest_script(void) {
+    if (!script[0])
+        for (size_t at = 0; at < sizeof script; at += GCR_CALL_BYTES)
+            draw_call(script + at);
+    return script;
+}
+
+static void rehearse(uint32_t sites, const uint8_t *calls, size_t len, uint8_t *record) {
+    static uint8_t answers[GCR_SCRIPT_MOST];
+    gcr_rehearse(sites, calls, len, record, GCR_RECORD_MOST, answers, sizeof answers);
+}
+
+/* 256 puts at one site. */
+static void one_site(uint8_t *record) {
+    static uint8_t puts[EVENTS * GCR_CALL_BYTES];
+    for (size_t at = 0; at < sizeof puts; at += GCR_CALL_BYTES)
+        puts[at] = 1;
+    rehearse(1, puts, sizeof puts, record);
+}
+
+static uint8_t *slot(uint8_t *record, size_t event) {
+    return record + BLOCK * (1 + event / SLOTS) + SLOT * (event % SLOTS);
+}
+
+/* Event 255 starts first, and event 0 last. */
+static void turn_times(uint8_t *record) {
+    for (size_t event = 0; event < EVENTS; event++) {
+        size_t start = 2 * (EVENTS - 1 - event);
+        uint8_t *at = slot(record, event);
+        at[16] = (uint8_t)start;
+        at[17] = (uint8_t)(start >> 8);
+        at[24] = (uint8_t)(start + 1);
+        at[25] = (uint8_t)((start + 1) >> 8);
+    }
+}
+
+static void store(uint8_t *at, uint32_t number) {
+    at[0] = (uint8_t)number;
+    at[1] = (uint8_t)(number >> 8);
+}
+
+/* The block's check, after its bytes were changed. */
+static void seal(uint8_t *block, uint32_t number) {
+    uint32_t a = number + 1, b = 0;
+    for (size_t i = 0; i < BLOCK - 4; i += 2) {
+        a = (a + block[i] + 256u * block[i + 1]) % 65521;
+        b = (b + a) % 65521;
+    }
+    store(block + 508, a);
+    store(block + 510, b);
+}
+
+static void seal_all(uint8_t *record) {
+    for (uint32_t block = 0; block < GCR_RECORD_MOST / BLOCK; block++)
+        seal(record + BLOCK * block, block);
+}
+
+static void make_records(void) {
+    rehearse(LARGEST_SITES, largest_script(), GCR_SCRIPT_MOST, records[0]);
+    for (size_t k = 1; k < LARGEST_RECORDS; k++)
+        one_site(records[k]);
+    turn_times(records[2]);
+    slot(records[3], 0)[32 + 31] = 128;
+    seal_all(records[2]);
+    seal_all(records[3]);
+}
+
+const uint8_t *largest_record(size_t k) {
+    if (!records[0][0])
+        make_records();
+    return records[k];
+}

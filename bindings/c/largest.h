@@ -1,0 +1,20 @@
+/* The longest script, and records of the greatest length: some that pass, and one that is refused for a ring. */
+#ifndef LARGEST_H
+#define LARGEST_H
+
+#include "gcr.h"
+
+#define LARGEST_SITES 8
+#define LARGEST_RECORDS 4
+
+/* A day of 4,096 puts, gets and deliveries, many of them refused. */
+const uint8_t *largest_script(void);
+
+/* 256 events each, in GCR_RECORD_MOST bytes:
+ *   0  what that day leaves
+ *   1  one site's 256 events, each of which sees all before it
+ *   2  record 1 with the times turned round, so that every event leads to itself by site order and visibility
+ *   3  record 1 with event 0 seeing event 255: refused by question 10 */
+const uint8_t *largest_record(size_t k);
+
+#endif

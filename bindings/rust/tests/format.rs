@@ -1,0 +1,66 @@
+//! The dumps of docs/FORMAT.md are the bytes that they say they are, and so is its way to compute a block's check.
+
+use gcr::{rehearse, RECORD_MOST};
+
+const PAGE: &str = include_str!("../../../docs/FORMAT.md");
+const EMPTY: &[u8] = include_bytes!("../../../records/empty-one-site.gcr");
+const LISTING: &[u8] = include_bytes!("../../../records/listing.gcr");
+const LISTING_SCRIPT: &[u8] = include_bytes!("../../../records/listing.script");
+
+/// `01fc: 9b 74 | text` as the offset and its bytes; other lines are none.
+fn shown(line: &str) -> Option<(usize, Vec<u8>)> {
+    let (place, bytes) = line.split_once('|')?.0.split_once(':')?;
+    let bytes = bytes.split_whitespace().map(|byte| u8::from_str_radix(byte, 16).unwrap());
+    Some((usize::from_str_radix(place, 16).unwrap(), bytes.collect()))
+}
+
+/// The bytes of the page's dump of that name: zero where none are shown.
+fn dump(name: &str, length: usize) -> Vec<u8> {
+    let (_, rest) = PAGE.split_once(&format!("```text {name}\n")).unwrap();
+    let (lines, _) = rest.split_once("```").unwrap();
+    let mut bytes = vec![0; length];
+    for (at, part) in lines.lines().filter_map(shown) {
+        bytes[at..at + part.len()].copy_from_slice(&part);
+    }
+    bytes
+}
+
+fn answers(input: &[u8]) -> Vec<u8> {
+    let (sites, script) = (u32::from(input[0]), &input[1..]);
+    let mut buffer = vec![0; script.len()];
+    rehearse(sites, script, &mut [0; RECORD_MOST], &mut buffer).unwrap();
+    buffer
+}
+
+#[test]
+fn dumps_are_the_bytes_of_their_files() {
+    assert_eq!(dump("records/empty-one-site.gcr", EMPTY.len()), EMPTY);
+    assert_eq!(dump("records/listing.gcr", LISTING.len()), LISTING);
+    assert_eq!(dump("records/listing.script", LISTING_SCRIPT.len()), LISTING_SCRIPT);
+}
+
+#[test]
+fn the_listings_answers_are_as_shown() {
+    let answers = answers(LISTING_SCRIPT);
+    assert_eq!(dump("answers", answers.len()), answers);
+}
+
+/// A and B, as the page's lines of C compute them.
+fn check(number: usize, block: &[u8]) -> (u32, u32) {
+    let words = block[..508].chunks(2).map(|word| u32::from(word[0]) + 256 * u32::from(word[1]));
+    words.fold((number as u32 + 1, 0), |(a, b), word| {
+        let a = (a + word) % 65521;
+        (a, (b + a) % 65521)
+    })
+}
+
+#[test]
+fn checks_are_as_the_page_computes_them() {
+    let stored = |at: &[u8]| u32::from(at[0]) + 256 * u32::from(at[1]);
+    for record in [EMPTY, LISTING] {
+        for (number, block) in record.chunks(512).enumerate() {
+            assert_eq!(check(number, block), (stored(&block[508..]), stored(&block[510..])));
+        }
+    }
+    assert_eq!(check(0, EMPTY), (29851, 34610));
+}

@@ -1,0 +1,69 @@
+/* Grain position records: the call of the proved reader, for C and C++ hosts. The archive libgcr_reader.a has this call
+ * and no other: a members' site needs it and this header alone. The calls of the judge and of the rehearsal are in
+ * gcr.h and in the archive libgcr.a.
+ *
+ * Memory, stack, threads and answers are the same for the calls of both headers.
+ *
+ * MEMORY. The caller owns every buffer. A call looks at them only while it runs, keeps no pointer and allocates
+ * nothing. No pointer may be NULL, also where its length is 0, and a buffer that a call writes may not overlap another
+ * buffer of that call. A length counts elements: bytes, or 64-bit words where the pointer is one to words.
+ *
+ * STACK. A call's work memory is on the calling thread's stack. A constant beside the call says how many bytes of it
+ * are enough, which is more than was measured (bindings/README.md); what a signal handler takes comes on top.
+ *
+ * THREADS. The library has no static state. Calls may run at the same time where none writes a buffer that another
+ * one uses.
+ *
+ * ANSWERS. Any input is answered: nothing aborts, and a refusal has the number of the first question that got a no. It
+ * also has a place, which is 0 where the table names none.
+ *
+ *   Asked of a record, in this order (2 is a question of the judge's, in gcr.h)
+ *    1  the work slice has fewer than 1,024 words
+ *    3  the length is not a multiple of 512 from 512 to 19,456
+ *    4  a block's check is wrong                                         place: lowest such block
+ *    5  block 0 is not as laid out
+ *    6  the number of blocks does not fit the number of events
+ *    7  a slot is not as laid out                                        place: lowest such slot
+ *    8  an arbitration position is too large or a lower event's          place: lowest such event
+ *    9  a visible set holds its own event or one that is not there       place: lowest such event
+ *   10  visibility runs in a ring                                        place: lowest event on one
+ */
+#ifndef GCR_READER_H
+#define GCR_READER_H
+
+#include <stddef.h>
+#include <stdint.h>
+
+#ifdef __cplusplus
+extern "C" {
+#endif
+
+#define GCR_RECORD_MOST 19456 /* bytes of the longest record */
+#define GCR_WORK_WORDS 1024   /* the words that gcr_read asks for */
+
+#define GCR_READ_STACK_BYTES 16384 /* stack for gcr_read */
+
+/* Reads a record and lays its visible sets into `work`.
+ * Answer: 0 passed; 2,097,152 + 1,024 * number + place refused. A record that passed has not been judged.
+ * `work` afterwards: unchanged where 1 refused; its first 1,024 words zero where 3 to 10 refused; else words 4e to
+ * 4e + 3 hold event e's visible set (see gcr_is_visible), the rest of the 1,024 zero. Later words never change. */
+uint64_t gcr_read(const uint8_t *record, size_t len, uint64_t *work, size_t words);
+
+/* Of what gcr_read answers: whether the record passed every question. */
+static inline int gcr_is_passed(uint64_t answer) { return answer == 0; }
+
+/* Of what gcr_read or a judging call answers: whether it is a refusal, and of a refusal its number and place. */
+static inline int gcr_is_refused(uint64_t answer) { return answer >> 20 > 1; }
+static inline uint32_t gcr_refused_number(uint64_t answer) { return (uint32_t)(answer >> 10 & 1023); }
+static inline uint32_t gcr_refused_place(uint64_t answer) { return (uint32_t)(answer & 1023); }
+
+/* Whether event a is visible to event b, both below 256, in the words of a read that passed. */
+static inline int gcr_is_visible(const uint64_t *work, size_t a, size_t b) {
+    return (int)(work[4 * b + a / 64] >> a % 64 & 1);
+}
+
+#ifdef __cplusplus
+}
+#endif
+
+#endif
