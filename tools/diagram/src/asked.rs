@@ -1,6 +1,8 @@
 //! What the command line asks, and what the library finds.
 
+use crate::models::predicates;
 use gcr::{judge_model, judge_predicate, Model, Predicate, Refusal, Verdict};
+use std::ffi::OsString;
 
 #[derive(Clone, Copy, Debug, PartialEq, Eq)]
 pub enum Asked {
@@ -11,53 +13,71 @@ pub enum Asked {
 
 /// A verdict with the words that tell it.
 pub struct Finding {
-    pub verdict: Verdict,
     pub caption: String,
-    pub sentence: &'static str,
+    /// What was asked, in plain words.
+    pub sentences: Vec<&'static str>,
+    /// The predicate that breaks, and the pair.
+    pub broken: Option<(Predicate, usize, usize)>,
 }
 
 impl Asked {
-    /// None where the words are not as the usage has them; refused where the number is no predicate or model.
-    pub fn from_words(words: &[String]) -> Option<Result<Asked, Refusal>> {
-        let words: Vec<&str> = words.iter().map(String::as_str).collect();
-        match words[..] {
-            [] => Some(Ok(Asked::Nothing)),
-            ["--predicate", number] => Some(Predicate::try_from(number.parse::<u32>().ok()?).map(Asked::Predicate)),
-            ["--model", number] => Some(Model::try_from(number.parse::<u32>().ok()?).map(Asked::Model)),
-            _ => None,
+    /// What the words ask, and the words after that. None where they are not as the usage has them; refused where the
+    /// number is no predicate or model.
+    pub fn from_words(words: &[OsString]) -> Option<(Result<Asked, Refusal>, &[OsString])> {
+        let number = |word: &OsString| word.to_str()?.parse::<u32>().ok();
+        match words {
+            [word, of, rest @ ..] if word == "--predicate" => {
+                Some((Predicate::try_from(number(of)?).map(Asked::Predicate), rest))
+            }
+            [word, of, rest @ ..] if word == "--model" => Some((Model::try_from(number(of)?).map(Asked::Model), rest)),
+            rest => Some((Ok(Asked::Nothing), rest)),
         }
     }
 
     pub fn judge(self, record: &[u8]) -> Result<Option<Finding>, Refusal> {
         match self {
             Asked::Nothing => Ok(None),
-            Asked::Predicate(asked) => {
-                let name = format!("predicate {} {asked}", asked.number());
-                judge_predicate(asked, record).map(|verdict| Some(Finding::new(&name, verdict, asked.sentence())))
-            }
-            Asked::Model(asked) => {
-                let name = format!("model {} {asked}", asked.number());
-                judge_model(asked, record).map(|verdict| Some(Finding::new(&name, verdict, asked.sentence())))
-            }
+            Asked::Predicate(asked) => of_predicate(asked, record).map(Some),
+            Asked::Model(asked) => of_model(asked, record).map(Some),
         }
     }
 }
 
-impl Finding {
-    fn new(name: &str, verdict: Verdict, sentence: &'static str) -> Finding {
-        let caption = match verdict {
-            Verdict::Met => format!("{name} met"),
-            Verdict::Broken { a, b } => format!("{name} broken: event {a}, event {b}"),
-        };
-        Finding { verdict, caption, sentence }
-    }
+fn of_predicate(asked: Predicate, record: &[u8]) -> Result<Finding, Refusal> {
+    let verdict = judge_predicate(asked, record)?;
+    let broken = pair(verdict).map(|(a, b)| (asked, a, b));
+    Ok(Finding { caption: caption(&named(asked), "", verdict), sentences: vec![asked.sentence()], broken })
+}
 
-    /// The breaking pair.
-    pub fn pair(&self) -> Option<(usize, usize)> {
-        match self.verdict {
-            Verdict::Met => None,
-            Verdict::Broken { a, b } => Some((a.into(), b.into())),
-        }
+fn of_model(asked: Model, record: &[u8]) -> Result<Finding, Refusal> {
+    let verdict = judge_model(asked, record)?;
+    let is_broken = |&&each: &&Predicate| judge_predicate(each, record).is_ok_and(|each| each != Verdict::Met);
+    let first = predicates(asked).iter().find(is_broken).copied();
+    let broken = first.zip(pair(verdict)).map(|(predicate, (a, b))| (predicate, a, b));
+    let by = broken.map_or(String::new(), |(predicate, ..)| format!(" by {}", named(predicate)));
+    let mut sentences = vec![asked.sentence()];
+    sentences.extend(broken.map(|(predicate, ..)| predicate.sentence()));
+    sentences.dedup();
+    let name = format!("model {} {asked}", asked.number());
+    Ok(Finding { caption: caption(&name, &by, verdict), sentences, broken })
+}
+
+fn named(predicate: Predicate) -> String {
+    format!("predicate {} {predicate}", predicate.number())
+}
+
+fn caption(name: &str, by: &str, verdict: Verdict) -> String {
+    match verdict {
+        Verdict::Met => format!("{name} met"),
+        Verdict::Broken { a, b } => format!("{name} broken{by}: event {a}, event {b}"),
+    }
+}
+
+/// The breaking pair.
+fn pair(verdict: Verdict) -> Option<(usize, usize)> {
+    match verdict {
+        Verdict::Met => None,
+        Verdict::Broken { a, b } => Some((a.into(), b.into())),
     }
 }
 
@@ -65,22 +85,21 @@ impl Finding {
 mod tests {
     use super::*;
 
-    fn from(words: &[&str]) -> Option<Result<Asked, Refusal>> {
-        Asked::from_words(&words.iter().map(|word| word.to_string()).collect::<Vec<_>>())
+    fn from(words: &[&str]) -> Option<(Result<Asked, Refusal>, usize)> {
+        let words: Vec<OsString> = words.iter().map(OsString::from).collect();
+        Asked::from_words(&words).map(|(asked, rest)| (asked, rest.len()))
     }
 
     #[test]
     fn words_name_a_predicate_a_model_or_nothing() {
-        assert_eq!(from(&[]), Some(Ok(Asked::Nothing)));
-        assert_eq!(from(&["--predicate", "5"]), Some(Ok(Asked::Predicate(Predicate::MonotonicReads))));
-        assert_eq!(from(&["--model", "4"]), Some(Ok(Asked::Model(Model::Causal))));
+        assert_eq!(from(&[]), Some((Ok(Asked::Nothing), 0)));
+        assert_eq!(from(&["--predicate", "5"]), Some((Ok(Asked::Predicate(Predicate::MonotonicReads)), 0)));
+        assert_eq!(from(&["--model", "4", "a.gcr"]), Some((Ok(Asked::Model(Model::Causal)), 1)));
     }
 
     #[test]
     fn other_numbers_are_refused_and_other_words_are_no_usage() {
-        assert_eq!(from(&["--model", "14"]), Some(Err(Refusal { number: 2, place: 0 })));
-        assert_eq!(from(&["--predicate"]), None);
+        assert_eq!(from(&["--model", "14"]), Some((Err(Refusal { number: 2, place: 0 }), 0)));
         assert_eq!(from(&["--predicate", "five"]), None);
-        assert_eq!(from(&["--model", "4", "--predicate", "5"]), None);
     }
 }

@@ -2,8 +2,8 @@
 
 use crate::event::Event;
 
-/// Only the order of times is kept, and that exactly: an event returned before another started where its mark ends
-/// left of the other's.
+/// Only the order of times is kept, and that exactly: an event returned before another started where its mark and the
+/// line after it end left of the other's mark.
 pub struct Columns {
     times: Vec<u64>,
     /// Where marks that start at this time begin, and where those that return at it end. The two differ only where a
@@ -12,20 +12,30 @@ pub struct Columns {
     right: Vec<f64>,
 }
 
+/// The least distances of a time from the one before.
+#[derive(Clone, Copy)]
+pub struct Gaps {
+    pub before_return: f64,
+    /// Wider where there is room, so that marks stand apart and stay short.
+    pub before_start: f64,
+}
+
 impl Columns {
-    /// `widths` are what the events' marks need, `gap` is the least distance between two times.
-    pub fn new(events: &[Event], widths: &[f64], gap: f64) -> Columns {
+    /// `widths` are what the events' marks need.
+    pub fn new(events: &[Event], widths: &[f64], gaps: Gaps) -> Columns {
         let mut times: Vec<u64> = events.iter().flat_map(|event| [Some(event.start), event.end]).flatten().collect();
         times.sort_unstable();
         times.dedup();
         let mut columns = Columns { times, left: Vec::new(), right: Vec::new() };
         for at in 0..columns.times.len() {
-            columns.place(at, events, widths, gap);
+            columns.place(at, events, widths, gaps);
         }
         columns
     }
 
-    fn place(&mut self, at: usize, events: &[Event], widths: &[f64], gap: f64) {
+    fn place(&mut self, at: usize, events: &[Event], widths: &[f64], gaps: Gaps) {
+        let is_start = events.iter().any(|event| event.start == self.times[at]);
+        let gap = if is_start { gaps.before_start } else { gaps.before_return };
         let (mut left, mut at_once) = (self.right.last().map_or(0.0, |before| before + gap), 0.0f64);
         for (event, &width) in events.iter().zip(widths).filter(|(event, _)| event.end == Some(self.times[at])) {
             if event.start < self.times[at] {
@@ -60,20 +70,22 @@ impl Columns {
 mod tests {
     use super::*;
 
+    const GAPS: Gaps = Gaps { before_return: 4.0, before_start: 10.0 };
+
     fn event(start: u64, end: Option<u64>) -> Event {
         Event { is_write: true, site: 0, object: 0, value: Some(0), position: 0, start, end }
     }
 
     #[test]
     fn marks_have_their_width_and_times_their_gap() {
-        let columns = Columns::new(&[event(0, Some(1)), event(7, Some(900))], &[50.0, 4.0], 10.0);
+        let columns = Columns::new(&[event(0, Some(1)), event(7, Some(900))], &[50.0, 3.0], GAPS);
         assert_eq!((columns.left(0), columns.right(1)), (0.0, 50.0));
-        assert_eq!((columns.left(7), columns.right(900)), (60.0, 70.0));
+        assert_eq!((columns.left(7), columns.right(900)), (60.0, 64.0));
     }
 
     #[test]
     fn a_mark_of_no_time_overlaps_what_touches_it() {
-        let columns = Columns::new(&[event(5, Some(5)), event(0, Some(5)), event(5, None)], &[30.0, 20.0, 0.0], 10.0);
+        let columns = Columns::new(&[event(5, Some(5)), event(0, Some(5)), event(5, None)], &[30.0, 20.0, 0.0], GAPS);
         assert_eq!((columns.left(5), columns.right(5)), (20.0, 50.0));
     }
 }

@@ -1,111 +1,140 @@
-//! Where the sites, the events and the times stand.
+//! Where the sites, the events and the arrows stand.
 
-use crate::columns::Columns;
-use crate::event::Event;
-use crate::lanes::lanes;
+use crate::across::{Across, Span, LEFT};
+use crate::arrow::Arrow;
+use crate::combs::{combs, Teeth};
+use crate::frame::Frame;
+use crate::gaps::{self, Gap};
+use crate::picture::MARGIN;
+use crate::ports::Ports;
 use crate::record::Record;
+use crate::routes::{Ground, Route};
+use crate::rows::{self, Rows};
 use crate::scale::Scale;
-
-/// Room left of the first time, for the sites' names, and right of the last.
-pub const LEFT: f64 = 96.0;
-const RIGHT: f64 = 40.0;
-/// The legend and the captions have room in this.
-const LEAST_WIDTH: f64 = 880.0;
-/// Few times are not spread further than this.
-const WIDEST_GAP: f64 = 150.0;
-const BETWEEN_SITES: f64 = 22.0;
+use crate::tracks::Tracks;
+use crate::web::Web;
 
 /// An event's mark.
 #[derive(Clone, Copy, Debug)]
 pub struct Mark {
-    pub left: f64,
-    pub right: f64,
-    pub middle: f64,
-    /// Where its number and label end; a pending event's mark goes on after them.
-    pub filled: f64,
-}
-
-/// A site's band, and the line on which its first lane stands.
-#[derive(Clone, Copy, Debug)]
-pub struct Band {
-    pub top: f64,
-    pub line: f64,
-    pub bottom: f64,
+    pub frame: Frame,
+    /// Where the line after it ends: at the event's return, or at the site's end while it is pending.
+    pub until: f64,
+    pub row: usize,
 }
 
 pub struct Layout {
     pub scale: Scale,
-    pub marks: Vec<Mark>,
-    pub bands: Vec<Band>,
-    pub ticks: Vec<(u64, f64)>,
     pub width: f64,
+    pub rows: Rows,
+    pub marks: Vec<Mark>,
+    /// The way of each arrow.
+    pub routes: Vec<Route>,
+}
+
+/// What a layout is made of, before it is known how high anything stands.
+struct Plan<'a> {
+    scale: Scale,
+    across: &'a Across,
+    /// The lanes of each site.
+    counts: Vec<usize>,
+    rows: Vec<usize>,
+    arrows: &'a [Arrow],
+    ports: Vec<Ports>,
 }
 
 impl Layout {
-    pub fn new(record: &Record, top: f64) -> Layout {
-        let scale = Scale::of(record.events.len());
-        let lanes = lanes(&record.events);
-        let bands = bands(record, &lanes, &scale, top);
-        let widths: Vec<f64> = record.events.iter().map(|event| scale.width(&event.label())).collect();
-        let columns = spread(record, &widths, scale.gap);
-        let end = end(record, &widths, &columns);
-        let mark = |(number, event): (usize, &Event)| {
-            let left = LEFT + columns.left(event.start);
-            let right = event.end.map_or(LEFT + end, |time| LEFT + columns.right(time));
-            let middle = bands[event.site].line + scale.lane * lanes[number] as f64;
-            Mark { left, right, middle, filled: event.end.map_or(left + widths[number], |_| right) }
+    /// Arrows between rows go straight where they can. How high rows stand hangs on the others, and so does what can go
+    /// straight; the others only become more.
+    pub fn new(record: &Record, web: &Web, scale: Scale, across: &Across, top: f64) -> Layout {
+        let counts = rows::counts(record, &web.lanes);
+        let rows = rows::of_events(record, &web.lanes, &counts);
+        let port = |arrow: &Arrow| Ports::new(arrow, &across.spans, &rows, &scale);
+        let ports = web.arrows.iter().map(port).collect();
+        let plan = Plan { scale, across, counts, arrows: &web.arrows, ports, rows };
+        let mut is_bent = plan.bent_at_first();
+        loop {
+            let (layout, blocked) = plan.laid_out(&is_bent, top);
+            if blocked.is_empty() {
+                return layout;
+            }
+            blocked.iter().for_each(|&arrow| is_bent[arrow] = true);
+        }
+    }
+
+    /// From where to where the room above a row goes.
+    pub fn room(&self, row: usize) -> (f64, f64) {
+        let over = if row == 0 { self.rows.bands[0].top } else { self.rows.rows[row - 1].bottom };
+        (over, self.rows.rows[row].top)
+    }
+
+    /// Arrows that are not straight may share lines with each other.
+    pub fn may_share_lines(&self) -> bool {
+        self.routes.iter().filter(|route| route.points.len() > 2).count() > 1
+    }
+
+    /// How many pieces of arrows run through a frame.
+    pub fn lines_through(&self, frame: &Frame) -> usize {
+        let pieces = self.routes.iter().flat_map(|route| route.points.windows(2));
+        pieces.filter(|piece| frame.is_met(piece[0], piece[1])).count()
+    }
+}
+
+impl Plan<'_> {
+    /// Arrows within a row. Where there are many, all, as straight lines would be a thicket; but not a break's.
+    fn bent_at_first(&self) -> Vec<bool> {
+        let is_level = |arrow: &Arrow| self.rows[arrow.from] == self.rows[arrow.to];
+        let between_rows = self.arrows.iter().filter(|arrow| !is_level(arrow)).count();
+        let is_thicket = between_rows > self.scale.straight(self.rows.len());
+        let is_bent = |arrow: &Arrow| is_level(arrow) || is_thicket && !arrow.says.is_of_break();
+        self.arrows.iter().map(is_bent).collect()
+    }
+
+    /// The layout where these arrows are bent, and the others that would pass behind marks.
+    fn laid_out(&self, is_bent: &[bool], top: f64) -> (Layout, Vec<usize>) {
+        let (bent, straight): (Vec<usize>, Vec<usize>) = (0..self.arrows.len()).partition(|&arrow| is_bent[arrow]);
+        let teeth = Teeth { arrows: self.arrows, ports: &self.ports, rows: &self.rows };
+        let combs = combs(&teeth, &bent, &self.gaps(), &self.scale);
+        let tracks = Tracks::new(&combs, self.counts.iter().sum());
+        let rows = Rows::new(&self.counts, &self.rooms(&tracks), &self.scale, top);
+        let marks = self.marks(&rows);
+        let ground = Ground { scale: &self.scale, teeth: &teeth, rows: &rows.rows, marks: &marks };
+        let blocked = straight.into_iter().filter(|&arrow| !ground.is_clear(arrow)).collect();
+        let routes = ground.routes(&combs, &tracks);
+        let furthest = routes.iter().flat_map(|route| &route.points).map(|point| point.x).fold(0.0, f64::max);
+        let width = self.across.width.max(furthest + MARGIN);
+        (Layout { scale: self.scale, width, rows, marks, routes }, blocked)
+    }
+
+    /// The gaps of each row.
+    fn gaps(&self) -> Vec<Vec<Gap>> {
+        let mut marks: Vec<Vec<(f64, f64)>> = vec![Vec::new(); self.counts.iter().sum()];
+        self.across.spans.iter().zip(&self.rows).for_each(|(span, &row)| marks[row].push((span.left, span.right)));
+        marks.iter_mut().for_each(|row| row.sort_by(|one, other| one.0.total_cmp(&other.0)));
+        marks.iter().map(|row| gaps::between(row, LEFT - 16.0, self.scale.beside_mark())).collect()
+    }
+
+    /// What each row needs above it: for the lines there, and for notes.
+    fn rooms(&self, tracks: &Tracks) -> Vec<f64> {
+        let notes = self.arrows.iter().filter(|arrow| arrow.says.is_of_break());
+        let notes: Vec<usize> = notes.map(|arrow| level_of_note(self.rows[arrow.from], self.rows[arrow.to])).collect();
+        let room = |(level, &highest): (usize, &usize)| {
+            let note = if notes.contains(&level) { self.scale.note } else { 0.0 };
+            self.scale.level(highest) + note
         };
-        let marks = record.events.iter().enumerate().map(mark).collect();
-        let ticks = columns.ticks().map(|(time, x)| (time, LEFT + x)).collect();
-        Layout { scale, marks, bands, ticks, width: (LEFT + end + RIGHT).max(LEAST_WIDTH) }
+        tracks.highest.iter().enumerate().map(room).collect()
     }
 
-    pub fn bottom(&self) -> f64 {
-        self.bands.last().map_or(0.0, |band| band.bottom)
-    }
-
-    /// Where the sites' lines end.
-    pub fn line_end(&self) -> f64 {
-        self.width - RIGHT / 2.0
+    fn marks(&self, rows: &Rows) -> Vec<Mark> {
+        let mark = |(span, &row): (&Span, &usize)| {
+            let (top, bottom) = (rows.rows[row].top, rows.rows[row].bottom);
+            Mark { frame: Frame { left: span.left, top, right: span.right, bottom }, until: span.until, row }
+        };
+        self.across.spans.iter().zip(&self.rows).map(mark).collect()
     }
 }
 
-/// The middle of what a mark has beside the event's number.
-pub fn label_centre(mark: &Mark, scale: &Scale) -> f64 {
-    match scale.is_labelled() {
-        true => (mark.left + scale.badge + mark.filled) / 2.0,
-        false => (mark.left + mark.filled) / 2.0,
-    }
-}
-
-/// Few events are spread over the least width.
-fn spread(record: &Record, widths: &[f64], gap: f64) -> Columns {
-    let mut gap = gap;
-    let mut columns = Columns::new(&record.events, widths, gap);
-    while gap < WIDEST_GAP && LEFT + end(record, widths, &columns) + RIGHT < LEAST_WIDTH {
-        gap += 2.0;
-        columns = Columns::new(&record.events, widths, gap);
-    }
-    columns
-}
-
-/// The last mark's end; a pending event ends there too.
-fn end(record: &Record, widths: &[f64], columns: &Columns) -> f64 {
-    let ends = record.events.iter().zip(widths).map(|(event, &width)| match event.end {
-        Some(time) => columns.right(time),
-        None => columns.left(event.start) + width,
-    });
-    ends.fold(0.0, f64::max)
-}
-
-fn bands(record: &Record, lanes: &[usize], scale: &Scale, top: f64) -> Vec<Band> {
-    let mut bands: Vec<Band> = Vec::new();
-    for site in 0..record.sites {
-        let used = record.events.iter().zip(lanes).filter(|(event, _)| event.site == site);
-        let last = used.map(|(_, &lane)| lane).max().unwrap_or(0);
-        let top = bands.last().map_or(top, |band| band.bottom + BETWEEN_SITES);
-        let line = top + scale.above;
-        bands.push(Band { top, line, bottom: line + scale.lane * last as f64 + scale.below });
-    }
-    bands
+/// The row above which an arrow from one row to another has its note: where it ends.
+pub fn level_of_note(from: usize, to: usize) -> usize {
+    to + usize::from(from > to)
 }

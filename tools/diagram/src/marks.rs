@@ -1,65 +1,76 @@
 //! The marks of events.
 
 use crate::event::Event;
-use crate::layout::{label_centre, Mark};
-use crate::scale::{Detail, Scale};
+use crate::frame::Frame;
+use crate::layout::Mark;
+use crate::scale::Scale;
 use crate::svg::{at, steps, Svg};
 
 /// What is drawn at a mark.
 pub struct Shown<'a> {
-    pub number: usize,
     pub event: &'a Event,
-    pub is_in_pair: bool,
+    pub number: usize,
+    /// All that the record says of it.
+    pub details: String,
 }
 
 pub fn draw(svg: &mut Svg, shown: &Shown, mark: &Mark, scale: &Scale) {
-    svg.open(&class(shown), &shown.event.details(shown.number));
-    frame(svg, "body", mark, scale, 0.0);
-    match scale.is_labelled() {
-        true => labelled(svg, shown, mark, scale),
-        false => numbered(svg, shown, mark, scale),
+    svg.open_event(&class(shown.event), shown.number, &shown.details);
+    time(svg, shown.event, mark);
+    svg.rectangle("body", mark.frame.upper_left(), mark.frame.lower_right(), round(shown.event, scale));
+    match scale.is_labelled {
+        true => labelled(svg, shown, &mark.frame, scale),
+        false => numbered(svg, shown, &mark.frame, scale),
     }
     svg.close();
 }
 
-fn class(shown: &Shown) -> String {
-    let kind = if shown.event.is_write { "write" } else { "read" };
-    let state = if shown.event.is_pending() { " pending" } else { "" };
-    let pair = if shown.is_in_pair { " pair" } else { "" };
-    format!("{kind}{state}{pair}")
+fn class(event: &Event) -> String {
+    let kind = if event.is_write { "write" } else { "read" };
+    format!("{kind}{}", if event.is_pending() { " pending" } else { "" })
 }
 
-/// Behind a mark of the breaking pair, and behind the arrows.
-pub fn halo(svg: &mut Svg, mark: &Mark, scale: &Scale) {
-    frame(svg, "halo", mark, scale, 6.0);
-}
-
-/// A mark's outline, so much larger than the mark.
-fn frame(svg: &mut Svg, class: &str, mark: &Mark, scale: &Scale, by: f64) {
-    let half = scale.height / 2.0 + by;
-    let (from, to) = (at(mark.left - by, mark.middle - half), at(mark.right + by, mark.middle + half));
-    svg.rectangle(class, from, to, scale.height / 4.0 + by);
-}
-
-fn labelled(svg: &mut Svg, shown: &Shown, mark: &Mark, scale: &Scale) {
-    svg.path("badge", &badge(mark, scale));
-    let base = mark.middle + scale.font * 0.36;
-    svg.text("number", at(mark.left + scale.badge / 2.0, base), scale.font * 0.86, &shown.number.to_string());
-    let centre = label_centre(mark, scale);
-    svg.text("label", at(centre, base), scale.font, &shown.event.label());
-    if scale.detail == Detail::Arbitration || shown.is_in_pair {
-        // Between the points where arrows touch the mark.
-        let x = mark.left + 0.45 * (scale.inset() + centre - mark.left);
-        let y = mark.middle + scale.height / 2.0 + scale.font;
-        svg.text("place", at(x, y), scale.font * 0.76, &format!("ar {}", shown.event.position));
+/// Writes have corners and reads are round, so that they stay apart in any colour.
+fn round(event: &Event, scale: &Scale) -> f64 {
+    match event.is_write {
+        true => 2.0,
+        false => scale.height / 2.0,
     }
 }
 
-/// The part of a mark behind the number: round on the left, straight on the right.
-fn badge(mark: &Mark, scale: &Scale) -> String {
-    let (half, round) = (scale.height / 2.0, scale.height / 4.0);
-    let (left, edge) = (mark.left, mark.left + scale.badge);
-    let (top, bottom) = (mark.middle - half, mark.middle + half);
+/// Behind a mark: the mark itself stays as it is, so that a write can still be told from a read.
+pub fn ring(svg: &mut Svg, class: &str, event: &Event, mark: &Mark, scale: &Scale) {
+    let by = scale.beside_mark();
+    let frame = mark.frame.grown(by);
+    svg.rectangle(class, frame.upper_left(), frame.lower_right(), round(event, scale) + by);
+}
+
+/// The line after a mark, to the event's return.
+fn time(svg: &mut Svg, event: &Event, mark: &Mark) {
+    let (right, middle) = (mark.frame.right, mark.frame.middle());
+    if mark.until > right {
+        svg.line("until", at(right, middle), at(mark.until, middle));
+    }
+    if mark.until > right && !event.is_pending() {
+        svg.line("return", at(mark.until, middle - 5.0), at(mark.until, middle + 5.0));
+    }
+}
+
+/// The event's number in a part of its own, and beside it what it is, over its place in arbitration.
+fn labelled(svg: &mut Svg, shown: &Shown, frame: &Frame, scale: &Scale) {
+    svg.path("badge", &badge(frame, round(shown.event, scale), scale.badge));
+    let number = at(frame.left + scale.badge * 0.53, frame.middle() + scale.font * 0.33);
+    svg.centred("number", number, scale.font * 0.86, &shown.number.to_string());
+    let centre = (frame.left + scale.badge + frame.right) / 2.0;
+    svg.centred("label", at(centre, frame.middle() - scale.font * 0.07), scale.font, &shown.event.label());
+    let place = at(centre, frame.middle() + scale.font * 0.86);
+    svg.centred("place", place, scale.font * 0.76, &format!("ar {}", shown.event.position));
+}
+
+/// The part of a mark behind the number: like the mark on the left, straight on the right.
+fn badge(frame: &Frame, round: f64, width: f64) -> String {
+    let (left, top, bottom) = (frame.left, frame.top, frame.bottom);
+    let edge = left + width;
     let line = steps(&[
         ("M", &[at(edge, top)]),
         ("L", &[at(left + round, top)]),
@@ -72,10 +83,7 @@ fn badge(mark: &Mark, scale: &Scale) -> String {
 }
 
 /// Without room for a label there is only the number.
-fn numbered(svg: &mut Svg, shown: &Shown, mark: &Mark, scale: &Scale) {
-    if shown.is_in_pair {
-        frame(svg, "badge", mark, scale, 0.0);
-    }
-    let place = at(label_centre(mark, scale), mark.middle + scale.font * 0.36);
-    svg.text("number", place, scale.font, &shown.number.to_string());
+fn numbered(svg: &mut Svg, shown: &Shown, frame: &Frame, scale: &Scale) {
+    let place = at((frame.left + frame.right) / 2.0, frame.middle() + scale.font * 0.36);
+    svg.centred("number", place, scale.font, &shown.number.to_string());
 }

@@ -1,66 +1,115 @@
 //! The whole picture, from back to front.
 
-use crate::arrows::arrows;
+use crate::across::Across;
+use crate::arrow::Says;
 use crate::asked::Finding;
-use crate::heading::Heading;
-use crate::layout::{Layout, LEFT};
+use crate::breach::Breach;
+use crate::heading::{Heading, Told};
+use crate::layout::Layout;
+use crate::legend::{self, Legend, Sign};
 use crate::marks::{self, Shown};
 use crate::record::Record;
+use crate::scale::Scale;
 use crate::svg::{at, Svg};
-use crate::{axis, legend, strokes, style};
+use crate::web::Web;
+use crate::{axis, lines, signs, style};
 
 pub const MARGIN: f64 = 24.0;
 
-pub fn draw(record: &Record, finding: Option<&Finding>) -> String {
-    let heading = Heading::new(record, finding);
-    let layout = Layout::new(record, heading.bottom());
-    let pair = finding.and_then(Finding::pair);
-    let height = layout.bottom() + axis::HEIGHT + legend::HEIGHT;
+pub fn draw(name: &str, record: &Record, finding: Option<&Finding>) -> String {
+    let broken = finding.and_then(|finding| finding.broken);
+    let breach = broken.map(|(predicate, a, b)| Breach::new(record, predicate, a, b));
+    let scale = Scale::of(record.events.len());
+    let across = Across::new(record, &scale);
+    let heading = Heading::new(&Told { name, record, finding, breach: breach.as_ref() }, across.width);
+    let web = Web::new(record, breach.as_ref());
+    let layout = Layout::new(record, &web, scale, &across, heading.bottom());
+    let scene = Scene { record, breach: breach.as_ref(), web: &web, across: &across, layout: &layout };
+    let words = [legend::of_arrows(layout.may_share_lines()), legend::of_numbers(&scale, axis::base(&across))];
+    let legend = Legend::new(&scene.signs(), &words, across.width);
+    let (width, bottom) = (layout.width, layout.rows.bottom() + axis::HEIGHT);
     let mut svg = Svg::default();
-    style::write(&mut svg, &layout.scale);
-    svg.rectangle("paper", at(0.0, 0.0), at(layout.width, height), 0.0);
+    style::write(&mut svg, &scale);
+    svg.rectangle("paper", at(0.0, 0.0), at(width, bottom + legend.height), 0.0);
     heading.draw(&mut svg);
-    sites(&mut svg, &layout);
-    let base = axis::draw(&mut svg, &layout);
-    pair.iter().for_each(|&(a, b)| halos(&mut svg, &layout, a, b));
-    visibility(&mut svg, record, &layout);
-    pair.iter().for_each(|&(a, b)| breaking(&mut svg, &layout, a, b));
-    events(&mut svg, record, &layout, pair);
-    legend::draw(&mut svg, layout.bottom() + axis::HEIGHT, pair.is_some(), &legend::note(&layout.scale, base));
-    svg.finish(layout.width, height, heading.title())
+    scene.draw(&mut svg);
+    legend.draw(&mut svg, bottom);
+    svg.finish(width, bottom + legend.height, heading.title())
 }
 
-fn sites(svg: &mut Svg, layout: &Layout) {
-    for (site, band) in layout.bands.iter().enumerate() {
-        svg.rectangle("band", at(MARGIN / 2.0, band.top), at(layout.width - MARGIN / 2.0, band.bottom), 8.0);
-        svg.text("site", at(MARGIN, band.line + 5.0), 14.0, &format!("site {site}"));
-        svg.line("time", at(LEFT - 14.0, band.line), at(layout.line_end(), band.line));
+/// What is drawn between the heading and the legend.
+struct Scene<'a> {
+    record: &'a Record,
+    breach: Option<&'a Breach>,
+    web: &'a Web,
+    across: &'a Across,
+    layout: &'a Layout,
+}
+
+impl Scene<'_> {
+    fn draw(&self, svg: &mut Svg) {
+        self.sites(svg);
+        axis::draw(svg, self.across, self.layout.rows.bottom());
+        self.rings(svg);
+        lines::ends(svg, self.layout, self.across.line_end());
+        self.web.lines.iter().for_each(|line| lines::draw(svg, self.layout, line));
+        self.visibility(svg);
+        self.events(svg);
+        self.breaking(svg);
     }
-}
 
-fn visibility(svg: &mut Svg, record: &Record, layout: &Layout) {
-    for (a, b) in arrows(record) {
-        svg.path("seen", &strokes::visibility(&layout.marks[a], &layout.marks[b], &layout.scale));
+    fn sites(&self, svg: &mut Svg) {
+        for (site, band) in self.layout.rows.bands.iter().enumerate() {
+            let right = self.layout.width - MARGIN / 2.0;
+            svg.rectangle("band", at(MARGIN / 2.0, band.top), at(right, band.bottom), 8.0);
+            let middle = self.layout.rows.rows[band.first].middle();
+            svg.text("site", at(MARGIN, middle + 5.0), 14.0, &format!("site {site}"));
+        }
     }
-}
 
-/// The breaking pair last, so that nothing covers it.
-fn events(svg: &mut Svg, record: &Record, layout: &Layout, pair: Option<(usize, usize)>) {
-    let is_in_pair = |number: usize| pair.is_some_and(|(a, b)| number == a || number == b);
-    let mut numbers: Vec<usize> = (0..record.events.len()).collect();
-    numbers.sort_by_key(|&number| is_in_pair(number));
-    for number in numbers {
-        let shown = Shown { number, event: &record.events[number], is_in_pair: is_in_pair(number) };
-        marks::draw(svg, &shown, &layout.marks[number], &layout.scale);
+    fn rings(&self, svg: &mut Svg) {
+        let Some(breach) = self.breach else { return };
+        let pair = breach.events().into_iter().map(|event| ("ring pair", event));
+        let named = breach.named.iter().map(|&event| ("ring named", event));
+        for (class, event) in pair.chain(named) {
+            marks::ring(svg, class, &self.record.events[event], &self.layout.marks[event], &self.layout.scale);
+        }
     }
-}
 
-fn halos(svg: &mut Svg, layout: &Layout, a: usize, b: usize) {
-    for event in [a, b] {
-        marks::halo(svg, &layout.marks[event], &layout.scale);
+    fn visibility(&self, svg: &mut Svg) {
+        let arrows = self.web.arrows.iter().zip(&self.layout.routes);
+        for (arrow, route) in arrows.filter(|(arrow, _)| !arrow.says.is_of_break()) {
+            svg.between(arrow.says.class(), (arrow.from, arrow.to), &route.stroke(), &arrow.words());
+        }
     }
-}
 
-fn breaking(svg: &mut Svg, layout: &Layout, a: usize, b: usize) {
-    svg.path("break", &strokes::breaking(&layout.marks[a], &layout.marks[b], &layout.scale));
+    fn events(&self, svg: &mut Svg) {
+        for number in self.record.numbers() {
+            let shown = Shown { event: &self.record.events[number], number, details: self.record.details(number) };
+            marks::draw(svg, &shown, &self.layout.marks[number], &self.layout.scale);
+        }
+    }
+
+    /// Last, so that nothing covers it; the note is at the first of its arrows.
+    fn breaking(&self, svg: &mut Svg) {
+        let Some(breach) = self.breach else { return };
+        let arrows = self.web.arrows.iter().zip(&self.layout.routes);
+        let breaking: Vec<_> = arrows.filter(|(arrow, _)| arrow.says.is_of_break()).collect();
+        for (arrow, route) in &breaking {
+            svg.between(arrow.says.class(), (arrow.from, arrow.to), &route.stroke(), &arrow.words());
+        }
+        breaking.first().iter().for_each(|(arrow, route)| signs::draw(svg, self.layout, arrow, route, &breach.note));
+    }
+
+    /// The signs that the legend explains.
+    fn signs(&self) -> Vec<Sign> {
+        let mut signs = vec![Sign::Write, Sign::Read, Sign::Pending, Sign::Return];
+        signs.extend([Sign::Arrow(Says::SeesAll), Sign::Arrow(Says::SeesAlone), Sign::Gap]);
+        if let Some(breach) = self.breach {
+            signs.push(Sign::Pair);
+            signs.extend((!breach.named.is_empty()).then_some(Sign::Named));
+            signs.extend(breach.arrows.iter().map(|arrow| Sign::Arrow(arrow.says)));
+        }
+        signs
+    }
 }

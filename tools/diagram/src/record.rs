@@ -23,6 +23,17 @@ impl Record {
         Ok(Record { sites: bytes[6].into(), events, visible })
     }
 
+    /// The numbers of all events.
+    pub fn numbers(&self) -> std::ops::Range<usize> {
+        0..self.events.len()
+    }
+
+    /// All that the record says of an event.
+    pub fn details(&self, number: usize) -> String {
+        let seen: Vec<usize> = self.numbers().filter(|&other| self.is_visible(other, number)).collect();
+        format!("{}, sees {}", self.events[number].details(number), listed(&seen))
+    }
+
     /// vis: a is visible to b.
     pub fn is_visible(&self, a: usize, b: usize) -> bool {
         gcr::is_visible(&self.visible, a as u16, b as u16)
@@ -38,4 +49,31 @@ impl Record {
 fn slot(bytes: &[u8], number: usize) -> &[u8] {
     let at = BLOCK * (1 + number / SLOTS) + SLOT * (number % SLOTS);
     &bytes[at..at + SLOT]
+}
+
+/// Rising numbers: `nothing`, `0, 2 and 5 to 9`.
+fn listed(numbers: &[usize]) -> String {
+    let run = |run: &[usize]| match run {
+        [first, .., last] if last - first > 1 => vec![format!("{first} to {last}")],
+        few => few.iter().map(usize::to_string).collect(),
+    };
+    let runs: Vec<String> = numbers.chunk_by(|one, next| one + 1 == *next).flat_map(run).collect();
+    match runs.split_last() {
+        None => "nothing".to_string(),
+        Some((last, [])) => last.clone(),
+        Some((last, others)) => format!("{} and {last}", others.join(", ")),
+    }
+}
+
+#[cfg(test)]
+mod tests {
+    use super::*;
+
+    #[test]
+    fn numbers_in_turn_are_told_by_their_ends() {
+        assert_eq!(listed(&[]), "nothing");
+        assert_eq!(listed(&[3]), "3");
+        assert_eq!(listed(&[3, 4]), "3 and 4");
+        assert_eq!(listed(&[0, 2, 5, 6, 7, 8, 9]), "0, 2 and 5 to 9");
+    }
 }

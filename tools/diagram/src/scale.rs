@@ -9,62 +9,70 @@ pub struct Scale {
     pub badge: f64,
     /// Least distance between two times.
     pub gap: f64,
-    /// From one lane to the next.
-    pub lane: f64,
-    /// Room above a site's first lane, for arcs, and below its last.
-    pub above: f64,
+    /// Between a mark and the nearest level line over or under it.
+    pub clear: f64,
+    /// From one level line to the next.
+    pub track: f64,
+    /// Between upright lines of one kind.
+    pub apart: f64,
+    /// What a row has above it at least.
+    pub room: f64,
+    /// Below a site's last row, and between its band and the next.
     pub below: f64,
+    pub between_sites: f64,
+    /// What a note at an arrow needs.
+    pub note: f64,
     /// Size of an arrow's head; its line goes with it.
     pub head: f64,
-    /// How strong the arrows of visibility are.
-    pub strength: f64,
-    pub detail: Detail,
-}
-
-/// What stands at a mark.
-#[derive(Clone, Copy, Debug, PartialEq, Eq, PartialOrd, Ord)]
-pub enum Detail {
-    Number,
-    Label,
-    Arbitration,
+    /// Whether marks have labels beside the events' numbers.
+    pub is_labelled: bool,
 }
 
 const ROOMY: Scale = Scale {
     font: 14.0,
-    height: 30.0,
-    badge: 26.0,
+    height: 36.0,
+    badge: 28.0,
     gap: 26.0,
-    lane: 58.0,
-    above: 44.0,
-    below: 44.0,
+    clear: 18.0,
+    track: 7.0,
+    apart: 10.0,
+    room: 24.0,
+    below: 22.0,
+    between_sites: 20.0,
+    note: 48.0,
     head: 11.0,
-    strength: 1.0,
-    detail: Detail::Arbitration,
+    is_labelled: true,
 };
 
 const CLOSE: Scale = Scale {
     font: 10.0,
-    height: 20.0,
+    height: 26.0,
     badge: 19.0,
-    gap: 9.0,
-    lane: 34.0,
+    gap: 14.0,
+    clear: 14.0,
+    track: 5.0,
+    apart: 6.0,
+    room: 18.0,
+    below: 18.0,
+    between_sites: 16.0,
     head: 8.0,
-    strength: 0.8,
-    detail: Detail::Label,
     ..ROOMY
 };
 
 const DENSE: Scale = Scale {
-    font: 7.0,
+    font: 7.5,
     height: 15.0,
-    badge: 15.0,
-    gap: 3.0,
-    lane: 24.0,
-    above: 34.0,
-    below: 26.0,
+    badge: 24.0,
+    gap: 10.0,
+    clear: 10.0,
+    track: 3.5,
+    apart: 4.0,
+    room: 14.0,
+    below: 14.0,
+    between_sites: 12.0,
+    note: 48.0,
     head: 6.0,
-    strength: 0.5,
-    detail: Detail::Number,
+    is_labelled: false,
 };
 
 impl Scale {
@@ -78,23 +86,48 @@ impl Scale {
 
     /// What a mark with this label needs.
     pub fn width(&self, label: &str) -> f64 {
-        match self.is_labelled() {
+        match self.is_labelled {
             true => self.badge + text_width(label, self.font) + self.font,
             false => self.badge,
         }
     }
 
-    pub fn is_labelled(&self) -> bool {
-        self.detail >= Detail::Label
+    /// Between a mark and a line beside it.
+    pub fn beside_mark(&self) -> f64 {
+        (self.gap / 3.0).min(5.0)
     }
 
-    /// From a mark's end to where arrows touch it.
-    pub fn inset(&self) -> f64 {
-        self.height / 2.5
+    /// What so many level lines need between two rows.
+    pub fn level(&self, lines: usize) -> f64 {
+        match lines {
+            0 => self.room,
+            _ => 2.0 * self.clear + self.track * (lines - 1) as f64,
+        }
+    }
+
+    /// How many arrows between rows may go straight, of a record of so many events.
+    pub fn straight(&self, events: usize) -> usize {
+        events + events / 4
     }
 }
 
-/// An estimate that holds for the usual sans-serif fonts.
+/// No less than what the usual sans-serif fonts need.
 pub fn text_width(text: &str, font: f64) -> f64 {
-    0.61 * font * text.chars().count() as f64
+    font * text.chars().map(advance).sum::<f64>()
+}
+
+/// The same in bold.
+pub fn bold_width(text: &str, font: f64) -> f64 {
+    1.12 * text_width(text, font)
+}
+
+fn advance(letter: char) -> f64 {
+    match letter {
+        ' ' | '\'' | ',' | '.' | 'i' | 'j' | 'l' | 'I' => 0.34,
+        '(' | ')' | '-' | '/' | ':' | ';' | 'f' | 'r' | 't' => 0.44,
+        'm' | 'w' | 'M' | 'W' | '%' | '@' => 1.0,
+        'A'..='Z' | '+' | '=' | '<' | '>' | '#' | '&' | '~' | '^' | '→' => 0.84,
+        _ if letter.is_ascii() => 0.64,
+        _ => 1.0,
+    }
 }

@@ -1,52 +1,37 @@
-//! The lines of arrows from one mark to another.
+//! The lines of arrows.
 
-use crate::layout::{label_centre, Mark};
-use crate::scale::Scale;
+use crate::routes::Route;
 use crate::svg::{at, steps, Point};
 
-/// A straight arrow between lanes; within a lane, an arc above it.
-pub fn visibility(from: &Mark, to: &Mark, scale: &Scale) -> String {
-    let (leaves, enters) = (from.filled - inset(from, scale), to.left + inset(to, scale));
-    if from.middle == to.middle {
-        return arc(at(leaves, top(from, scale)), at(enters, top(to, scale)), scale);
-    }
-    let (leave, enter) = facing(from, to, scale);
-    steps(&[("M", &[at(leaves, leave)]), ("L", &[at(enters, enter)])])
-}
+/// How round an arrow turns.
+const ROUND: f64 = 6.0;
 
-/// Bent, so that it does not lie on an arrow of visibility; a loop where both are one event.
-pub fn breaking(from: &Mark, to: &Mark, scale: &Scale) -> String {
-    let (leaves, enters) = (label_centre(from, scale), label_centre(to, scale));
-    if from.middle == to.middle {
-        let aside = if leaves == enters { scale.height / 2.0 } else { 0.0 };
-        return arc(at(leaves - aside, top(from, scale)), at(enters + aside, top(to, scale)), scale);
-    }
-    let (leave, enter) = facing(from, to, scale);
-    let half = (enter - leave) / 2.0;
-    let (first, second) = (at(leaves, leave + half), at(enters, enter - half));
-    steps(&[("M", &[at(leaves, leave)]), ("C", &[first, second, at(enters, enter)])])
-}
-
-fn inset(mark: &Mark, scale: &Scale) -> f64 {
-    scale.inset().min((mark.filled - mark.left) / 2.0)
-}
-
-fn top(mark: &Mark, scale: &Scale) -> f64 {
-    mark.middle - scale.height / 2.0 - 1.0
-}
-
-/// The edges of two marks that face each other.
-fn facing(from: &Mark, to: &Mark, scale: &Scale) -> (f64, f64) {
-    let edge = scale.height / 2.0 + 1.0;
-    match from.middle < to.middle {
-        true => (from.middle + edge, to.middle - edge),
-        false => (from.middle - edge, to.middle + edge),
+impl Route {
+    /// With round turns, by which a turn can be told from a crossing.
+    pub fn stroke(&self) -> String {
+        let points = &self.points;
+        let mut parts = vec![("M", vec![points[0]])];
+        for turn in points.windows(3) {
+            let round = ROUND.min(distance(turn[0], turn[1]) / 2.0).min(distance(turn[1], turn[2]) / 2.0);
+            parts.push(("L", vec![toward(turn[1], turn[0], round)]));
+            parts.push(("Q", vec![turn[1], toward(turn[1], turn[2], round)]));
+        }
+        parts.push(("L", vec![points[points.len() - 1]]));
+        let parts: Vec<(&str, &[Point])> = parts.iter().map(|(letter, points)| (*letter, &points[..])).collect();
+        steps(&parts)
     }
 }
 
-fn arc(from: Point, to: Point, scale: &Scale) -> String {
-    let rise = scale.above * 0.8;
-    let lean = (to.x - from.x) * 0.12;
-    let (first, second) = (at(from.x + lean, from.y - rise), at(to.x - lean, to.y - rise));
-    steps(&[("M", &[from]), ("C", &[first, second, to])])
+pub fn straight(from: Point, to: Point) -> String {
+    steps(&[("M", &[from]), ("L", &[to])])
+}
+
+fn distance(one: Point, other: Point) -> f64 {
+    (one.x - other.x).hypot(one.y - other.y)
+}
+
+/// So far from one point towards another.
+fn toward(from: Point, to: Point, far: f64) -> Point {
+    let part = if far == 0.0 { 0.0 } else { far / distance(from, to) };
+    at(from.x + part * (to.x - from.x), from.y + part * (to.y - from.y))
 }

@@ -2,7 +2,7 @@
 
 use std::fmt::Write;
 
-#[derive(Clone, Copy, Debug)]
+#[derive(Clone, Copy, Debug, PartialEq)]
 pub struct Point {
     pub x: f64,
     pub y: f64,
@@ -33,9 +33,13 @@ impl Svg {
         self.text.push('\n');
     }
 
-    /// A group with words that a viewer shows on pointing at it.
-    pub fn open(&mut self, class: &str, title: &str) {
-        self.raw(&format!("<g class=\"{class}\"><title>{}</title>", escaped(title)));
+    pub fn open(&mut self, class: &str) {
+        self.raw(&format!("<g class=\"{class}\">"));
+    }
+
+    /// A group that tells which event it shows, and all of it for a viewer to show on pointing at it.
+    pub fn open_event(&mut self, class: &str, event: usize, title: &str) {
+        self.raw(&format!("<g class=\"{class}\" data-event=\"{event}\"><title>{}</title>", escaped(title)));
     }
 
     pub fn close(&mut self) {
@@ -59,10 +63,25 @@ impl Svg {
         self.raw(&format!("<path class=\"{class}\" d=\"{steps}\"/>"));
     }
 
+    /// A path that tells between which events it runs, for whoever reads the picture by a program, and what it says,
+    /// for a viewer to show on pointing at it.
+    pub fn between(&mut self, class: &str, (from, to): (usize, usize), steps: &str, title: &str) {
+        let path = format!("<path class=\"{class}\" data-from=\"{from}\" data-to=\"{to}\" d=\"{steps}\">");
+        self.raw(&format!("{path}<title>{}</title></path>", escaped(title)));
+    }
+
     pub fn text(&mut self, class: &str, place: Point, size: f64, text: &str) {
+        self.anchored("start", class, place, size, text);
+    }
+
+    pub fn centred(&mut self, class: &str, place: Point, size: f64, text: &str) {
+        self.anchored("middle", class, place, size, text);
+    }
+
+    fn anchored(&mut self, anchor: &str, class: &str, place: Point, size: f64, text: &str) {
         let [x, y, size] = [place.x, place.y, size].map(short);
-        let text = escaped(text);
-        self.raw(&format!("<text class=\"{class}\" x=\"{x}\" y=\"{y}\" font-size=\"{size}\">{text}</text>"));
+        let (place, text) = (format!("x=\"{x}\" y=\"{y}\" text-anchor=\"{anchor}\""), escaped(text));
+        self.raw(&format!("<text class=\"{class}\" {place} font-size=\"{size}\">{text}</text>"));
     }
 
     /// The whole picture, with the words that a screen reader reads.

@@ -1,25 +1,11 @@
 //! The program from its input to what it writes.
 
-use std::io::Write;
-use std::process::{Command, Output, Stdio};
+mod support;
+
+use support::program::{drawn, run};
 
 const LISTING: &[u8] = include_bytes!("../../../records/listing.gcr");
 const STALE_READ: &[u8] = include_bytes!("../../../records/stale-read.gcr");
-
-fn run(words: &[&str], input: &[u8]) -> Output {
-    let mut command = Command::new(env!("CARGO_BIN_EXE_diagram"));
-    command.args(words).stdin(Stdio::piped()).stdout(Stdio::piped()).stderr(Stdio::piped());
-    let mut child = command.spawn().expect("the program starts");
-    // A program that does not read its input has closed it.
-    let _ = child.stdin.take().expect("it is piped").write_all(input);
-    child.wait_with_output().expect("the program ends")
-}
-
-fn drawn(words: &[&str], input: &[u8]) -> String {
-    let output = run(words, input);
-    assert!(output.status.success());
-    String::from_utf8(output.stdout).expect("a picture is text")
-}
 
 fn refused(words: &[&str], input: &[u8]) -> String {
     let output = run(words, input);
@@ -27,12 +13,23 @@ fn refused(words: &[&str], input: &[u8]) -> String {
     String::from_utf8(output.stderr).expect("a refusal is text")
 }
 
+/// A record that ships.
+fn record(name: &str) -> String {
+    format!("{}/../../records/{name}", env!("CARGO_MANIFEST_DIR"))
+}
+
 #[test]
 fn the_pictures_of_the_documents_are_what_the_program_draws() {
     let kept = include_str!("../../../docs/pictures/stale-read.svg");
-    assert!(drawn(&["--predicate", "5"], STALE_READ) == kept);
+    assert!(drawn(&["--predicate", "5", &record("stale-read.gcr")], &[]) == kept);
     let kept = include_str!("../../../docs/pictures/listing.svg");
-    assert!(drawn(&["--predicate", "3"], LISTING) == kept);
+    assert!(drawn(&["--predicate", "3", &record("listing.gcr")], &[]) == kept);
+}
+
+#[test]
+fn a_file_and_the_standard_input_give_the_same_picture_but_for_the_name() {
+    let file = drawn(&[&record("listing.gcr")], &[]);
+    assert!(file.replace("listing.gcr", "standard input") == drawn(&[], LISTING));
 }
 
 #[test]
@@ -43,23 +40,9 @@ fn the_caption_tells_the_verdict() {
 }
 
 #[test]
-fn the_arrows_are_the_reduced_visibility() {
-    let arrows = |picture: &str| picture.matches("<path class=\"seen\"").count() - 1;
-    // Beside the legend's: 0 to 1, and the rest is site order.
-    assert_eq!(arrows(&drawn(&[], STALE_READ)), 1);
-    assert_eq!(arrows(&drawn(&[], LISTING)), 2);
-}
-
-#[test]
-fn only_a_broken_verdict_draws_a_breaking_pair() {
-    assert_eq!(drawn(&["--predicate", "3"], LISTING).matches("class=\"break\"").count(), 2);
-    assert_eq!(drawn(&["--predicate", "4"], LISTING).matches("class=\"break\"").count(), 0);
-}
-
-#[test]
 fn labels_are_those_of_the_events() {
     let picture = drawn(&[], STALE_READ);
-    for label in ["W 0=7", "R 0→7", "R 0→none"] {
+    for label in ["W 0=7", "R 0→7", "R 0→none", "ar 0", "ar 1", "ar 2"] {
         assert!(picture.contains(&format!(">{label}<")));
     }
 }
@@ -74,7 +57,15 @@ fn a_refused_record_gives_one_line_and_no_picture() {
 
 #[test]
 fn other_words_give_the_usage() {
-    let output = run(&["picture.svg"], LISTING);
-    assert_eq!(output.status.code(), Some(1));
-    assert!(String::from_utf8_lossy(&output.stderr).starts_with("usage: diagram"));
+    for words in [
+        &["--picture"][..],
+        &["--predicate"],
+        &["--predicate", "five"],
+        &["a.gcr", "b.gcr"],
+        &["a.gcr", "--model", "4"],
+    ] {
+        let output = run(words, LISTING);
+        assert_eq!((output.status.code(), output.stdout.len()), (Some(1), 0));
+        assert!(String::from_utf8_lossy(&output.stderr).starts_with("usage: diagram"));
+    }
 }

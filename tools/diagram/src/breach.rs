@@ -1,0 +1,163 @@
+//! What a break means, in terms of what the record says.
+
+use crate::arrow::{Arrow, Says};
+use crate::chain::{chain, in_words};
+use crate::event::Event;
+use crate::record::Record;
+use gcr::Predicate;
+
+pub struct Breach {
+    /// What breaks, for the arrow that shows it.
+    pub note: String,
+    /// Why that is a break; goes on after the note.
+    reason: String,
+    /// The breaking pair's arrows, the first with the note. None where the break is in one event's value.
+    pub arrows: Vec<Arrow>,
+    pair: (usize, usize),
+    /// Other events that the reason names.
+    pub named: Vec<usize>,
+}
+
+/// Why a pair belongs to the left side of a predicate, and which other events say so.
+struct Reason {
+    text: String,
+    named: Vec<usize>,
+}
+
+impl Breach {
+    /// The pair breaks the predicate, by the library's verdict.
+    pub fn new(record: &Record, predicate: Predicate, a: usize, b: usize) -> Breach {
+        match predicate {
+            Predicate::RVal => held(record, a, b),
+            Predicate::SingleOrder | Predicate::PerObjectSingleOrder => differing(record, predicate, a, b),
+            Predicate::MonotonicReads
+            | Predicate::ReadYourWrites
+            | Predicate::Pram
+            | Predicate::CausalVisibility
+            | Predicate::PerObjectPram => unseen(a, b, reason(record, predicate, a, b)),
+            _ => misplaced(a, b, reason(record, predicate, a, b)),
+        }
+    }
+
+    /// The breaking pair's events, or the one where both are the same.
+    pub fn events(&self) -> Vec<usize> {
+        let mut events = vec![self.pair.0, self.pair.1];
+        events.dedup();
+        events
+    }
+
+    pub fn sentence(&self) -> String {
+        format!("{}{}", self.note, self.reason)
+    }
+}
+
+fn held(record: &Record, read: usize, last: usize) -> Breach {
+    let (holds, object) = (value(&record.events[read]), record.events[read].object);
+    let (note, reason, arrows) = if read == last {
+        let reason = format!(": it sees no write on object {object}");
+        (format!("event {read} holds {holds}, not none"), reason, Vec::new())
+    } else {
+        let due = value(&record.events[last]);
+        let reason =
+            format!(": of the writes on object {object} that it sees, event {last} is the last in arbitration");
+        (format!("event {read} holds {holds}, not {due}"), reason, vec![Arrow::new(last, read, Says::Sees)])
+    };
+    Breach { note, reason, arrows, pair: (read, last), named: Vec::new() }
+}
+
+fn value(event: &Event) -> String {
+    event.value.map_or("none".to_string(), |value| value.to_string())
+}
+
+fn differing(record: &Record, predicate: Predicate, a: usize, b: usize) -> Breach {
+    let is_cut = predicate == Predicate::PerObjectSingleOrder;
+    let both = if is_cut { format!(", both on object {}", record.events[a].object) } else { String::new() };
+    if record.is_visible(a, b) {
+        let reason = format!(", though arbitration places event {b} before event {a}{both}");
+        let arrows = vec![Arrow::new(a, b, Says::Sees), Arrow::new(b, a, Says::Placed)];
+        return Breach { note: format!("event {b} sees event {a}"), reason, arrows, pair: (a, b), named: Vec::new() };
+    }
+    let counts = |seer: &usize| !is_cut || record.events[*seer].object == record.events[a].object;
+    let named: Vec<usize> = seer_of_pending(record, a, counts).into_iter().collect();
+    let pending =
+        named.iter().map(|seer| format!("; event {a} is pending, but event {seer} sees it")).collect::<String>();
+    let reason = format!(", though arbitration places event {a} before event {b}{both}{pending}");
+    Breach { note: does_not_see(a, b), reason, arrows: vec![Arrow::new(a, b, Says::Unseen)], pair: (a, b), named }
+}
+
+/// Why a pending event is not left out: something sees it.
+fn seer_of_pending(record: &Record, a: usize, counts: impl Fn(&usize) -> bool) -> Option<usize> {
+    let mut seers = record.numbers().filter(|&seer| record.is_visible(a, seer)).filter(counts);
+    record.events[a].is_pending().then(|| seers.next()).flatten()
+}
+
+fn does_not_see(a: usize, b: usize) -> String {
+    format!("event {b} does not see event {a}")
+}
+
+fn unseen(a: usize, b: usize, why: Reason) -> Breach {
+    let note = if a == b { format!("event {a} would have to see itself") } else { does_not_see(a, b) };
+    let arrows = vec![Arrow::new(a, b, Says::Unseen)];
+    Breach { note, reason: why.text, arrows, pair: (a, b), named: why.named }
+}
+
+fn misplaced(a: usize, b: usize, why: Reason) -> Breach {
+    let (note, arrow) = if a == b {
+        let note = format!("arbitration would have to place event {a} before itself");
+        (note, Arrow::new(a, b, Says::Unplaced))
+    } else {
+        (format!("event {b} is placed before event {a} in arbitration"), Arrow::new(b, a, Says::Placed))
+    };
+    Breach { note, reason: why.text, arrows: vec![arrow], pair: (a, b), named: why.named }
+}
+
+/// Of predicates that are inclusions.
+fn reason(record: &Record, predicate: Predicate, a: usize, b: usize) -> Reason {
+    let (site, object) = (record.events[b].site, record.events[b].object);
+    match predicate {
+        Predicate::RealTime => returned(record, a, b, ""),
+        Predicate::RealTimeWrites => returned(record, a, b, ", a write,"),
+        Predicate::MonotonicReads | Predicate::WritesFollowReads => by_read(record, a, b),
+        Predicate::ReadYourWrites => alone(", an earlier write at its site".to_string()),
+        Predicate::MonotonicWrites => {
+            alone(format!(", though both are writes at site {site} and event {a} is the earlier"))
+        }
+        Predicate::Pram => alone(", an earlier event at its site".to_string()),
+        Predicate::PerObjectPram => alone(format!(", an earlier event at its site on its object, {object}")),
+        _ => by_chain(record, a, b),
+    }
+}
+
+fn alone(text: String) -> Reason {
+    Reason { text, named: Vec::new() }
+}
+
+fn returned(record: &Record, a: usize, b: usize, what: &str) -> Reason {
+    let (end, start) = (record.events[a].end.unwrap_or_default(), record.events[b].start);
+    alone(format!(", though event {a}{what} returned at {end}, before event {b} started at {start}"))
+}
+
+/// What speaks against the record's pair, or for a pair of an event with itself.
+fn link(a: usize, b: usize) -> &'static str {
+    match a == b {
+        true => ", as",
+        false => ", though",
+    }
+}
+
+/// An earlier read at b's site sees a.
+fn by_read(record: &Record, a: usize, b: usize) -> Reason {
+    let is_seer =
+        |&read: &usize| !record.events[read].is_write && record.is_visible(a, read) && record.is_before(read, b);
+    let seen = if a == b { "it".to_string() } else { format!("event {a}") };
+    let named: Vec<usize> = record.numbers().find(is_seer).into_iter().collect();
+    let text = |read: &usize| format!("{} event {read}, an earlier read at event {b}'s site, sees {seen}", link(a, b));
+    Reason { text: named.iter().map(text).collect(), named }
+}
+
+fn by_chain(record: &Record, a: usize, b: usize) -> Reason {
+    let way = chain(record, a, b).unwrap_or_default();
+    let named = way.iter().copied().filter(|&event| event != a && event != b).collect();
+    let words = in_words(record, &way).map(|words| format!("{} {words}", link(a, b)));
+    Reason { text: words.unwrap_or_default(), named }
+}

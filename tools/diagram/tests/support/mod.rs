@@ -1,0 +1,9 @@
+//! What several tests use; none uses all of it.
+#![allow(dead_code)]
+
+pub mod drawing;
+pub mod frame;
+pub mod letters;
+pub mod program;
+pub mod records;
+pub mod truth;

@@ -1,0 +1,33 @@
+//! Running the program.
+
+use super::drawing::Drawing;
+use second::record::Record;
+use std::io::Write;
+use std::process::{Command, Output, Stdio};
+
+pub fn run(words: &[&str], input: &[u8]) -> Output {
+    let mut command = Command::new(env!("CARGO_BIN_EXE_diagram"));
+    command.args(words).stdin(Stdio::piped()).stdout(Stdio::piped()).stderr(Stdio::piped());
+    let mut child = command.spawn().expect("the program starts");
+    // A program that does not read its input has closed it.
+    let _ = child.stdin.take().expect("it is piped").write_all(input);
+    child.wait_with_output().expect("the program ends")
+}
+
+pub fn drawn(words: &[&str], input: &[u8]) -> String {
+    let output = run(words, input);
+    assert!(output.status.success(), "{}", String::from_utf8_lossy(&output.stderr));
+    String::from_utf8(output.stdout).expect("a picture is text")
+}
+
+/// The picture of a record, read back.
+pub fn drawing(words: &[&str], record: &Record) -> Drawing {
+    let drawing = Drawing::read(&drawn(words, &record.to_bytes()));
+    assert_eq!(drawing.marks().len(), record.events.len());
+    drawing
+}
+
+/// The same with a predicate asked.
+pub fn asked(predicate: u32, record: &Record) -> Drawing {
+    drawing(&["--predicate", &predicate.to_string()], record)
+}

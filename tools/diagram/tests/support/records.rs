@@ -1,0 +1,74 @@
+//! Records to draw.
+
+use second::generate::random::Random;
+use second::generate::shapes;
+use second::record::{Event, Record};
+use second::store::{run_script, Call};
+
+/// Records of every shape and of a moderate size, each with a number to tell it by.
+pub fn random() -> impl Iterator<Item = (u64, Record)> {
+    (0..120).map(|seed| (seed, of_seed(seed)))
+}
+
+fn of_seed(seed: u64) -> Record {
+    let mut random = Random::new(7_000 + seed);
+    match seed % 4 {
+        0 => {
+            let sites = 1 + random.index(6);
+            rehearsed(&mut random, sites, 60)
+        }
+        1 => {
+            let n = random.index(8);
+            shapes::record(&mut random, n)
+        }
+        _ => {
+            let n = random.index(45);
+            shapes::record(&mut random, n)
+        }
+    }
+}
+
+/// What a store leaves after random calls.
+pub fn rehearsed(random: &mut Random, sites: usize, calls: usize) -> Record {
+    let mut script = Vec::new();
+    for _ in 0..calls {
+        let (site, object) = (random.index(sites), random.index(3));
+        let call = match random.below(3) {
+            0 => Call::Put { site, object, value: random.below(1_000) as u32 },
+            1 => Call::Get { site, object },
+            _ => Call::Deliver { site, event: random.index(calls / 2) },
+        };
+        script.extend(call.to_bytes());
+    }
+    run_script(sites, &script, &mut vec![0; script.len()]).record()
+}
+
+/// The largest records: one site and eight, each event sees a part of those before it.
+pub fn large() -> Vec<Record> {
+    let of_sites = |sites: u8| {
+        let mut random = Random::new(sites.into());
+        let mut event = |number: u64| {
+            let event = Event::write(random.below(sites.into()) as u8, 0, number as u32).at(3 * number, 3 * number + 1);
+            let seen: Vec<usize> = (0..number as usize).filter(|_| random.chance(20)).collect();
+            event.sees(&seen)
+        };
+        Record::in_order(sites, (0..256).map(&mut event).collect())
+    };
+    vec![of_sites(1), of_sites(8)]
+}
+
+/// A write and a later read of one site.
+pub fn write_then_read(sees: bool) -> Record {
+    let read = Event::read(0, 0, sees.then_some(7)).at(2, 3);
+    let read = if sees { read.sees(&[0]) } else { read };
+    Record::in_order(1, vec![Event::write(0, 0, 7).at(0, 1), read])
+}
+
+/// The records that ship.
+pub fn shipped() -> Vec<Record> {
+    let listing = include_bytes!("../../../../records/listing.gcr");
+    let stale_read = include_bytes!("../../../../records/stale-read.gcr");
+    let stale_value = include_bytes!("../../../../records/stale-value.gcr");
+    let empty = include_bytes!("../../../../records/empty-one-site.gcr");
+    [&listing[..], stale_read, stale_value, empty].map(Record::from_bytes).to_vec()
+}
