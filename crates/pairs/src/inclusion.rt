@@ -1,12 +1,13 @@
 // An inclusion: the first pair in the left side but not the right. Row b of a table has the events related to b, so one pass over the rows finds where that
-// pair begins; then the columns of that event are rows of where its pairs end, and their difference has the lowest end.
+// pair begins; then the difference of that event's columns, taken a word of rows at a time, has the lowest end.
 use consistency::Verdict;
 ghost use mathlib.Core.Path.{_≡_};
-ghost use Prim.Native.Nat.{ℕ, _*_, _/_, _<_, _≤_, min};
-ghost use mathlib.Core.Bool.{true};
+ghost use Prim.Native.Nat.{ℕ, _+_, _*_, _/_, _<_, _≤_};
+ghost use mathlib.Core.Bool.{true, _&&_};
+ghost use lib.Dec.{ltb};
 ghost use lib.ListN.{length};
 ghost use Rattle.rows.specs.Lowest.{lowest, some};
-ghost use Rattle.rows.specs.Row.{has, Row};
+ghost use Rattle.rows.specs.Row.{bitOf, has};
 ghost use Rattle.rows.specs.Relation.{related};
 ghost use Rattle.consistency.specs.FirstPair.{first};
 ghost use Rattle.consistency.specs.Relations.{to};
@@ -51,36 +52,39 @@ fn collect_outside(
     }
 }
 
-// The events that a table relates a to: column a as a row. Rows are as wide as `out`.
-fn take_column(a: usize, n: usize, g: &[u64], out: &mut [u64])
-    requires { ⌜ (n * length (now out) ≤ length (now g)) × (n ≤ 64 * length (now out)) × (a < n) ⌝ }
-    ensures { λ _. ⌜ length (now (out .exit)) ≡ length (now (out .entry)) ⌝ }
-    ensures { λ _. ⌜ Row n (related (now (g .entry)) (length (now (out .entry))) a) (now (out .exit)) ⌝ }
+// Word k of the events to which q has a pair from a that r lacks: what the column of a has in q and not in r, from event 64 × k on. Rows are of w words.
+fn outside_word(a: usize, k: usize, n: usize, w: usize, q: &[u64], r: &[u64]) -> u64
+    requires { ⌜ (n * w ≤ length (now q)) × (n * w ≤ length (now r)) × (a < 64 * w) × (k * 64 ≤ n) ⌝ }
+    ensures { λ x. ⌜ ((j : ℕ) → j < 64 → bitOf x j ≡ ltb (k * 64 + j) n && outside (related (now (q .entry)) w) (related (now (r .entry)) w) a (k * 64 + j)) ⌝ }
 {
-    let w = out.len();
-    rows::clear(out);
-    for b in 0..n {
-        let at = b * w;
-        let end = at + w;
-        if rows::test(&g[at..end], a) {
-            rows::set(out, b);
-        }
+    let mut rows = n - k * 64;
+    if 64 < rows {
+        rows = 64;
     }
+    let mut x: u64 = 0;
+    for j in 0..rows {
+        let at = (k * 64 + j) * w + a / 64;
+        x |= (((q[at] & !r[at]) >> (a % 64)) & 1) << j;
+    }
+    x
 }
 
-// The lowest event of `ends` to which q has a pair from a that r lacks, or some number from n on. Rows are as wide as `ends`.
+// The lowest event of `ends` to which q has a pair from a that r lacks, or n. Rows are as wide as `ends`.
 fn lowest_end(a: usize, n: usize, q: &[u64], ends: &[u64], r: &[u64]) -> usize
     requires { ⌜ (n * length (now ends) ≤ length (now q)) × (n * length (now ends) ≤ length (now r)) × (length (now ends) ≤ 8) ⌝ }
     requires { ⌜ (n ≤ 64 * length (now ends)) × (a < n) ⌝ }
-    ensures { λ b. ⌜ min b n ≡ lowest n (outside (to (has (now (ends .entry))) (related (now (q .entry)) (length (now (ends .entry))))) (related (now (r .entry)) (length (now (ends .entry)))) a) ⌝ }
+    ensures { λ b. ⌜ b ≡ lowest n (outside (to (has (now (ends .entry))) (related (now (q .entry)) (length (now (ends .entry))))) (related (now (r .entry)) (length (now (ends .entry)))) a) ⌝ }
 {
     let w = ends.len();
-    let mut left = [0u64; 8];
-    let mut right = [0u64; 8];
-    take_column(a, n, q, &mut left[0..w]);
-    rows::intersect(&mut left[0..w], ends);
-    take_column(a, n, r, &mut right[0..w]);
-    rows::lowest_difference(&left[0..w], &right[0..w])
+    let mut k: usize = 0;
+    while k * 64 < n {
+        let x = outside_word(a, k, n, w, q, r) & ends[k];
+        if x != 0 {
+            return k * 64 + u64::trailing_zeros(x) as usize;
+        }
+        k += 1;
+    }
+    n
 }
 
 // The first pair of q, from a member of `starts` to one of `ends`, that r lacks. Rows are as wide as `starts`.

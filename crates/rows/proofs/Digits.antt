@@ -1,9 +1,9 @@
 -- Laws of a number's binary digits, at any place k, and of the bits that tests read. Assumes nothing.
 use mathlib.Core.Path.{_≡_, refl, sym, ap, ap₂, _∙_}
 use mathlib.Core.Logic.{_⊎_, inl, inr, ⊎-elim}
-use mathlib.Core.Bool.{Bool, true, false, not, _&&_, _||_}
+use mathlib.Core.Bool.{Bool, true, false, not, _&&_, _||_, and-false, and-true}
 use Prim.Native.Nat.{ℕ, zero, suc, _+_, _-_, _*_, _/_, _%_, _^_, _≤_, _<_, min, max}
-use native.Mathlib.Nat.{sub-zero, mod-lt, div-one, div-div-eq-div-mul, pow-succ', not-suc-le-zero, le-of-suc-le-suc, suc-ne-zero, zero-lt-suc, one-mul, mod-eq-of-lt}
+use native.Mathlib.Nat.{sub-zero, mod-lt, div-one, div-div-eq-div-mul, pow-succ', not-suc-le-zero, le-of-suc-le-suc, suc-ne-zero, zero-lt-suc, zero-mul, one-mul, mod-eq-of-lt}
 use native.Mathlib.Omega.{arith}
 use borrow.Author.Tests.{eq-eqb, eqb-true, eqb-false, ne-eqb, ltb-true, ltb-false}
 use lib.Dec.{eqb, ltb}
@@ -268,3 +268,13 @@ bit-below m k =
 -- `a & !b`
 pub bit-minus : (w a b k : ℕ) → k < w → b < 2 ^ w → bitOf (bitAnd a ((2 ^ w - 1) - b)) k ≡ bitOf a k && not (bitOf b k)
 bit-minus w a b k l h = bit-and a ((2 ^ w - 1) - b) k ∙ ap (λ (t : Bool). bitOf a k && t) (bit-not w b k l h)
+
+-- bit b of v, moved to place j: `((v >> b) & 1) << j` at w bits
+pub bit-moved : (w v b j k : ℕ) → j < w → bitOf ((bitAnd (v / 2 ^ b) 1 * 2 ^ j) % 2 ^ w) k ≡ eqb j k && bitOf v b
+unfolding bitOf
+bit-moved w v b j k h =
+    ap (λ (d : ℕ). bitOf ((d * 2 ^ j) % 2 ^ w) k) (and-one (v / 2 ^ b))
+    ∙ by-digit (λ d. bitOf ((d * 2 ^ j) % 2 ^ w) k ≡ eqb j k && eqb d 1)
+    (ap (λ (x : ℕ). bitOf x k) (ap (λ (x : ℕ). x % 2 ^ w) (zero-mul (2 ^ j)) ∙ mod-eq-of-lt (pow-pos w)) ∙ bit-of-zero k ∙ sym (and-false (eqb j k)))
+    (ap (λ (x : ℕ). bitOf x k) (shl-one w j h) ∙ bit-pow j k ∙ sym (and-true (eqb j k)))
+    (digit v b) (digit-lt v b)

@@ -1,7 +1,7 @@
 -- Laws of the lowest and the highest number at which a test holds. Assumes nothing.
 use mathlib.Core.Path.{_≡_, refl, sym, ap, _∙_}
 use mathlib.Core.Bool.{Bool, true, false, cond, not, _&&_, _||_}
-use Prim.Native.Nat.{ℕ, zero, suc, _+_, _-_, _<_, _≤_, min}
+use Prim.Native.Nat.{ℕ, zero, suc, _+_, _-_, _<_, _≤_}
 use native.Mathlib.Omega.{arith}
 use native.Mathlib.Nat.{le-refl}
 use lib.Dec.{ltb, leb}
@@ -176,15 +176,6 @@ module _ (m n : ℕ) (f g : ℕ → Bool) (wide : n ≤ m) (cut : (x : ℕ) → 
   some-cut = same-test (some m f) (some n g)
       (λ e. let p = outer (lowest m f) (some-at m f e .1) in some-of n g (lowest m f) (p .0) (p .1))
       (λ e. let p = some-at n g e in some-of m f (lowest n g) (omega (arith, p .0)) (sym (inner (lowest n g) (p .0)) ∙ p .1))
-
-  pub lowest-cut : lowest n g ≡ min (lowest m f) n
-  lowest-cut =
-      let l = lowest-low m f in
-      lowest-is n g (min (lowest m f) n) (record {
-        within = omega arith;
-        below = λ k h. inner k (omega arith) ∙ l .below k (omega arith);
-        at = λ h. let e : min (lowest m f) n ≡ lowest m f = omega arith in rw e (outer (lowest m f) (l .at (omega arith)) .1);
-      })
 
 -- ---- the highest
 
