@@ -37,9 +37,9 @@ unfolding storeAfter
 store-few n script = every-limits n (callsOf script) .count
 
 module _ (n : ℕ) (n≤8 : n ≤ 8) (script : List ℕ) where
-  store-stamp : (e : ℕ) → e < storeAfter n script .count → storeAfter n script .event e .stamp ≤ 256
+  store-stamp : (e : ℕ) → e < storeAfter n script .count → storeAfter n script .event e .stamp ≤ storeAfter n script .count
   unfolding storeAfter
-  store-stamp e l = omega (arith, every-sizes n n≤8 (callsOf script) .stamp e l, every-limits n (callsOf script) .count)
+  store-stamp = every-sizes n n≤8 (callsOf script) .stamp
 
   store-object : (e : ℕ) → e < storeAfter n script .count → storeAfter n script .event e .object ≤ 31
   unfolding storeAfter
@@ -57,7 +57,7 @@ module _ (n : ℕ) (n≤8 : n ≤ 8) (script : List ℕ) where
     pub run-bounded : Bounded (ran .count) (ran .events)
     run-bounded = record {
       count = omega (arith, h .count, store-few n script);
-      order = λ e l. omega (arith, ap (λ (x : Event). x .stamp) (h .event e l), store-stamp e (inside e l));
+      order = λ e l. omega (arith, ap (λ (x : Event). x .stamp) (h .event e l), store-stamp e (inside e l), h .count);
       object = λ e l. omega (arith, ap (λ (x : Event). x .object) (h .event e l), store-object e (inside e l));
     }
 

@@ -68,10 +68,10 @@ storeFrom count events sees = record { count = count; event = eventIn events see
 abbrev pub ranStore : Ran → Store
 ranStore ran = storeFrom (ran .count) (ran .events) (ran .sees)
 
--- the numbers of the first k events are small
+-- the numbers of the first k events are small: no stamp is above k
 pub record Bounded (k : ℕ) (events : List KeptEvent) : Type 0 where
   pub count : k ≤ 256
-  pub order : (e : ℕ) → e < k → getD events e pastEvent .order < 2056
+  pub order : (e : ℕ) → e < k → getD events e pastEvent .order < 8 * k + 8
   pub object : (e : ℕ) → e < k → getD events e pastEvent .object < 256
 
 -- no two events of a store have one stamp and site
