@@ -84,12 +84,13 @@ fn event_holds(s: &[u8], at: usize) -> bool
     gaps_hold(s, at)
 }
 
-// The bytes after the last slot of a block, where the slot at `at` is that one.
+// The bytes after the last slot of a block, where the slot at `at` is that one: the next block starts 128 bytes on. After another slot that place is
+// 128 bytes or more into its block, so that one mask tells them apart.
 fn tail_holds(s: &[u8], at: usize) -> bool
     requires { ⌜ at + 128 ≤ length (now s) ⌝ }
     ensures { λ r. ⌜ ((e : ℕ) → at ≡ slotAt gcr1 e → r ≡ tailRight gcr1 (now (s .entry)) e) ⌝ }
 {
-    if at % 512 != 384 {
+    if 128 <= (at + 128) % 512 {
         return true;
     }
     layout::is_zero(s, at + 64, 60)

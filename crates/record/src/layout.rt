@@ -13,16 +13,16 @@ pub fn slot_at(e: usize) -> usize
     512 * (1 + e / 7) + 64 * (e % 7)
 }
 
-// Where the slot after the one at `at` starts: behind it, or in the next block where it is its block's last.
+// Where the slot after the one at `at` starts: behind it, or 128 bytes on where the next block starts there, as it does after a block's last slot.
 pub fn next_slot(at: usize) -> usize
     requires { ⌜ at + 128 < 2 ^ 64 ⌝ }
     ensures { λ r. ⌜ r ≡ nextSlot gcr1 at ⌝ }
 {
-    let next = at + 64;
-    if next % 512 == 448 {
-        return next + 64;
+    let block = at + 128;
+    if block % 512 == 0 {
+        return block;
     }
-    next
+    at + 64
 }
 
 // Whether the k bytes from `at` on are zero.

@@ -9,6 +9,9 @@ use Rattle.record.specs.Slots.{tailRight}
 use Rattle.reader.proofs.slots.tail_holds.Statement.{statement}
 use Rattle.reader.proofs.slots.tail_holds.Tie as tie
 
+add-if1 : tie.Need-add-if1
+add-if1 c = search needs
+
 returns : tie.Need-returns
 unfolding tailRight
 returns c = λ e q. rw (ne-eqb (e % 7) 6 (λ f. omega arith))
@@ -28,4 +31,4 @@ returns-2 c = λ e q.
     rw (eq-eqb _ _ last, ← next) (c .is-zero .ensures)
 
 pub tail-holds-spec : {M : Type 1} → statement M
-tail-holds-spec = tie.close (tie.spec returns add-is-zero is-zero-requires returns-2)
+tail-holds-spec = tie.close (tie.spec add-if1 returns add-is-zero is-zero-requires returns-2)
