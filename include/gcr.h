@@ -31,6 +31,12 @@ extern "C" {
 #define GCR_SCRIPT_MOST 32768 /* bytes of the longest script */
 #define GCR_CALL_BYTES 8      /* bytes of a script's call, and of its answer */
 
+/* The kinds of call, in byte 0. Bytes that a line does not name are 0; numbers have their lowest byte first. */
+#define GCR_PUT 1     /* byte 1 the site, byte 2 the object, bytes 4-7 the value */
+#define GCR_GET 2     /* byte 1 the site, byte 2 the object */
+#define GCR_DELIVER 3 /* byte 1 the site that the put is delivered to, bytes 4-5 the event that the put became */
+#define GCR_CLOSE 4   /* bytes 1-7 are 0; delivers to each site every put that it lacks, and only 31 refuses it */
+
 #define GCR_JUDGE_STACK_BYTES 131072    /* stack for any of the three judging calls */
 #define GCR_REHEARSE_STACK_BYTES 131072 /* stack for gcr_rehearse */
 
@@ -76,16 +82,32 @@ static inline uint32_t gcr_rehearsed_number(uint64_t answer) { return (uint32_t)
 static inline size_t gcr_rehearsed_length(uint64_t answer) { return (size_t)(answer >> 8 & 65535); }
 static inline uint64_t gcr_rehearsed_outstanding(uint64_t answer) { return answer >> 24; }
 
-/* Of the answer of call k: 0 or what refused it; whether a get found a value; that value; the event that a put or get
- * became. Parts that a call does not use are 0. */
+/* Of the answer of call k: 0 or what refused it; the event that a put or get became, 0 also where it became none. */
 static inline uint32_t gcr_answer_number(const uint8_t *answers, size_t k) { return answers[8 * k]; }
-static inline int gcr_answer_found(const uint8_t *answers, size_t k) { return answers[8 * k + 1]; }
 static inline uint32_t gcr_answer_event(const uint8_t *answers, size_t k) {
     return answers[8 * k + 2] | (uint32_t)answers[8 * k + 3] << 8;
 }
-static inline uint32_t gcr_answer_value(const uint8_t *answers, size_t k) {
-    const uint8_t *value = answers + 8 * k + 4;
-    return value[0] | (uint32_t)value[1] << 8 | (uint32_t)value[2] << 16 | (uint32_t)value[3] << 24;
+
+/* Bytes 4-7 of the answer of call k where the call is of that kind, else 0. For the accessors below. */
+static inline uint32_t gcr_answer_of_kind(uint8_t kind, const uint8_t *script, const uint8_t *answers, size_t k) {
+    const uint8_t *at = answers + 8 * k + 4;
+    if (script[8 * k] != kind)
+        return 0;
+    return at[0] | (uint32_t)at[1] << 8 | (uint32_t)at[2] << 16 | (uint32_t)at[3] << 24;
+}
+
+/* Of call k and its answer: whether the call is a get that found a value; the value that it found, else 0; the copies
+ * that it delivered as a close, else 0. Of a refused call all three are 0.
+ * They take the script, since a close sets the byte that told of a found value, and has its copies where a get has the
+ * value. A host from before there were closes gives the answers alone, does not compile, and has to look. */
+static inline int gcr_answer_found(const uint8_t *script, const uint8_t *answers, size_t k) {
+    return script[8 * k] == GCR_GET && answers[8 * k + 1] == 1;
+}
+static inline uint32_t gcr_answer_value(const uint8_t *script, const uint8_t *answers, size_t k) {
+    return gcr_answer_of_kind(GCR_GET, script, answers, k);
+}
+static inline uint32_t gcr_answer_copies(const uint8_t *script, const uint8_t *answers, size_t k) {
+    return gcr_answer_of_kind(GCR_CLOSE, script, answers, k);
 }
 
 #ifdef __cplusplus

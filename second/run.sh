@@ -34,12 +34,13 @@ feature() {
     case $1 in reader | models | rehearsal) echo linked ;; esac
 }
 
-# Seeds of a CI run: a spawned program costs a millisecond, a script more than a record. With these every answer that
-# a comparer must meet occurs twenty times and more.
+# Seeds of a CI run: a spawned program costs a millisecond. Half of the scripts have closes, after which little is late
+# or lacking, so there are twice as many as would do without. With these every answer that a comparer must meet occurs
+# twenty times and more.
 seeds() {
     case $1 in
-    reader | models) echo $((4000 * share)) ;;
-    *) echo $((2000 * share)) ;;
+    inspect | verdict) echo $((2000 * share)) ;;
+    *) echo $((4000 * share)) ;;
     esac
 }
 

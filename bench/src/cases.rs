@@ -68,8 +68,8 @@ fn records() -> Vec<Rc<Input>> {
 fn scripts() -> Vec<Rc<Input>> {
     let sparse = SIZES.map(inputs::sparse_script);
     let day = SIZES.map(inputs::day_script);
-    let full = inputs::full_day_script();
-    sparse.into_iter().chain(SIZES.map(inputs::dense_script)).chain(day).chain([full]).collect()
+    let whole = [inputs::full_day_script(), inputs::closes_script()];
+    sparse.into_iter().chain(SIZES.map(inputs::dense_script)).chain(day).chain(whole).collect()
 }
 
 fn read(input: &Rc<Input>) -> Case {

@@ -1,6 +1,6 @@
 //! Records and scripts, always the same.
 
-use second::generate::scripts::full_day;
+use second::generate::scripts::{day_with_closes, full_day};
 use second::record::{Event, Record};
 use second::samples::in_turn;
 use second::store::{run_script, Call, Store, CALL_BYTES};
@@ -133,6 +133,11 @@ pub fn full_day_script() -> Rc<Input> {
     Input::new("full day", 256, full_day(1, SITES))
 }
 
+/// As many calls of a day of that sort, where one in 16 is a close.
+pub fn closes_script() -> Rc<Input> {
+    Input::new("day with closes", 256, day_with_closes(1, SITES))
+}
+
 fn is_put(k: usize) -> bool {
     (k / SITES).is_multiple_of(2)
 }
@@ -154,6 +159,7 @@ mod tests {
     use super::*;
     use second::predicates::{Answer, Judged};
     use second::questions::ask;
+    use second::record::u32_at;
 
     fn broken(input: &Input) -> Vec<usize> {
         let answers = Judged::new(&ask(&input.bytes).expect("passes")).answers();
@@ -187,8 +193,21 @@ mod tests {
             assert!(answers.chunks(CALL_BYTES).all(|answer| answer[0] == 0));
             assert_eq!(store.events(), input.n);
         }
-        for input in [day_script(16), day_script(256), full_day_script()] {
+        for input in [day_script(16), day_script(256), full_day_script(), closes_script()] {
             assert_eq!(run_script(SITES, &input.bytes, &mut vec![0; input.bytes.len()]).events(), input.n);
         }
+    }
+
+    /// The numbers that the page of results tells of this input.
+    #[test]
+    fn closes_deliver_and_find_none_lacking() {
+        let (script, close) = (&closes_script().bytes, Call::Close.to_bytes());
+        let mut answers = vec![0; script.len()];
+        run_script(SITES, script, &mut answers);
+        let calls = script.chunks(CALL_BYTES).zip(answers.chunks(CALL_BYTES));
+        let copies = calls.filter(|(call, _)| **call == close).map(|(_, answer)| u32_at(answer, 4));
+        let copies: Vec<u32> = copies.collect();
+        let delivering = copies.iter().filter(|&&copies| copies > 0).count();
+        assert_eq!((copies.len(), delivering, copies.iter().sum()), (257, 67, 756));
     }
 }

@@ -3,26 +3,62 @@
 #include "gcr.h"
 #include <stdio.h>
 
+#define CALLS 8     /* of the rehearsal's script */
 #define LENGTH 1024 /* bytes of the rehearsal's record */
 #define ROOM 15     /* words lent to gcr_judge_all: two more than it writes */
 #define STAYS 7     /* what they hold before */
 
 static uint8_t record[GCR_RECORD_MOST];
 
-/* A put of 70,000 at site 0, a get there, the put delivered to its own site. */
-static const uint8_t script[3 * GCR_CALL_BYTES] = {1, 0, 5, 0, 0x70, 0x11, 1, 0, 2, 0, 5, 0, 0, 0, 0, 0, 3};
+/* At two sites. */
+static const uint8_t script[CALLS * GCR_CALL_BYTES] = {
+    GCR_PUT,     0, 5, 0, 0x70, 0x11, 1, 0, /* of 70,000 at site 0 */
+    GCR_GET,     0, 5, 0, 0,    0,    0, 0, /* there */
+    GCR_GET,     1, 5, 0, 0,    0,    0, 0, /* at site 1, which lacks the put */
+    GCR_DELIVER, 0, 0, 0, 0,    0,    0, 0, /* of the put to its own site */
+    GCR_CLOSE,   0, 0, 0, 0,    0,    0, 0, /* brings the put to site 1 */
+    GCR_CLOSE,   0, 0, 0, 0,    0,    0, 0, /* where nothing is lacking any more */
+    GCR_CLOSE,   1, 0, 0, 0,    0,    0, 0, /* of site 1 alone, which is no call */
+    GCR_GET,     1, 5, 0, 0,    0,    0, 0, /* at site 1 again */
+};
+
+/* What the accessors give for a call's answer. */
+struct parts {
+    uint32_t number, event;
+    int found;
+    uint32_t value, copies;
+};
+
+static const struct parts parts[CALLS] = {
+    {.event = 0},                             /* the put */
+    {.event = 1, .found = 1, .value = 70000}, /* the get at site 0 */
+    {.event = 2},                             /* the get that found nothing */
+    {.number = 35},                           /* the refused delivery */
+    {.copies = 1},                            /* the first close */
+    {.copies = 0},                            /* the second close */
+    {.number = 31},                           /* the refused close */
+    {.event = 3, .found = 1, .value = 70000}, /* the get at site 1 */
+};
+
+static int answer_is_right(const uint8_t *answers, size_t k) {
+    const struct parts *due = parts + k;
+    return gcr_answer_number(answers, k) == due->number && gcr_answer_event(answers, k) == due->event &&
+           gcr_answer_found(script, answers, k) == due->found && gcr_answer_value(script, answers, k) == due->value &&
+           gcr_answer_copies(script, answers, k) == due->copies;
+}
 
 static int answers_are_right(const uint8_t *answers) {
-    return gcr_answer_number(answers, 0) == 0 && gcr_answer_event(answers, 0) == 0 && !gcr_answer_found(answers, 0) &&
-           gcr_answer_found(answers, 1) && gcr_answer_value(answers, 1) == 70000 && gcr_answer_event(answers, 1) == 1 &&
-           gcr_answer_number(answers, 2) == 35;
+    int right = 1;
+    for (size_t k = 0; k < CALLS; k++)
+        right &= answer_is_right(answers, k);
+    return right;
 }
 
 static int rehearsal_is_right(void) {
     uint8_t answers[sizeof script];
     uint64_t done = gcr_rehearse(2, script, sizeof script, record, sizeof record, answers, sizeof answers);
     return gcr_rehearsed_number(done) == 0 && gcr_rehearsed_length(done) == LENGTH &&
-           gcr_rehearsed_outstanding(done) <= 1 && answers_are_right(answers);
+           gcr_rehearsed_outstanding(done) == 0 && answers_are_right(answers);
 }
 
 static int reading_is_right(void) {

@@ -15,12 +15,15 @@ static uint8_t drawn(void) {
     return (uint8_t)(state >> 24);
 }
 
-/* A put, a get, or the delivery of an event, at any of the sites. */
+/* One in 16 a close; else a put, a get, or the delivery of an event, at any of the sites. */
 static void draw_call(uint8_t *call) {
-    call[0] = (uint8_t)(1 + drawn() % 3);
+    static const uint8_t kinds[] = {GCR_PUT, GCR_GET, GCR_DELIVER};
+    call[0] = drawn() % 16 ? kinds[drawn() % 3] : GCR_CLOSE;
+    if (call[0] == GCR_CLOSE)
+        return;
     call[1] = drawn() % LARGEST_SITES;
-    call[2] = call[0] == 3 ? 0 : drawn() % 32;
-    call[4] = call[0] == 2 ? 0 : drawn();
+    call[2] = call[0] == GCR_DELIVER ? 0 : drawn() % 32;
+    call[4] = call[0] == GCR_GET ? 0 : drawn();
 }
 
 const uint8_t *largest_script(void) {
@@ -39,7 +42,7 @@ static void rehearse(uint32_t sites, const uint8_t *calls, size_t len, uint8_t *
 static void one_site(uint8_t *record) {
     static uint8_t puts[EVENTS * GCR_CALL_BYTES];
     for (size_t at = 0; at < sizeof puts; at += GCR_CALL_BYTES)
-        puts[at] = 1;
+        puts[at] = GCR_PUT;
     rehearse(1, puts, sizeof puts, record);
 }
 

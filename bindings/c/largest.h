@@ -7,7 +7,7 @@
 #define LARGEST_SITES 8
 #define LARGEST_RECORDS 4
 
-/* A day of 4,096 puts, gets and deliveries, many of them refused. */
+/* A day of 4,096 puts, gets, deliveries and closes, many of them refused. */
 const uint8_t *largest_script(void);
 
 /* 256 events each, in GCR_RECORD_MOST bytes:

@@ -6,21 +6,23 @@ pub const OBJECTS: usize = 32;
 pub const CALL_BYTES: usize = 8;
 pub const MOST_SCRIPT_BYTES: usize = 32_768;
 
+/// A close delivers to each site every put that it lacks.
 #[derive(Clone, Copy, Debug, PartialEq, Eq)]
 pub enum Call {
     Put { site: usize, object: usize, value: u32 },
     Get { site: usize, object: usize },
     Deliver { site: usize, event: usize },
+    Close,
 }
 
-#[derive(Clone, Copy)]
+#[derive(Clone, Copy, Debug, PartialEq, Eq)]
 struct Cell {
     value: u32,
     stamp: u32,
     site: usize,
 }
 
-#[derive(Clone)]
+#[derive(Clone, Debug, PartialEq, Eq)]
 struct Site {
     clock: u32,
     held: [usize; MOST_SITES],
@@ -29,12 +31,14 @@ struct Site {
 }
 
 /// A done put or get.
+#[derive(Clone, Debug, PartialEq, Eq)]
 struct Done {
     event: Event,
     stamp: u32,
     needs: [usize; MOST_SITES],
 }
 
+#[derive(Clone, Debug, PartialEq, Eq)]
 pub struct Store {
     sites: Vec<Site>,
     done: Vec<Done>,
@@ -63,6 +67,7 @@ impl Call {
             1 => Some(Call::Put { site, object, value: tail }),
             2 if tail == 0 => Some(Call::Get { site, object }),
             3 if object == 0 && tail <= 0xffff => Some(Call::Deliver { site, event: tail as usize }),
+            4 if site == 0 && object == 0 && tail == 0 => Some(Call::Close),
             _ => None,
         }
     }
@@ -72,15 +77,18 @@ impl Call {
             Call::Put { site, object, value } => (1, site, object, value),
             Call::Get { site, object } => (2, site, object, 0),
             Call::Deliver { site, event } => (3, site, 0, event as u32),
+            Call::Close => (4, 0, 0, 0),
         };
         let mut bytes = [kind, site as u8, object as u8, 0, 0, 0, 0, 0];
         bytes[4..].copy_from_slice(&tail.to_le_bytes());
         bytes
     }
 
-    fn site(&self) -> usize {
+    /// The site that 32 asks about; a close names none.
+    fn site(&self) -> Option<usize> {
         match *self {
-            Call::Put { site, .. } | Call::Get { site, .. } | Call::Deliver { site, .. } => site,
+            Call::Put { site, .. } | Call::Get { site, .. } | Call::Deliver { site, .. } => Some(site),
+            Call::Close => None,
         }
     }
 }
@@ -102,14 +110,15 @@ impl Store {
         }
     }
 
-    /// Questions 32 to 36.
+    /// Questions 32 to 36; a well-formed close passes them all.
     pub fn first_no(&self, call: Call) -> Option<u8> {
-        if call.site() >= self.sites.len() {
+        if call.site().is_some_and(|site| site >= self.sites.len()) {
             return Some(32);
         }
         match call {
             Call::Put { object, .. } | Call::Get { object, .. } => self.first_no_of_event(object),
             Call::Deliver { site, event } => self.first_no_of_delivery(&self.sites[site], event),
+            Call::Close => None,
         }
     }
 
@@ -139,11 +148,16 @@ impl Store {
         self.done.get(event).is_some_and(|done| done.event.is_write())
     }
 
+    fn lacks(&self, site: &Site, event: usize) -> bool {
+        self.is_put(event) && !site.known[event]
+    }
+
     fn run(&mut self, call: Call) -> [u8; 8] {
         match call {
             Call::Put { site, object, value } => self.put(site, object, value),
             Call::Get { site, object } => self.get(site, object),
             Call::Deliver { site, event } => self.deliver(site, event),
+            Call::Close => self.close(),
         }
     }
 
@@ -190,6 +204,25 @@ impl Store {
         [0; 8]
     }
 
+    /// Puts by event number, for each the sites in rising order. What a close promises is asserted, as that costs
+    /// little beside the deliveries.
+    fn close(&mut self) -> [u8; 8] {
+        let mut copies = 0;
+        for event in 0..self.done.len() {
+            for site in 0..self.sites.len() {
+                if self.lacks(&self.sites[site], event) {
+                    let refused = self.first_no(Call::Deliver { site, event });
+                    assert_eq!(refused, None, "put {event} comes to site {site} after all that it needs");
+                    self.deliver(site, event);
+                    copies += 1;
+                }
+            }
+        }
+        assert_eq!(self.outstanding(), 0, "no put is lacking anywhere");
+        assert!(self.cells_agree(), "all sites show the same positions");
+        closed_answer(copies)
+    }
+
     pub fn record(&self) -> Record {
         let order = |done: &Done| (done.stamp, done.event.site);
         let events = self.done.iter().map(|done| {
@@ -209,8 +242,13 @@ impl Store {
 
     /// Pairs of a put and a site that lacks it.
     pub fn outstanding(&self) -> usize {
-        let lacked_by = |site: &Site| (0..MOST_EVENTS).filter(|&e| self.is_put(e) && !site.known[e]).count();
+        let lacked_by = |site: &Site| (0..self.done.len()).filter(|&event| self.lacks(site, event)).count();
         self.sites.iter().map(lacked_by).sum()
+    }
+
+    /// Whether every object's cell is the same at all sites.
+    pub fn cells_agree(&self) -> bool {
+        self.sites.iter().all(|site| site.cells == self.sites[0].cells)
     }
 }
 
@@ -223,6 +261,13 @@ fn done_answer(event: usize, found: Option<u32>) -> [u8; 8] {
     answer[1] = found.is_some() as u8;
     answer[2..4].copy_from_slice(&(event as u16).to_le_bytes());
     answer[4..8].copy_from_slice(&found.unwrap_or(0).to_le_bytes());
+    answer
+}
+
+/// Byte 1 is set also where nothing was lacking.
+fn closed_answer(copies: u32) -> [u8; 8] {
+    let mut answer = [0, 1, 0, 0, 0, 0, 0, 0];
+    answer[4..8].copy_from_slice(&copies.to_le_bytes());
     answer
 }
 

@@ -3,14 +3,15 @@
 use second::baseline::columns::Columns;
 use second::baseline::judging::{judge_all, judge_predicate, prepare};
 use second::compare::rehearsal::Outstanding;
-use second::compare::subject::Baseline;
+use second::compare::subject::{Baseline, Itself, Rehearser};
 use second::compare::tally::Tally;
 use second::compare::{models, reader, rehearsal, Seeds};
-use second::generate;
+use second::generate::{self, scripts};
 use second::models::{judged, refused};
 use second::predicates::Answer::{Broken, Met};
 use second::predicates::{Judged, PREDICATES};
 use second::questions::ask;
+use second::store::Call;
 
 fn all_passed(tally: Tally, at_least: u64) {
     assert_eq!(tally.failed, 0);
@@ -66,4 +67,31 @@ fn rehearses_alike() {
     let mut tally = Tally::counting();
     rehearsal::compare(&Baseline, Outstanding::Exact, &Seeds::first(800), &mut tally);
     all_passed(tally, 4_000);
+}
+
+/// The result, the record and the answers.
+fn rehearsed(subject: &dyn Rehearser, sites: usize, script: &[u8]) -> (u64, Vec<u8>, Vec<u8>) {
+    let (mut record, mut answers) = (vec![7; 19_456], vec![7; script.len()]);
+    let result = subject.rehearse(sites as u32, script, &mut record, &mut answers);
+    (result, record, answers)
+}
+
+/// A day without a delivery, then closed: every copy is lacking.
+fn closed_at_last(sites: usize) -> Vec<u8> {
+    let event = |k: usize| match k % 5 {
+        4 => Call::Get { site: k % sites, object: k % 32 },
+        _ => Call::Put { site: k % sites, object: k % 32, value: k as u32 },
+    };
+    let closed = [Call::Close, Call::Get { site: 0, object: 0 }, Call::Close];
+    (0..256).map(event).chain(closed).flat_map(Call::to_bytes).collect()
+}
+
+#[test]
+fn rehearses_days_with_closes_alike() {
+    for sites in 1..=8 {
+        let days = (0..4).map(|seed| scripts::day_with_closes(seed, sites));
+        for script in days.chain([closed_at_last(sites)]) {
+            assert!(rehearsed(&Baseline, sites, &script) == rehearsed(&Itself, sites, &script), "{sites} sites");
+        }
+    }
 }

@@ -9,6 +9,7 @@ use second::predicates::Judged;
 use second::questions::ask;
 use second::record::Record;
 use second::relations::{Pairs, Relations};
+use second::store::Call;
 use std::cell::RefCell;
 use std::path::Path;
 
@@ -93,6 +94,34 @@ impl Rehearser for WrongStore {
     }
 }
 
+/// The right store, which misreads the calls of its script.
+struct Misreading<F>(F);
+
+impl<F: Fn(&mut [u8])> Rehearser for Misreading<F> {
+    fn rehearse(&self, sites: u32, script: &[u8], record: &mut [u8], answers: &mut [u8]) -> u64 {
+        let mut misread = script.to_vec();
+        misread.chunks_exact_mut(8).for_each(&self.0);
+        Itself.rehearse(sites, &misread, record, answers)
+    }
+}
+
+/// Answers each close rightly, and delivers nothing in it.
+struct IdleClose;
+
+impl Rehearser for IdleClose {
+    fn rehearse(&self, sites: u32, script: &[u8], record: &mut [u8], answers: &mut [u8]) -> u64 {
+        let (mut idle, mut right) = (script.to_vec(), answers.to_vec());
+        Itself.rehearse(sites, script, &mut record.to_vec(), &mut right);
+        let close = Call::Close.to_bytes();
+        // No call is of kind 0.
+        idle.chunks_exact_mut(8).filter(|call| **call == close).for_each(|call| call[0] = 0);
+        let result = Itself.rehearse(sites, &idle, record, answers);
+        let calls = script.chunks_exact(8).zip(answers.chunks_exact_mut(8).zip(right.chunks_exact(8)));
+        calls.filter(|(call, _)| **call == close).for_each(|(_, (answer, right))| answer.copy_from_slice(right));
+        result
+    }
+}
+
 fn reader_failures(fault: impl Fn(u64, &[u8], &mut [u64]) -> u64) -> u64 {
     let mut tally = Tally::counting();
     reader::compare(&Wrong(fault), &Seeds::first(100), &mut tally);
@@ -112,10 +141,14 @@ fn words_failures(fault: fn(u64, &mut [u64])) -> u64 {
     tally.failed
 }
 
-fn store_failures(fault: fn(u64, &mut [u8], &mut [u8]) -> u64) -> u64 {
+fn rehearsal_failures(subject: &dyn Rehearser) -> u64 {
     let mut tally = Tally::counting();
-    rehearsal::compare(&WrongStore(fault), Outstanding::Bounded, &Seeds::first(100), &mut tally);
+    rehearsal::compare(subject, Outstanding::Bounded, &Seeds::first(100), &mut tally);
     tally.failed
+}
+
+fn store_failures(fault: fn(u64, &mut [u8], &mut [u8]) -> u64) -> u64 {
+    rehearsal_failures(&WrongStore(fault))
 }
 
 #[test]
@@ -258,6 +291,34 @@ fn faults_of_a_store() {
         right
     };
     assert!(store_failures(record) > 0);
+}
+
+/// The answers of closes: no get that is event 0 finds a value.
+fn answers_of_closes(answers: &mut [u8]) -> impl Iterator<Item = &mut [u8]> {
+    answers.chunks_exact_mut(8).filter(|answer| answer[..4] == [0, 1, 0, 0])
+}
+
+#[test]
+fn faults_of_a_close() {
+    let no_byte_without_copies = |right, _: &mut [u8], answers: &mut [u8]| {
+        answers_of_closes(answers).filter(|answer| answer[4..] == [0; 4]).for_each(|answer| answer[1] = 0);
+        right
+    };
+    assert!(store_failures(no_byte_without_copies) > 0);
+    let copies_in_a_byte = |right, _: &mut [u8], answers: &mut [u8]| {
+        answers_of_closes(answers).for_each(|answer| answer[5..].fill(0));
+        right
+    };
+    assert!(store_failures(copies_in_a_byte) > 0);
+    assert!(rehearsal_failures(&IdleClose) > 0);
+    for byte in 1..8 {
+        let overlooked = |call: &mut [u8]| {
+            if call[0] == 4 {
+                call[byte] = 0;
+            }
+        };
+        assert!(rehearsal_failures(&Misreading(overlooked)) > 0, "byte {byte} of a close overlooked");
+    }
 }
 
 #[test]

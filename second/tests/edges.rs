@@ -1,13 +1,16 @@
 //! Every worked example and every line of 'Edges' in document 01, starred or
 //! not, by the second checker alone.
 
+mod calls;
+
+use calls::{deliver, get, put, run, script};
 use second::lines;
 use second::models::{answer_of, judge_model};
 use second::predicates::Answer::{self, Broken, Met};
 use second::predicates::Judged;
 use second::questions::{ask, Refusal};
 use second::record::*;
-use second::store::{run_script, Call};
+use second::store::Call;
 
 fn answers(record: &Record) -> Vec<Answer> {
     let read = ask(&record.to_bytes()).expect("passes every question");
@@ -17,31 +20,6 @@ fn answers(record: &Record) -> Vec<Answer> {
 
 fn answer(record: &Record, predicate: usize) -> Answer {
     answers(record)[predicate - 1]
-}
-
-fn script(calls: &[Call]) -> Vec<u8> {
-    calls.iter().flat_map(|call| call.to_bytes()).collect()
-}
-
-/// The answers of a script and the store after it.
-fn run(sites: usize, calls: &[Call]) -> (Vec<[u8; 8]>, second::store::Store) {
-    let script = script(calls);
-    let mut bytes = vec![0; script.len()];
-    let store = run_script(sites, &script, &mut bytes);
-    let answers = bytes.as_chunks().0.to_vec();
-    (answers, store)
-}
-
-fn put(site: usize, object: usize, value: u32) -> Call {
-    Call::Put { site, object, value }
-}
-
-fn get(site: usize, object: usize) -> Call {
-    Call::Get { site, object }
-}
-
-fn deliver(event: usize, site: usize) -> Call {
-    Call::Deliver { site, event }
 }
 
 fn listing() -> Vec<Call> {

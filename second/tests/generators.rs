@@ -9,7 +9,8 @@ use second::models::{answers, MODELS};
 use second::predicates::Answer::{Broken, Met};
 use second::predicates::{Judged, PREDICATES};
 use second::questions::ask;
-use second::store::{rehearse, run_script};
+use second::record::u32_at;
+use second::store::{rehearse, run_script, Call, Store, CALL_BYTES};
 use std::collections::BTreeMap;
 
 #[test]
@@ -99,11 +100,77 @@ fn every_answer_of_calls_and_rehearsals() {
     });
 }
 
+/// A close of a script: its place, how many events were done before it, and what it delivered.
+struct Closed {
+    at: usize,
+    events: usize,
+    copies: u32,
+}
+
+fn closes(sites: usize, script: &[u8]) -> Vec<Closed> {
+    let mut store = Store::new(sites);
+    let run = |(at, call): (usize, &[u8])| {
+        let events = store.events();
+        let answer = store.call(call);
+        (call == Call::Close.to_bytes()).then(|| Closed { at, events, copies: u32_at(&answer, 4) })
+    };
+    script.chunks_exact(CALL_BYTES).enumerate().filter_map(run).collect()
+}
+
+/// How a script's closes lie and what they meet.
+fn sorts_of_closes(sites: usize, closes: &[Closed]) -> [(&'static str, bool); 9] {
+    let full = |close: &&Closed| close.events == 256;
+    [
+        ("none", closes.is_empty()),
+        ("one", closes.len() == 1),
+        ("several", closes.len() > 1),
+        ("two in a row", closes.windows(2).any(|pair| pair[0].at + 1 == pair[1].at)),
+        ("four in a row", closes.windows(4).any(|row| row[0].at + 3 == row[3].at)),
+        ("one site", sites == 1 && !closes.is_empty()),
+        ("copies to a full store", closes.iter().filter(full).any(|close| close.copies > 0)),
+        ("none lacking in a full store", closes.iter().filter(full).any(|close| close.copies == 0)),
+        ("more copies than a byte holds", closes.iter().any(|close| close.copies > 255)),
+    ]
+}
+
 #[test]
-fn full_day_fills_the_store() {
-    let script = scripts::full_day(1, 8);
-    let store = run_script(8, &script, &mut vec![0; script.len()]);
-    assert_eq!((script.len(), store.events()), (32_768, 256));
+fn closes_of_every_sort() {
+    let mut scripts_with: BTreeMap<&str, u32> = BTreeMap::new();
+    for seed in 0..2_000 {
+        let (sites, script) = scripts::plausible(&mut Random::new(seed));
+        for (sort, there) in sorts_of_closes(sites as usize, &closes(sites as usize, &script)) {
+            *scripts_with.entry(sort).or_default() += there as u32;
+        }
+    }
+    assert!(scripts_with.values().all(|&count| count >= 20), "{scripts_with:?}");
+}
+
+/// In one byte alone, so that whoever overlooks this byte is found.
+#[test]
+fn closes_damaged_in_every_byte() {
+    let mut damaged = [0; CALL_BYTES];
+    for seed in 0..2_000 {
+        let (_, script) = scripts::plausible(&mut Random::new(seed));
+        for call in script.chunks_exact(CALL_BYTES).filter(|call| call[0] == 4) {
+            let wrong: Vec<usize> = (1..CALL_BYTES).filter(|&byte| call[byte] != 0).collect();
+            if let [byte] = wrong[..] {
+                damaged[byte] += 1;
+            }
+        }
+    }
+    assert!(damaged[1..].iter().all(|&count| count >= 20), "{damaged:?}");
+}
+
+#[test]
+fn days_fill_the_store() {
+    for script in [scripts::full_day(1, 8), scripts::day_with_closes(1, 8)] {
+        let store = run_script(8, &script, &mut vec![0; script.len()]);
+        assert_eq!((script.len(), store.events()), (32_768, 256));
+    }
+    assert!(closes(8, &scripts::full_day(1, 8)).is_empty());
+    let closes = closes(8, &scripts::day_with_closes(1, 8));
+    let with_copies = closes.iter().filter(|close| close.copies > 0).count();
+    assert!(closes.len() > 200 && with_copies > 50, "{} closes, {with_copies} with copies", closes.len());
 }
 
 #[test]

@@ -21,7 +21,8 @@
 //! # Ok::<(), gcr::Refusal>(())
 //! ```
 //!
-//! A record or a script that is refused is an `Err`, of every call: no [`Verdict`] stands for it.
+//! A record or a script that is refused is an `Err`, of every call: no [`Verdict`] stands for it. What the calls of a
+//! script were answered is taken from its buffer by [`answers()`]: a typed [`Answer`] for each.
 //!
 //! The library has no static state and keeps nothing that it is lent, so every call here may run on several threads
 //! at once. 128 KB of the thread's stack are enough for any of them.

@@ -1,11 +1,12 @@
 //! The dumps of docs/FORMAT.md are the bytes that they say they are, and so is its way to compute a block's check.
 
-use gcr::{rehearse, RECORD_MOST};
+use gcr::{rehearse, Call, RECORD_MOST};
 
 const PAGE: &str = include_str!("../../../docs/FORMAT.md");
 const EMPTY: &[u8] = include_bytes!("../../../records/empty-one-site.gcr");
 const LISTING: &[u8] = include_bytes!("../../../records/listing.gcr");
 const LISTING_SCRIPT: &[u8] = include_bytes!("../../../records/listing.script");
+const CLOSING_SCRIPT: &[u8] = include_bytes!("../../../records/closing.script");
 
 /// `01fc: 9b 74 | text` as the offset and its bytes; other lines are none.
 fn shown(line: &str) -> Option<(usize, Vec<u8>)> {
@@ -25,10 +26,9 @@ fn dump(name: &str, length: usize) -> Vec<u8> {
     bytes
 }
 
-fn answers(input: &[u8]) -> Vec<u8> {
-    let (sites, script) = (u32::from(input[0]), &input[1..]);
+fn answers(sites: u8, script: &[u8]) -> Vec<u8> {
     let mut buffer = vec![0; script.len()];
-    rehearse(sites, script, &mut [0; RECORD_MOST], &mut buffer).unwrap();
+    rehearse(sites.into(), script, &mut [0; RECORD_MOST], &mut buffer).unwrap();
     buffer
 }
 
@@ -41,8 +41,17 @@ fn dumps_are_the_bytes_of_their_files() {
 
 #[test]
 fn the_listings_answers_are_as_shown() {
-    let answers = answers(LISTING_SCRIPT);
+    let answers = answers(LISTING_SCRIPT[0], &LISTING_SCRIPT[1..]);
     assert_eq!(dump("answers", answers.len()), answers);
+}
+
+#[test]
+fn the_answers_of_the_script_with_closes_are_as_shown() {
+    let script = dump("a close", 48);
+    assert_eq!(script, CLOSING_SCRIPT[1..]);
+    let close = Call::Close.bytes();
+    assert_eq!([&script[16..24], &script[40..]], [close; 2]);
+    assert_eq!(dump("answers with a close", 48), answers(2, &script));
 }
 
 /// A and B, as the page's lines of C compute them.

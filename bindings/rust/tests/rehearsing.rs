@@ -1,9 +1,34 @@
 //! Rehearsals through the library.
 
-use gcr::{answers, rehearse, script, Answer, Call, Refusal, RECORD_MOST, SCRIPT_MOST};
+use gcr::{answers, judge_model, rehearse, script, Answer, Call, Model, Refusal, Verdict, RECORD_MOST, SCRIPT_MOST};
 
 const LISTING: &[u8] = include_bytes!("../../../records/listing.gcr");
 const LISTING_SCRIPT: &[u8] = include_bytes!("../../../records/listing.script");
+
+/// The answers of a script at so many sites, and its record.
+fn rehearsed(sites: u32, script: &[u8]) -> (Vec<Answer>, Vec<u8>) {
+    let mut record = vec![0; RECORD_MOST];
+    let mut buffer = vec![0; script.len()];
+    let done = rehearse(sites, script, &mut record, &mut buffer).unwrap();
+    record.truncate(done.length);
+    (answers(script, &buffer).collect(), record)
+}
+
+fn answered(sites: u32, calls: &[Call]) -> Vec<Answer> {
+    rehearsed(sites, &script(calls)).0
+}
+
+fn put(site: u8, value: u32) -> Call {
+    Call::Put { site, object: 5, value }
+}
+
+fn get(site: u8) -> Call {
+    Call::Get { site, object: 5 }
+}
+
+fn refused(number: u32) -> Answer {
+    Answer::Refused(Refusal { number, place: 0 })
+}
 
 #[test]
 fn the_listings_script_gives_its_record_and_answers() {
@@ -13,10 +38,20 @@ fn the_listings_script_gives_its_record_and_answers() {
     let done = rehearse(sites, script, &mut record, &mut buffer).unwrap();
     assert_eq!(&record[..done.length], LISTING);
     assert!(record[done.length..].iter().all(|&byte| byte == 7));
-    let (written, beyond) = buffer.split_at(script.len());
-    assert_eq!(beyond, [7; 8]);
-    let gets: Vec<_> = answers(written).filter_map(|answer| Some((answer.event, answer.value?))).collect();
-    assert_eq!(gets, [(2, 200), (3, 100), (4, 200)]);
+    assert_eq!(buffer[script.len()..], [7; 8]);
+    let found = |event, value| Answer::Get { event, value: Some(value) };
+    assert_eq!(
+        answers(script, &buffer).collect::<Vec<_>>(),
+        [
+            Answer::Put { event: 0 },
+            Answer::Put { event: 1 },
+            Answer::Delivered,
+            found(2, 200),
+            found(3, 100),
+            Answer::Delivered,
+            found(4, 200),
+        ]
+    );
 }
 
 #[test]
@@ -43,28 +78,86 @@ fn refused_rehearsals_leave_both_buffers() {
 #[test]
 fn refused_calls_answer_with_their_number() {
     let mut script = script(&[
-        Call::Put { site: 0, object: 5, value: 1 },
+        put(0, 1),
         Call::Deliver { site: 1, event: 0 },
-        Call::Put { site: 1, object: 5, value: 2 },
+        put(1, 2),
         Call::Deliver { site: 2, event: 2 },
         Call::Deliver { site: 2, event: 1 },
         Call::Deliver { site: 1, event: 0 },
-        Call::Get { site: 3, object: 5 },
+        get(3),
     ]);
     script.extend([9; 8]);
-    let mut buffer = vec![0; script.len()];
-    rehearse(3, &script, &mut [0; RECORD_MOST], &mut buffer).unwrap();
-    let numbers: Vec<_> = answers(&buffer).map(|answer| answer.number).collect();
+    let (answers, _) = rehearsed(3, &script);
+    let numbers: Vec<_> = answers.iter().map(|answer| answer.refusal().map_or(0, |refusal| refusal.number)).collect();
     assert_eq!(numbers, [0, 0, 0, 33, 36, 35, 32, 31]);
 }
 
 #[test]
 fn the_257th_event_is_refused() {
-    let script = script(&[Call::Get { site: 0, object: 0 }; 257]);
+    let script = script(&[get(0); 257]);
     let mut buffer = vec![0; script.len()];
     let done = rehearse(1, &script, &mut [0; RECORD_MOST], &mut buffer).unwrap();
     assert_eq!((done.length, done.outstanding), (RECORD_MOST, 0));
-    let last: Vec<_> = answers(&buffer).skip(255).collect();
-    assert_eq!(last[0], Answer { number: 0, event: 255, value: None });
-    assert_eq!(last[1].refusal(), Some(Refusal { number: 34, place: 0 }));
+    let last: Vec<_> = answers(&script, &buffer).skip(255).collect();
+    assert_eq!(last, [Answer::Get { event: 255, value: None }, refused(34)]);
+}
+
+#[test]
+fn after_a_close_all_sites_show_the_same() {
+    let answers = answered(2, &[put(0, 100), put(1, 200), Call::Close, get(0), get(1), Call::Close]);
+    assert_eq!(answers[2], Answer::Closed { copies: 2 });
+    assert_eq!(answers[3], Answer::Get { event: 2, value: Some(200) });
+    assert_eq!(answers[4], Answer::Get { event: 3, value: Some(200) });
+    assert_eq!(answers[5], Answer::Closed { copies: 0 });
+}
+
+#[test]
+fn a_close_delivers_what_is_lacking_and_no_more() {
+    let delivered = [put(0, 1), Call::Deliver { site: 1, event: 0 }, Call::Deliver { site: 2, event: 0 }, Call::Close];
+    assert_eq!(answered(3, &delivered)[3], Answer::Closed { copies: 0 });
+    let half_delivered = [put(0, 1), Call::Deliver { site: 1, event: 0 }, Call::Close];
+    assert_eq!(answered(3, &half_delivered)[2], Answer::Closed { copies: 1 });
+    assert_eq!(answered(8, &[Call::Close]), [Answer::Closed { copies: 0 }]);
+}
+
+#[test]
+fn one_site_lacks_nothing() {
+    let answers = answered(1, &[put(0, 7), Call::Close, get(0)]);
+    assert_eq!(answers[1..], [Answer::Closed { copies: 0 }, Answer::Get { event: 1, value: Some(7) }]);
+}
+
+#[test]
+fn a_full_store_is_closed() {
+    let mut calls: Vec<_> = (0..=255).map(|k| put(k % 8, u32::from(k))).collect();
+    calls.extend([put(0, 1), Call::Close, Call::Close]);
+    let last = &answered(8, &calls)[256..];
+    assert_eq!(last, [refused(34), Answer::Closed { copies: 256 * 7 }, Answer::Closed { copies: 0 }]);
+}
+
+#[test]
+fn a_close_is_kind_4_and_zeros() {
+    for at in 1..8 {
+        for byte in [1, 128, 255] {
+            let mut malformed = Call::Close.bytes();
+            malformed[at] = byte;
+            let script = [put(0, 1).bytes(), malformed, Call::Close.bytes()].concat();
+            let due = [Answer::Put { event: 0 }, refused(31), Answer::Closed { copies: 1 }];
+            assert_eq!(rehearsed(2, &script).0, due, "byte {at} is {byte}");
+        }
+    }
+}
+
+#[test]
+fn a_close_leaves_the_record_of_its_deliveries() {
+    let closed = script(&[put(0, 100), put(1, 200), Call::Close, get(0)]);
+    let delivered = script(&[
+        put(0, 100),
+        put(1, 200),
+        Call::Deliver { site: 1, event: 0 },
+        Call::Deliver { site: 0, event: 1 },
+        get(0),
+    ]);
+    let (_, record) = rehearsed(2, &closed);
+    assert_eq!(record, rehearsed(2, &delivered).1);
+    assert_eq!(judge_model(Model::Causal, &record), Ok(Verdict::Met));
 }

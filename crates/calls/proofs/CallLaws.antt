@@ -1,12 +1,13 @@
 -- A call's eight bytes as one word: what the code reads off it is what `callAt` reads off the bytes. Assumes nothing.
 use mathlib.Core.Path.{_≡_, sym, ap, _∙_}
+use mathlib.Core.Bool.{Bool, true, _&&_}
 use mathlib.Core.List.{List}
 use Prim.Native.Nat.{ℕ, _+_, _*_, _/_, _%_, _<_}
 use native.Mathlib.Omega.{arith}
 use lib.Dec.{eqb}
 use lib.ListN.{getD}
 use borrow.Author.Tests.{ne-eqb, eqb-true}
-use Rattle.rows.proofs.Tests.{split}
+use Rattle.rows.proofs.Tests.{split, never, and-left, and-right}
 use Rattle.rows.specs.Octets.{little}
 use Rattle.rows.proofs.ByteLaws.{little-join, little-two, little-lt}
 use Rattle.record.specs.Layout.{byte}
@@ -114,6 +115,38 @@ module _ (s : List ℕ) (bytes : (i : ℕ) → getD s i 0 < 256) (at : ℕ) wher
         (λ t. rw (t, ne-eqb (byte s (at + 2)) 0 (λ q. g (omega (arith, w .gap, eqb-true (byte s (at + 3)) 0 t)))))
         (λ t. rw t))
 
-    pub asked-none : (x % 256 ≡ 1 → ⊥) → (x % 256 ≡ 2 → ⊥) → (x % 256 ≡ 3 → ⊥) → malformed ≡ callAt s at
+    pub asked-close : x ≡ 4 → callOf (asked x 4) ≡ callAt s at
     unfolding callAt
-    asked-none k₁ k₂ k₃ = rw (← (w .kind), ne-eqb (x % 256) 1 k₁, ne-eqb (x % 256) 2 k₂, ne-eqb (x % 256) 3 k₃) (split (eqb (byte s (at + 3)) 0) (λ t. rw t) (λ t. rw t))
+    asked-close e =
+        let kind : byte s at ≡ 4 = omega (arith, w .kind) in
+        let first : byte s (at + 1) ≡ 0 = omega (arith, w .site) in
+        let second : byte s (at + 2) ≡ 0 = omega (arith, w .object) in
+        let third : byte s (at + 3) ≡ 0 = omega (arith, w .zero) in
+        let tail : little 4 s (at + 4) ≡ 0 = omega (arith, w .value) in
+        rw (kind, first, second, third, tail)
+
+    pub asked-none : (x % 256 ≡ 1 → ⊥) → (x % 256 ≡ 2 → ⊥) → (x % 256 ≡ 3 → ⊥) → (x ≡ 4 → ⊥) → malformed ≡ callAt s at
+    unfolding callAt
+    asked-none k₁ k₂ k₃ k₄ =
+        rw (ne-eqb (byte s at) 1 (λ q. k₁ (w .kind ∙ q)), ne-eqb (byte s at) 2 (λ q. k₂ (w .kind ∙ q)), ne-eqb (byte s at) 3 (λ q. k₃ (w .kind ∙ q)))
+        (split (eqb (byte s (at + 3)) 0) (λ t. rw (t, never isClose (λ e. k₄ (four (eqb-true (byte s (at + 3)) 0 t) e)))) (λ t. rw t))
+      where
+        isClose : Bool
+        isClose = eqb (byte s at) 4 && (eqb (byte s (at + 1)) 0 && (eqb (byte s (at + 2)) 0 && eqb (little 4 s (at + 4)) 0))
+
+        -- the word of a close is 4
+        four : byte s (at + 3) ≡ 0 → isClose ≡ true → x ≡ 4
+        four z e =
+            let c₁ = and-right (eqb (byte s at) 4) (eqb (byte s (at + 1)) 0 && (eqb (byte s (at + 2)) 0 && eqb (little 4 s (at + 4)) 0)) e in
+            let c₂ = and-right (eqb (byte s (at + 1)) 0) (eqb (byte s (at + 2)) 0 && eqb (little 4 s (at + 4)) 0) c₁ in
+            omega (
+              arith,
+              read,
+              little-join 4 4 s at,
+              head,
+              z,
+              eqb-true (byte s at) 4 (and-left (eqb (byte s at) 4) _ e),
+              eqb-true (byte s (at + 1)) 0 (and-left (eqb (byte s (at + 1)) 0) _ c₁),
+              eqb-true (byte s (at + 2)) 0 (and-left (eqb (byte s (at + 2)) 0) (eqb (little 4 s (at + 4)) 0) c₂),
+              eqb-true (little 4 s (at + 4)) 0 (and-right (eqb (byte s (at + 2)) 0) (eqb (little 4 s (at + 4)) 0) c₂),
+            )

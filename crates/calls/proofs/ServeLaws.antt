@@ -12,7 +12,7 @@ use Rattle.rows.proofs.Tests.{split}
 use Rattle.record.specs.Encode.{littleBytes}
 use Rattle.consistency.specs.Reads.{Held, value}
 use Rattle.store.specs.Store.{upd, Cell, empty, full, cellValue, Site, Event, Store}
-use Rattle.store.specs.Calls.{put, get, deliver}
+use Rattle.store.specs.Calls.{put, get, deliver, close}
 use Rattle.record.specs.Questions.{ask}
 use Rattle.store.specs.Rules.{reached, refusal, made, afterPut, afterGet, valueOr0, isFound, effect, doneAnswer}
 use Rattle.calls.specs.Mirror.{callOf, cellOf, shownOf, eventOf, siteOf, partOf, withCounts, Made}
@@ -55,9 +55,9 @@ same-refusal n st c a known e sees h count same = ap (λ (k : ℕ). refusal n (p
     (λ r. rw (p, q, r)
     (same-asked n (st .count) (c .event) (c .site) (st .site (c .site)) (siteOf a known (st .site (c .site) .cell)) (st .event (c .event)) (eventOf e sees)
     (h .site) (h .event)))
-    (λ r. rw (p, q, r) refl))))
+    (λ r. split (eqb (c .kind) 4) (λ u. rw (p, q, r, u) refl) (λ u. rw (p, q, r, u) refl)))))
 
--- ---- the three kinds of call
+-- ---- the kinds of call
 
 put-call : (c : Asked) → c .kind ≡ 1 → callOf c ≡ put (c .site) (c .object) (c .value)
 put-call c k = rw k
@@ -67,6 +67,9 @@ get-call c k = rw k
 
 pub deliver-call : (c : Asked) → c .kind ≡ 3 → callOf c ≡ deliver (c .event) (c .site)
 deliver-call c k = rw k
+
+pub close-call : (c : Asked) → c .kind ≡ 4 → callOf c ≡ close
+close-call c k = rw k
 
 -- 36 is asked last, and of a delivery alone
 module _ (c : Asked) (a : Kept) (e : KeptEvent) where
@@ -91,10 +94,14 @@ module _ (c : Asked) (a : Kept) (e : KeptEvent) where
         ap (refusal n (partOf count a known e)) (deliver-call c k)
         ∙ rw p (late (ltb (c .site) n) (ltb (c .event) count && isPut) (not (known (c .event))) r k i)
 
-    pub event-asked : (r : ℕ) → (c .kind ≡ 0 → ⊥) → (c .kind ≡ 3 → ⊥) → c .kind ≤ 3 → r ≡ ask (ltb (c .site) n) 32 (ask (leb (c .object) 31) 33 (ask (ltb count 256) 34 0))
+    pub close-asked : c .kind ≡ 4 → refusal n (partOf count a known e) (callOf c) ≡ withCounts 0 c a e
+    unfolding refusal
+    close-asked k = rw k
+
+    pub event-asked : (r : ℕ) → (c .kind ≡ 0 → ⊥) → (c .kind ≡ 3 → ⊥) → (c .kind ≡ 4 → ⊥) → c .kind ≤ 4 → r ≡ ask (ltb (c .site) n) 32 (ask (leb (c .object) 31) 33 (ask (ltb count 256) 34 0))
         → refusal n (partOf count a known e) (callOf c) ≡ withCounts r c a e
     unfolding refusal
-    event-asked r some other most i =
+    event-asked r some other traded most i =
         let same : refusal n (partOf count a known e) (callOf c) ≡ r =
         elim (ℕ-discrete (c .kind) 1) [
           | yes k ↦ ap (refusal n (partOf count a known e)) (put-call c k) ∙ sym i
@@ -200,8 +207,8 @@ module _ (st : Store) (k s o : ℕ) (known : ℕ → Bool) (a b : Kept) (l : s <
       })
   unfolding effect doneAnswer littleBytes
   put-made v f e = record {
-    answer = rw n e;
-    store =
+    answer = λ m. rw n e;
+    store = λ m.
         store-path refl
         (ap (upd (st .event) (st .count)) (made-kept true true v (value v) refl))
         (ap (upd (st .site) s)
@@ -220,8 +227,8 @@ module _ (st : Store) (k s o : ℕ) (known : ℕ → Bool) (a b : Kept) (l : s <
       let shown : cellValue (st .site s .cell o) ≡ shownOf found (x .value) =
       ap cellValue p ∙ cell-value x ∙ ap (λ (u : Bool). shownOf u (x .value)) (sym t) in
       record {
-        answer = rw (n, shown) e;
-        store =
+        answer = λ m. rw (n, shown) e;
+        store = λ m.
             store-path refl
             (ap (upd (st .event) (st .count)) (made-kept false found (x .value) (cellValue (st .site s .cell o)) shown))
             (ap (upd (st .site) s)

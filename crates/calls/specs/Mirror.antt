@@ -1,12 +1,15 @@
 -- What the structs of the code stand for in the store. Only contracts of inner functions cite this.
 use mathlib.Core.Path.{_≡_}
-use mathlib.Core.Bool.{Bool, true, false, cond, _&&_}
+use mathlib.Core.Bool.{Bool, true, false, not, cond, _&&_}
+use mathlib.Core.List.{List}
 use Prim.Native.Nat.{ℕ, suc, _/_, _%_}
 use lib.Dec.{eqb}
 use lib.ListN.{getD}
+use Rattle.rows.specs.Lowest.{some}
+use Rattle.rows.specs.Row.{has, rowAt}
 use Rattle.consistency.specs.Reads.{Held, none, value}
 use Rattle.store.specs.Store.{upd, Cell, empty, full, Site, Event, Store}
-use Rattle.store.specs.Calls.{Call, put, get, deliver, malformed}
+use Rattle.store.specs.Calls.{Call, put, get, deliver, close, malformed}
 use Rattle.record.specs.Questions.{ask}
 use Rattle.store.specs.Rules.{reached, effect, doneAnswer}
 use Rattle.calls.specs.declared.Asked.{Asked}
@@ -15,12 +18,13 @@ use Rattle.calls.specs.declared.KeptCell.{KeptCell}
 use Rattle.calls.specs.declared.KeptEvent.{KeptEvent}
 use Rattle.calls.specs.declared.Served.{Served}
 
--- a call as it was decoded: kind 1 put, 2 get, 3 deliver, 0 malformed
+-- a call as it was decoded: kind 1 put, 2 get, 3 deliver, 4 close, 0 malformed
 abbrev pub callOf : Asked → Call
 callOf c =
     cond (eqb (c .kind) 1) (put (c .site) (c .object) (c .value))
     (cond (eqb (c .kind) 2) (get (c .site) (c .object))
-    (cond (eqb (c .kind) 3) (deliver (c .event) (c .site)) malformed))
+    (cond (eqb (c .kind) 3) (deliver (c .event) (c .site))
+    (cond (eqb (c .kind) 4) close malformed)))
 
 -- a cell's order is 8 × stamp + site, and 0 while it is empty
 abbrev pub cellOf : KeptCell → Cell
@@ -46,6 +50,10 @@ eventOf e sees = record {
 abbrev pub siteOf : Kept → (ℕ → Bool) → (ℕ → Cell) → Site
 siteOf a known cell = record { clock = a .clock; held = λ i. getD (a .counts) i 0; known = known; cell = cell }
 
+-- event x is in the row `puts`, and one of the first n rows of `known` lacks it
+abbrev pub lackedBySome : List ℕ → List ℕ → ℕ → ℕ → Bool
+lackedBySome puts known n x = has puts x && some n (λ s. not (has (rowAt known 4 s) x))
+
 -- a store of which a call sees no more than one site and one event
 abbrev pub partOf : ℕ → Kept → (ℕ → Bool) → KeptEvent → Store
 partOf count a known e = record { count = count; event = λ w. eventOf e (λ x. false); site = λ s. siteOf a known (λ o. empty) }
@@ -62,7 +70,7 @@ withEvent st s o known r = record {
   site = upd (st .site) s (siteOf (r .site) (upd known (st .count) true) (upd (st .site s .cell) o (cellOf (r .cell))));
 }
 
--- what a put or a get came to that was done
+-- what a put or a get came to that was done, at however many sites
 pub record Made (st : Store) (call : Call) (s o : ℕ) (known : ℕ → Bool) (r : Served) : Type 0 where
-  pub answer : r .answer ≡ doneAnswer st call
-  pub store : effect st call ≡ withEvent st s o known r
+  pub answer : (n : ℕ) → r .answer ≡ doneAnswer n st call
+  pub store : (n : ℕ) → effect n st call ≡ withEvent st s o known r

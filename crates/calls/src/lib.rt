@@ -1,10 +1,10 @@
-// One call at one site: how it stands in a script, what refuses it, and what it does.
+// One call: how it stands in a script, what refuses it, and what it does at a site.
 pub mod refuse;
 pub mod script;
 pub mod serve;
 pub mod sites;
 
-// A call as it was decoded: kind 1 put, 2 get, 3 deliver, 0 malformed.
+// A call as it was decoded: kind 1 put, 2 get, 3 deliver, 4 close, 0 malformed.
 pub struct Asked {
     pub kind: u8,
     pub site: u8,

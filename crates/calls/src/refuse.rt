@@ -52,7 +52,7 @@ fn delivery_refused(n: usize, count: usize, c: Asked, known: &[u64], put: bool) 
 
 // 0, or the number that refuses a call before 36, which is asked last, of deliveries alone, and reads a site's counts.
 pub fn refused(n: usize, count: usize, c: Asked, known: &[u64], put: bool) -> u8
-    requires { ⌜ (n ≤ 8) × (count ≤ 256) × (length (now known) ≡ 32) × (c .kind ≤ 3) ⌝ }
+    requires { ⌜ (n ≤ 8) × (count ≤ 256) × (length (now known) ≡ 32) × (c .kind ≤ 4) ⌝ }
     ensures { λ r. ⌜ ((a : Kept) (e : KeptEvent) → e .put ≡ put → refusal n (partOf count a (has (rowAt (now (known .entry)) 4 (c .site))) e) (callOf c) ≡ withCounts r c a e) ⌝ }
 {
     if c.kind == 0 {
@@ -60,6 +60,9 @@ pub fn refused(n: usize, count: usize, c: Asked, known: &[u64], put: bool) -> u8
     }
     if c.kind == 3 {
         return delivery_refused(n, count, c, known, put);
+    }
+    if c.kind == 4 {
+        return 0;
     }
     event_refused(n, count, c)
 }

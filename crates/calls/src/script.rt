@@ -11,7 +11,7 @@ ghost use Rattle.calls.specs.Mirror.{callOf};
 pub fn asked_at(s: &[u8], at: usize) -> Asked
     requires { ⌜ at + 8 ≤ length (now s) ⌝ }
     ensures { λ r. ⌜ callOf r ≡ callAt (now (s .entry)) at ⌝ }
-    ensures { λ r. ⌜ r .kind ≤ 3 ⌝ }
+    ensures { λ r. ⌜ r .kind ≤ 4 ⌝ }
 {
     let x = octets::u64_at(s, at);
     let mut c = Asked {
@@ -40,6 +40,10 @@ pub fn asked_at(s: &[u8], at: usize) -> Asked
                 c.kind = 3;
             }
         }
+        return c;
+    }
+    if x == 4 {
+        c.kind = 4;
     }
     c
 }

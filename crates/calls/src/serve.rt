@@ -1,4 +1,4 @@
-// A done put or get, on what it concerns by value: its site and its cell.
+// A done put or get, on what it concerns by value: its site and its cell; and the answers of done calls.
 use super::Asked;
 use super::Kept;
 use super::KeptCell;
@@ -9,7 +9,7 @@ ghost use mathlib.Core.Path.{_≡_};
 ghost use mathlib.Core.Bool.{Bool, true};
 ghost use mathlib.Core.List.{_∷_, _++_};
 ghost use Prim.Native.Nat.{ℕ, _≤_, _<_};
-ghost use lib.ListN.{getD};
+ghost use lib.ListN.{getD, replicate};
 ghost use Rattle.record.specs.Encode.{littleBytes};
 ghost use Rattle.store.specs.Store.{Store};
 ghost use Rattle.store.specs.Calls.{put, get};
@@ -39,6 +39,13 @@ fn answer(event: usize, present: bool, value: u32) -> [u8; 8]
         (v2 % 256) as u8,
         (v3 % 256) as u8,
     ]
+}
+
+// The answer of a close, which delivered so many copies. Its bytes stand as those of a get that found a value.
+pub fn closed(copies: u32) -> [u8; 8]
+    ensures { λ r. ⌜ r ≡ 0 ∷ 1 ∷ (replicate 2 0 ++ littleBytes 4 copies) ⌝ }
+{
+    answer(0, true, copies)
 }
 
 // A put at site a, which becomes event k.

@@ -1,4 +1,4 @@
-// One site: what it keeps after a put, a get or a delivery.
+// Sites: what one keeps after a put, a get or a delivery, and what some of them lack.
 use super::Kept;
 use super::KeptCell;
 use super::KeptEvent;
@@ -7,10 +7,11 @@ ghost use mathlib.Core.Bool.{Bool, true, cond, _||_};
 ghost use Prim.Native.Nat.{ℕ, suc, _+_, _*_, _/_, _%_, _≤_, _<_};
 ghost use lib.Dec.{eqb};
 ghost use lib.ListN.{length, getD};
+ghost use Rattle.rows.specs.Lowest.{lowest};
 ghost use Rattle.rows.specs.Row.{has, rowAt};
 ghost use Rattle.store.specs.Store.{upd, Cell, full, merge};
 ghost use Rattle.store.specs.Rules.{reached, afterPut, afterGet, afterDelivery};
-ghost use Rattle.calls.specs.Mirror.{cellOf, eventOf, siteOf};
+ghost use Rattle.calls.specs.Mirror.{cellOf, eventOf, siteOf, lackedBySome};
 
 // Whether the counts reach a put's needs, for every site. All eight are compared, which is quicker than to stop at one.
 pub fn reaches(counts: [u16; 8], needs: [u16; 8]) -> bool
@@ -108,6 +109,21 @@ pub fn see(known: &mut [u64], s: usize, sees: &mut [u64], k: usize)
     let from = 4 * s;
     rows::copy(&mut sees[at..at + 4], &known[from..from + 4]);
     rows::set(known, 256 * s + k);
+}
+
+// The lowest event of `puts` that some of n sites lacks, or 256.
+pub fn first_lacked(n: usize, puts: &[u64], known: &[u64]) -> usize
+    requires { ⌜ (length (now puts) ≡ 4) × (length (now known) ≡ 32) × (n ≤ 8) ⌝ }
+    ensures { λ r. ⌜ r ≡ lowest 256 (lackedBySome (now (puts .entry)) (now (known .entry)) n) ⌝ }
+{
+    let mut all = [0u64; 4];
+    rows::copy(&mut all, puts);
+    for s in 0..n {
+        let at = s * 4;
+        let end = at + 4;
+        rows::intersect(&mut all, &known[at..end]);
+    }
+    rows::lowest_difference(puts, &all)
 }
 
 // The put w comes to site s, which knows it and all that it saw from now on.

@@ -19,11 +19,11 @@ use Rattle.consistency.specs.Predicates.{rule, breaks, verdict, numbered}
 use Rattle.consistency.specs.Models.{firstBroken}
 use Rattle.judge.specs.Judgments.{judgedList, judged, predicateJudgment, packedJudgments}
 use Rattle.store.specs.Calls.{callAt, callsFrom, callsOf}
-use Rattle.store.specs.Rules.{reached, refusal, effect, afterCall, run, doneAnswer, answer, answers}
+use Rattle.store.specs.Rules.{reached, refusal, copiesOf, allCopies, afterCopy, afterCopies, copied, effect, afterCall, run, doneAnswer, answer, answers}
 use Rattle.store.specs.Recorded.{rank, recorded, storeRecord}
 use Rattle.store.specs.Rehearsal.{storeAfter, recordOf}
 use Rattle.edges.specs.Events.{member, historyOfEvents}
-use Rattle.edges.specs.Cases.{Case, right, allRight, ofEmpty, ofRing, ofHistories, ofListing, ofDeliveries, edges}
+use Rattle.edges.specs.Cases.{Case, right, allRight, ofEmpty, ofRing, ofHistories, ofListing, ofDeliveries, ofCloses, edges}
 
 all-append : (l m : List Case) → allRight l ≡ true → allRight m ≡ true → allRight (l ++ m) ≡ true
 unfolding allRight
@@ -36,7 +36,7 @@ all-append (c ∷ l) m e f = go (right c) (allRight l) (allRight (l ++ m)) e (λ
 
 -- the test of a part: to unfold it is to unfold all that the cases ask
 unfoldable test : List Case → Bool
-unfolding searchFrom lowest some digit bitOf hasByte little via reaches zeros same sumA sumB blockRight historyOf vis placeRight valueRight timesRight gapsRight eventRight tailRight slotRight lengthRight headerRight blocksRight wrongPosition wrongSet onRing byteQuestions setQuestions questions littleBytes bits setBytes slotBytes withSlots sealed unsealed recordBytes firstLeft first rb ss ob so ar step hb through candidate lastBelow lastWrite expected wrongRead wrong rule breaks verdict numbered firstBroken judgedList judged predicateJudgment packedJudgments callAt callsFrom callsOf reached refusal effect afterCall run doneAnswer answer answers rank recorded storeRecord storeAfter recordOf member historyOfEvents right allRight
+unfolding searchFrom lowest some digit bitOf hasByte little via reaches zeros same sumA sumB blockRight historyOf vis placeRight valueRight timesRight gapsRight eventRight tailRight slotRight lengthRight headerRight blocksRight wrongPosition wrongSet onRing byteQuestions setQuestions questions littleBytes bits setBytes slotBytes withSlots sealed unsealed recordBytes firstLeft first rb ss ob so ar step hb through candidate lastBelow lastWrite expected wrongRead wrong rule breaks verdict numbered firstBroken judgedList judged predicateJudgment packedJudgments callAt callsFrom callsOf reached refusal copiesOf allCopies afterCopy afterCopies copied effect afterCall run doneAnswer answer answers rank recorded storeRecord storeAfter recordOf member historyOfEvents right allRight
 test cs = allRight cs
 
 empty-hold : allRight ofEmpty ≡ true
@@ -59,5 +59,13 @@ deliveries-hold : allRight ofDeliveries ≡ true
 unfolding test
 deliveries-hold = refl
 
+closes-hold : allRight ofCloses ≡ true
+unfolding test
+closes-hold = refl
+
 pub edges-hold : allRight edges ≡ true
-edges-hold = all-append ofEmpty (ofRing ++ (ofHistories ++ (ofListing ++ ofDeliveries))) empty-hold (all-append ofRing (ofHistories ++ (ofListing ++ ofDeliveries)) ring-hold (all-append ofHistories (ofListing ++ ofDeliveries) histories-hold (all-append ofListing ofDeliveries listing-hold deliveries-hold)))
+edges-hold =
+    all-append ofEmpty (ofRing ++ (ofHistories ++ (ofListing ++ (ofDeliveries ++ ofCloses)))) empty-hold
+    (all-append ofRing (ofHistories ++ (ofListing ++ (ofDeliveries ++ ofCloses))) ring-hold
+    (all-append ofHistories (ofListing ++ (ofDeliveries ++ ofCloses)) histories-hold
+    (all-append ofListing (ofDeliveries ++ ofCloses) listing-hold (all-append ofDeliveries ofCloses deliveries-hold closes-hold))))

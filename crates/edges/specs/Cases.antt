@@ -126,6 +126,13 @@ getCall site object rest = 2 ∷ site ∷ object ∷ 0 ∷ 0 ∷ 0 ∷ 0 ∷ 0 �
 abbrev deliverCall : ℕ → ℕ → List ℕ → List ℕ
 deliverCall w t rest = 3 ∷ t ∷ 0 ∷ 0 ∷ w ∷ 0 ∷ 0 ∷ 0 ∷ rest
 
+-- a close, right only where all seven bytes are zero
+abbrev closeCall : (a b c d e f g : ℕ) → List ℕ → List ℕ
+closeCall a b c d e f g rest = 4 ∷ a ∷ b ∷ c ∷ d ∷ e ∷ f ∷ g ∷ rest
+
+abbrev rightClose : List ℕ → List ℕ
+rightClose = closeCall 0 0 0 0 0 0 0
+
 -- the listing, at two sites
 abbrev listing : List ℕ
 listing =
@@ -139,18 +146,35 @@ outOfTurn = putCall 0 0 1 (deliverCall 0 1 (putCall 1 0 2 (deliverCall 1 2 [])))
 abbrev twice : List ℕ
 twice = putCall 0 0 1 (deliverCall 0 1 (deliverCall 0 1 []))
 
--- answers: refused, a done delivery, a done put, and a get that found a value, as the event that it became
+-- the listing's two puts, two closes, and a get at each site
+abbrev closing : List ℕ
+closing = putCall 0 5 100 (putCall 1 5 200 (rightClose (rightClose (getCall 0 5 (getCall 1 5 [])))))
+
+-- at three sites a delivery out of turn, and then a close
+abbrev inTurn : List ℕ
+inTurn = putCall 0 0 1 (deliverCall 0 1 (putCall 1 0 2 (deliverCall 1 2 (rightClose []))))
+
+-- each of the seven bytes is wrong in turn
+abbrev wrongCloses : List ℕ
+wrongCloses =
+    closeCall 1 0 0 0 0 0 0 (closeCall 0 1 0 0 0 0 0 (closeCall 0 0 1 0 0 0 0
+    (closeCall 0 0 0 1 0 0 0 (closeCall 0 0 0 0 1 0 0 (closeCall 0 0 0 0 0 1 0 (closeCall 0 0 0 0 0 0 1 []))))))
+
+-- answers: refused, a done delivery, a done put, a get that found a value, as the event that it became, and a close with the copies that it delivered
 abbrev noCall : ℕ → List ℕ
 noCall number = number ∷ 0 ∷ 0 ∷ 0 ∷ 0 ∷ 0 ∷ 0 ∷ 0 ∷ []
 
-abbrev delivered : List ℕ
-delivered = noCall 0
+abbrev deliveryDone : List ℕ
+deliveryDone = noCall 0
 
 abbrev putDone : ℕ → List ℕ
 putDone e = 0 ∷ 0 ∷ e ∷ 0 ∷ 0 ∷ 0 ∷ 0 ∷ 0 ∷ []
 
 abbrev found : ℕ → ℕ → List ℕ
 found e v = 0 ∷ 1 ∷ e ∷ 0 ∷ v ∷ 0 ∷ 0 ∷ 0 ∷ []
+
+abbrev closeDone : ℕ → List ℕ
+closeDone copies = 0 ∷ 1 ∷ 0 ∷ 0 ∷ copies ∷ 0 ∷ 0 ∷ 0 ∷ []
 
 abbrev pub ofEmpty : List Case
 ofEmpty =
@@ -179,16 +203,33 @@ ofListing =
     thirteen (recordOf 2 listing) (met ∷ broken 0 1 ∷ broken 2 3 ∷ met ∷ met ∷ met ∷ met ∷ met ∷ met ∷ met ∷ met ∷ met ∷ broken 0 1 ∷ [])
     ∷ answered 2 listing 0 (putDone 0)
     ∷ answered 2 listing 1 (putDone 1)
-    ∷ answered 2 listing 2 delivered
+    ∷ answered 2 listing 2 deliveryDone
     ∷ answered 2 listing 3 (found 2 200)
     ∷ answered 2 listing 4 (found 3 100)
-    ∷ answered 2 listing 5 delivered
+    ∷ answered 2 listing 5 deliveryDone
     ∷ answered 2 listing 6 (found 4 200)
     ∷ []
 
 abbrev pub ofDeliveries : List Case
-ofDeliveries = answered 3 outOfTurn 3 (noCall 36) ∷ answered 2 twice 1 delivered ∷ answered 2 twice 2 (noCall 35) ∷ []
+ofDeliveries = answered 3 outOfTurn 3 (noCall 36) ∷ answered 2 twice 1 deliveryDone ∷ answered 2 twice 2 (noCall 35) ∷ []
+
+abbrev pub ofCloses : List Case
+ofCloses =
+    answered 2 closing 2 (closeDone 2)
+    ∷ answered 2 closing 3 (closeDone 0)
+    ∷ answered 2 closing 4 (found 2 200)
+    ∷ answered 2 closing 5 (found 3 200)
+    ∷ answered 3 inTurn 3 (noCall 36)
+    ∷ answered 3 inTurn 4 (closeDone 3)
+    ∷ answered 2 wrongCloses 0 (noCall 31)
+    ∷ answered 2 wrongCloses 1 (noCall 31)
+    ∷ answered 2 wrongCloses 2 (noCall 31)
+    ∷ answered 2 wrongCloses 3 (noCall 31)
+    ∷ answered 2 wrongCloses 4 (noCall 31)
+    ∷ answered 2 wrongCloses 5 (noCall 31)
+    ∷ answered 2 wrongCloses 6 (noCall 31)
+    ∷ []
 
 -- the table, in parts that the checker computes one by one
 abbrev pub edges : List Case
-edges = ofEmpty ++ (ofRing ++ (ofHistories ++ (ofListing ++ ofDeliveries)))
+edges = ofEmpty ++ (ofRing ++ (ofHistories ++ (ofListing ++ (ofDeliveries ++ ofCloses))))

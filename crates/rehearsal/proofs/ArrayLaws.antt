@@ -14,8 +14,8 @@ use Rattle.rows.proofs.Tests.{split}
 use Rattle.rows.proofs.TableLaws.{has-row-cleared}
 use Rattle.record.proofs.StoresLaws.{zero-at}
 use Rattle.store.specs.Store.{upd, Cell, empty, merge, Site, Event, Store, freshSite, noEvent, fresh}
-use Rattle.store.specs.Calls.{Call, deliver}
-use Rattle.store.specs.Rules.{refusal, afterDelivery, effect, afterCall}
+use Rattle.store.specs.Calls.{Call}
+use Rattle.store.specs.Rules.{refusal, afterDelivery, withCopy, effect, afterCall}
 use Rattle.calls.specs.Mirror.{cellOf, eventOf, siteOf, Made}
 use Rattle.rehearsal.specs.Arrays.{noCell, cellsOf, pastEvent, pastSite, freshKept, freshEvent, eventIn, storeOf}
 use Rattle.calls.specs.declared.Asked.{Asked}
@@ -34,6 +34,8 @@ pub record Arrays : Type 0 where
   pub kept : List Kept
   pub known : List ℕ
   pub cells : List KeptCell
+  -- the events that are puts, as a row
+  pub puts : List ℕ
 
 abbrev pub storeIn : Arrays → Store
 storeIn z = storeOf (z .count) (z .events) (z .sees) (z .kept) (z .known) (z .cells)
@@ -44,6 +46,7 @@ pub record Sized (z : Arrays) : Type 0 where
   pub kept : length (z .kept) ≡ 8
   pub known : length (z .known) ≡ 32
   pub cells : length (z .cells) ≡ 256
+  pub puts : length (z .puts) ≡ 4
 
 -- row s of the rows l, and no other, was replaced by r
 abbrev RowSet : ℕ → List ℕ → List ℕ → ℕ → (ℕ → Bool) → Type 0
@@ -82,6 +85,7 @@ freshArrays = record {
   kept = replicate 8 freshKept;
   known = replicate 32 0;
   cells = replicate 256 noCell;
+  puts = replicate 4 0;
 }
 
 pub fresh-store : storeIn freshArrays ≡ fresh
@@ -161,17 +165,19 @@ withSite z s b known′ at y = record {
   kept = set (z .kept) s b;
   known = known′;
   cells = set (z .cells) at y;
+  puts = z .puts;
 }
 
 -- and with one more event
-abbrev pub withMade : Arrays → KeptEvent → List ℕ → Arrays
-withMade z e sees′ = record {
+abbrev pub withMade : Arrays → KeptEvent → List ℕ → List ℕ → Arrays
+withMade z e sees′ puts′ = record {
   count = z .count + 1;
   events = set (z .events) (z .count) e;
   sees = sees′;
   kept = z .kept;
   known = z .known;
   cells = z .cells;
+  puts = puts′;
 }
 
 module _ (z : Arrays) (sized : Sized z) where
@@ -182,15 +188,17 @@ module _ (z : Arrays) (sized : Sized z) where
     kept = length-set (z .kept) s b ∙ sized .kept;
     known = h;
     cells = length-set (z .cells) at y ∙ sized .cells;
+    puts = sized .puts;
   }
 
-  pub made-sized : (e : KeptEvent) (sees′ : List ℕ) → length sees′ ≡ 1024 → Sized (withMade z e sees′)
-  made-sized e sees′ h = record {
+  pub made-sized : (e : KeptEvent) (sees′ puts′ : List ℕ) → length sees′ ≡ 1024 → length puts′ ≡ 4 → Sized (withMade z e sees′ puts′)
+  made-sized e sees′ puts′ h k = record {
     events = length-set (z .events) (z .count) e ∙ sized .events;
     sees = h;
     kept = sized .kept;
     known = sized .known;
     cells = sized .cells;
+    puts = k;
   }
 
   sites-set : (s o : ℕ) → s < 8 → o ≤ 31 → (b : Kept) (y : KeptCell) (known′ : List ℕ) (r : ℕ → Bool) → RowSet 8 (z .known) known′ s r
@@ -211,10 +219,10 @@ module _ (z : Arrays) (sized : Sized z) where
       (ap₂ (siteOf (getD (z .kept) t pastSite)) (row-other 8 (z .known) known′ s r h t (ltb-true t 8 u) q) (cells-other (z .cells) s o t m q y)))
       (λ u. rw u refl)))
 
-  events-set : (y : KeptEvent) (sees′ : List ℕ) (r : ℕ → Bool) → RowSet 256 (z .sees) sees′ (z .count) r → z .count < 256
-      → storeIn (withMade z y sees′) .event ≡ upd (storeIn z .event) (z .count) (eventOf y r)
+  events-set : (y : KeptEvent) (sees′ puts′ : List ℕ) (r : ℕ → Bool) → RowSet 256 (z .sees) sees′ (z .count) r → z .count < 256
+      → storeIn (withMade z y sees′ puts′) .event ≡ upd (storeIn z .event) (z .count) (eventOf y r)
   unfolding storeOf
-  events-set y sees′ r h l = fun-ext (λ e.
+  events-set y sees′ puts′ r h l = fun-ext (λ e.
       upd-elim
       (λ (x : Event). cond (ltb e (z .count + 1)) (eventOf (getD (set (z .events) (z .count) y) e pastEvent) (has (rowAt sees′ 4 e))) noEvent ≡ x)
       (storeIn z .event)
@@ -228,55 +236,55 @@ module _ (z : Arrays) (sized : Sized z) where
       (λ u. rw u (ap (eventOf (getD (z .events) e pastEvent)) (row-other 256 (z .sees) sees′ (z .count) r h e (omega (arith, ltb-true e (z .count) u)) q)))
       (λ u. rw u refl))))
 
-  -- ---- the three ways of a call
+  -- ---- the ways of a call
+
+  abbrev st : Store
+  st = storeIn z
+
+  module _ (w s : ℕ) (b : Kept) (y : KeptCell) (known′ : List ℕ) where
+    abbrev a : Kept
+    a = getD (z .kept) s pastSite
+
+    abbrev e : KeptEvent
+    e = getD (z .events) w pastEvent
+
+    pub copied-step : w < z .count → s < 8 → e .object ≤ 31
+        → ((known sees : ℕ → Bool) (cells : ℕ → Cell) (w : ℕ) → siteOf b (λ x. eqb x w || (sees x || known x)) (upd cells (e .object) (merge (cells (e .object)) (e .value) (e .order / 8) (e .order % 8)))
+        ≡ afterDelivery (siteOf a known cells) w (eventOf e sees))
+        → cellOf y ≡ merge (cellOf (getD (z .cells) (32 * s + e .object) noCell)) (e .value) (e .order / 8) (e .order % 8)
+        → RowSet 8 (z .known) known′ s (λ x. eqb x w || (has (rowAt (z .sees) 4 w) x || has (rowAt (z .known) 4 s) x))
+        → storeIn (withSite z s b known′ (32 * s + e .object) y) ≡ withCopy st w s
+    unfolding storeOf
+    copied-step done l m f merged row =
+        let known : ℕ → Bool = has (rowAt (z .known) 4 s) in
+        let sees : ℕ → Bool = has (rowAt (z .sees) 4 w) in
+        let cells : ℕ → Cell = st .site s .cell in
+        let now : ℕ → Bool = λ x. eqb x w || (sees x || known x) in
+        let same : cellOf y ≡ merge (cells (e .object)) (e .value) (e .order / 8) (e .order % 8) =
+        merged ∙ ap (λ (x : Cell). merge x (e .value) (e .order / 8) (e .order % 8)) (sym (cell-at z s (e .object) l m)) in
+        let site : siteOf b now (upd cells (e .object) (cellOf y)) ≡ afterDelivery (st .site s) w (st .event w) =
+        ap (λ (x : Cell). siteOf b now (upd cells (e .object) x)) same
+        ∙ f known sees cells w
+        ∙ ap₂ (λ (x : Site) (v : Event). afterDelivery x w v) (sym (site-found z s l)) (sym (event-at z w done)) in
+        store-path refl refl (sites-set s (e .object) l m b y known′ now row ∙ ap (upd (st .site) s) site)
 
   module _ (n : ℕ) where
-    abbrev st : Store
-    st = storeIn z
-
     pub refused-step : (call : Call) → (refusal n st call ≡ 0 → ⊥) → st ≡ afterCall n st call
     unfolding afterCall
     refused-step call d = rw (ne-eqb (refusal n st call) 0 d) refl
 
-    done-step : (call : Call) → refusal n st call ≡ 0 → effect st call ≡ afterCall n st call
+    pub done-step : (call : Call) → refusal n st call ≡ 0 → effect n st call ≡ afterCall n st call
     unfolding afterCall
     done-step call q = rw (eq-eqb (refusal n st call) 0 q) refl
 
-    module _ (w s : ℕ) (b : Kept) (y : KeptCell) (known′ : List ℕ) where
-      abbrev a : Kept
-      a = getD (z .kept) s pastSite
-
-      abbrev e : KeptEvent
-      e = getD (z .events) w pastEvent
-
-      pub delivered-step : w < z .count → s < 8 → e .object ≤ 31 → refusal n st (deliver w s) ≡ 0
-          → ((known sees : ℕ → Bool) (cells : ℕ → Cell) (w : ℕ) → siteOf b (λ x. eqb x w || (sees x || known x)) (upd cells (e .object) (merge (cells (e .object)) (e .value) (e .order / 8) (e .order % 8)))
-          ≡ afterDelivery (siteOf a known cells) w (eventOf e sees))
-          → cellOf y ≡ merge (cellOf (getD (z .cells) (32 * s + e .object) noCell)) (e .value) (e .order / 8) (e .order % 8)
-          → RowSet 8 (z .known) known′ s (λ x. eqb x w || (has (rowAt (z .sees) 4 w) x || has (rowAt (z .known) 4 s) x))
-          → storeIn (withSite z s b known′ (32 * s + e .object) y) ≡ afterCall n st (deliver w s)
-      unfolding effect storeOf
-      delivered-step done l m q f merged row =
-          let known : ℕ → Bool = has (rowAt (z .known) 4 s) in
-          let sees : ℕ → Bool = has (rowAt (z .sees) 4 w) in
-          let cells : ℕ → Cell = st .site s .cell in
-          let now : ℕ → Bool = λ x. eqb x w || (sees x || known x) in
-          let same : cellOf y ≡ merge (cells (e .object)) (e .value) (e .order / 8) (e .order % 8) =
-          merged ∙ ap (λ (x : Cell). merge x (e .value) (e .order / 8) (e .order % 8)) (sym (cell-at z s (e .object) l m)) in
-          let site : siteOf b now (upd cells (e .object) (cellOf y)) ≡ afterDelivery (st .site s) w (st .event w) =
-          ap (λ (x : Cell). siteOf b now (upd cells (e .object) x)) same
-          ∙ f known sees cells w
-          ∙ ap₂ (λ (x : Site) (v : Event). afterDelivery x w v) (sym (site-found z s l)) (sym (event-at z w done)) in
-          store-path refl refl (sites-set s (e .object) l m b y known′ now row ∙ ap (upd (st .site) s) site) ∙ done-step (deliver w s) q
-
-    pub made-step : (call : Call) (s o : ℕ) (r : Served) (sees′ known′ : List ℕ) → s < 8 → o ≤ 31 → z .count < 256 → refusal n st call ≡ 0
+    pub made-step : (call : Call) (s o : ℕ) (r : Served) (sees′ known′ puts′ : List ℕ) → s < 8 → o ≤ 31 → z .count < 256 → refusal n st call ≡ 0
         → Made st call s o (has (rowAt (z .known) 4 s)) r
         → RowSet 8 (z .known) known′ s (upd (has (rowAt (z .known) 4 s)) (z .count) true)
         → RowSet 256 (z .sees) sees′ (z .count) (has (rowAt (z .known) 4 s))
-        → storeIn (withMade (withSite z s (r .site) known′ (32 * s + o) (r .cell)) (r .event) sees′) ≡ afterCall n st call
+        → storeIn (withMade (withSite z s (r .site) known′ (32 * s + o) (r .cell)) (r .event) sees′ puts′) ≡ afterCall n st call
     unfolding storeOf
-    made-step call s o r sees′ known′ l m room q h rows seen =
+    made-step call s o r sees′ known′ puts′ l m room q h rows seen =
         let known : ℕ → Bool = has (rowAt (z .known) 4 s) in
-        store-path (add-one (z .count)) (events-set (r .event) sees′ known seen room)
+        store-path (add-one (z .count)) (events-set (r .event) sees′ puts′ known seen room)
         (sites-set s o l m (r .site) (r .cell) known′ (upd known (z .count) true) rows)
-        ∙ sym (h .store) ∙ done-step call q
+        ∙ sym (h .store n) ∙ done-step call q

@@ -2,6 +2,7 @@
 pub mod BucketLaws
 pub mod ArrayLaws
 pub mod RunLaws
+pub mod CloseTurn
 pub mod EventLaws
 pub mod ImageLaws
 pub mod RehearsalLaws

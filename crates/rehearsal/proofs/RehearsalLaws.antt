@@ -27,6 +27,7 @@ use Rattle.store.proofs.RunKeeps.{every-run}
 use Rattle.store.proofs.SameRecord.{record-same}
 use Rattle.store.proofs.Sizes.{every-limits, every-sizes}
 use Rattle.store.proofs.StoreIsCausal.{key-once}
+use Rattle.store.proofs.EveryClose.{every-close}
 use Rattle.store.proofs.ThirdDemand.{third-demand}
 use Rattle.rehearsal.proofs.EventLaws.{puts-same}
 
@@ -112,6 +113,7 @@ module _ (n : ℕ) (script rec ans : List ℕ) where
         answered = rw refused;
         copies = omega arith;
         causal = λ z. absurd (some z);
+        closes = λ z before after e. absurd (some z);
       }
 
   module _ (ok : rehearsalRefusal n script rec ans ≡ 0) (bytes : Bytes script) (ran : Ran) (ends : Ends n script ran) where
@@ -133,7 +135,7 @@ module _ (n : ℕ) (script rec ans : List ℕ) where
         → ans′ ≡ answers n fresh (callsOf script) ++ drop (length script) ans
         → rec′ ≡ storeRecord gcr1 n (ranStore ran) ++ drop (512 * blocksFor gcr1 (ran .count)) rec
         → long ≡ 512 * blocksFor gcr1 (ran .count)
-        → copies ≡ puts (ranStore ran .event) (ran .count) * (n - 1) - ran .deliveries
+        → copies ≡ puts (ranStore ran .event) (ran .count) * (n - 1) - ran .brought
         → Rehearses n script rec ans rec′ ans′ (record { number = 0; length = long; outstanding = copies })
     unfolding recordAfter answersAfter lengthAfter mostCopies
     accepted-rehearses rec′ ans′ long copies answered recorded lasts left =
@@ -146,4 +148,5 @@ module _ (n : ℕ) (script rec ans : List ℕ) where
           answered = rw yes answered;
           copies = rw (yes, ← puts-right, left) (sub-le _ _);
           causal = λ z. third-demand n (right .least) (right .most) script bytes;
+          closes = λ z before after e. every-close n (right .most) before;
         }

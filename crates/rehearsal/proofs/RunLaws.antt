@@ -1,23 +1,27 @@
 -- The loop over a script: after k calls the arrays stand for the store of those calls, and their answers are written. Assumes nothing.
 use mathlib.Core.Path.{_≡_, refl, sym, ap, ap₂, _∙_}
-use mathlib.Core.Bool.{Bool, true, false, cond, _||_, and-false}
+use mathlib.Core.Bool.{Bool, true, false, cond, _||_}
 use mathlib.Core.List.{List, [], _∷_, _++_}
-use Prim.Native.Nat.{ℕ, zero, suc, _+_, _*_, _/_, _%_, _≤_, _<_}
-use native.Mathlib.Nat.{not-suc-le-zero, le-of-suc-le-suc}
+use Prim.Native.Nat.{ℕ, zero, suc, _+_, _*_, _/_, _%_, _^_, _≤_, _<_}
+use native.Mathlib.Nat.{not-suc-le-zero, le-of-suc-le-suc, zero-mul}
 use native.Mathlib.Numerals.{add-one}
 use native.Mathlib.Omega.{arith}
+use mir.Val.{boolByte}
+use lib.Bits.{bitOr, or-zero-r}
 use lib.Dec.{eqb}
 use lib.ListN.{length, getD, set, take, drop, replicate, length-replicate, getD-replicate, length-append, length-drop}
-use lib.Seq.{sets, sets-eq, length-sets, take-at, take-all, drop-append-add, drop-drop, getD-set-same, getD-set-other, ext-getD}
+use lib.Seq.{sets, sets-eq, length-sets, take-at, take-all, drop-append-add, drop-drop, getD-set-same, getD-set-other, set-getD, ext-getD}
 use borrow.Author.Tests.{eq-eqb, ne-eqb, eqb-true, eqb-false}
-use Rattle.rows.specs.Row.{has, rowAt}
+use Rattle.rows.specs.Row.{has, insert, rowAt, Row}
 use Rattle.rows.proofs.Tests.{split}
+use Rattle.rows.proofs.Digits.{shl-one}
+use Rattle.rows.proofs.RowLaws.{row-none, row-same, row-set, row-skip}
 use Rattle.rows.proofs.TableLaws.{length-row-le, length-row, getD-row}
 use Rattle.record.proofs.StoresLaws.{zero-at}
 use Rattle.consistency.specs.Reads.{value}
 use Rattle.store.specs.Store.{upd, Cell, merge, Site, Event, Store, fresh}
-use Rattle.store.specs.Calls.{Call, deliver, callAt, callsOf}
-use Rattle.store.specs.Rules.{reached, refusal, isDelivery, afterDelivery, doneAnswer, answer, afterCall, answers}
+use Rattle.store.specs.Calls.{Call, put, get, deliver, close, malformed, callAt, callsOf}
+use Rattle.store.specs.Rules.{reached, refusal, afterDelivery, withCopy, effect, delivered, closed, doneAnswer, answer, afterCall, answers}
 use Rattle.store.specs.Rehearsal.{storeAfter}
 use Rattle.calls.specs.Mirror.{callOf, cellOf, shownOf, eventOf, siteOf, partOf, withCounts, Made}
 use Rattle.rehearsal.specs.Arrays.{noCell, pastEvent, pastSite, freshKept, freshEvent, Ends}
@@ -28,10 +32,10 @@ use Rattle.calls.specs.declared.KeptEvent.{KeptEvent}
 use Rattle.calls.specs.declared.Served.{Served}
 use Rattle.store.proofs.Invariant.{StoreInv}
 use Rattle.store.proofs.RunKeeps.{Doable}
-use Rattle.store.proofs.Sizes.{Limits, Sizes}
-use Rattle.store.proofs.WholeList.{delivered, storeUpTo, answersUpTo, deliveriesUpTo, store-none, store-more, answers-none, answers-more, deliveries-none, deliveries-more, up-to-keeps, up-to-limits, up-to-sizes, store-whole, answers-whole, deliveries-whole, answer-length, answers-up-to-length}
+use Rattle.store.proofs.Sizes.{Limits, Sizes, sizes}
+use Rattle.store.proofs.WholeList.{storeUpTo, answersUpTo, totalUpTo, store-none, store-more, answers-none, answers-more, total-none, total-more, total-add, up-to-keeps, up-to-limits, up-to-sizes, store-whole, answers-whole, total-whole, answer-length, answers-up-to-length}
 use Rattle.calls.proofs.ServeLaws.{same-refusal, refused-before, refused-late, delivery-done, event-done, some-kind, put-fits, get-fits, deliver-fits, deliver-site, deliver-call}
-use Rattle.rehearsal.proofs.ArrayLaws.{Arrays, storeIn, Sized, fresh-store, store-count, site-at, event-at, site-found, cell-at, found, withSite, withMade, site-sized, made-sized, refused-step, delivered-step, made-step}
+use Rattle.rehearsal.proofs.ArrayLaws.{Arrays, storeIn, Sized, fresh-store, store-count, site-at, event-at, site-found, cell-at, found, withSite, withMade, site-sized, made-sized, refused-step, done-step, copied-step, made-step}
 
 -- ---- stores one after the other
 
@@ -68,24 +72,37 @@ refused-answer : (n : ℕ) (st : Store) (call : Call) → (refusal n st call ≡
 unfolding answer
 refused-answer n st call d = rw (ne-eqb (refusal n st call) 0 d) refl
 
-done-answer : (n : ℕ) (st : Store) (call : Call) → refusal n st call ≡ 0 → answer n st call ≡ doneAnswer st call
+pub done-answer : (n : ℕ) (st : Store) (call : Call) → refusal n st call ≡ 0 → answer n st call ≡ doneAnswer n st call
 unfolding answer
 done-answer n st call q = rw (eq-eqb (refusal n st call) 0 q) refl
 
-delivery-answer : (st : Store) (w t : ℕ) → doneAnswer st (deliver w t) ≡ replicate 8 0
+delivery-answer : (n : ℕ) (st : Store) (w t : ℕ) → doneAnswer n st (deliver w t) ≡ replicate 8 0
 unfolding doneAnswer
-delivery-answer st w t = refl
+delivery-answer n st w t = refl
 
--- ---- which call is a done delivery
+copy-step : (n : ℕ) (st : Store) (w t : ℕ) → withCopy st w t ≡ effect n st (deliver w t)
+unfolding effect
+copy-step n st w t = refl
 
-none-delivered : (n : ℕ) (st : Store) (call : Call) → (refusal n st call ≡ 0 → ⊥) → delivered n st call ≡ 0
-none-delivered n st call d = rw (ne-eqb (refusal n st call) 0 d, and-false (isDelivery call)) refl
+-- ---- the copies that a call brings
 
-one-delivered : (n : ℕ) (st : Store) (c : Asked) → refusal n st (callOf c) ≡ 0 → c .kind ≡ 3 → delivered n st (callOf c) ≡ 1
-one-delivered n st c done kind = rw (eq-eqb (refusal n st (callOf c)) 0 done, deliver-call c kind) refl
+-- as a delivery or as a close
+abbrev pub sent : ℕ → Store → Call → ℕ
+sent n st c = delivered n st c + closed n st c
 
-other-delivered : (n : ℕ) (st : Store) (c : Asked) → (c .kind ≡ 3 → ⊥) → delivered n st (callOf c) ≡ 0
-other-delivered n st c other = rw (ne-eqb (c .kind) 3 other)
+no-copies : (n : ℕ) (st : Store) (call : Call) → (refusal n st call ≡ 0 → ⊥) → sent n st call ≡ 0
+unfolding refusal
+no-copies n st (put s o v) d = refl
+no-copies n st (get s o) d = refl
+no-copies n st (deliver w t) d = rw (ne-eqb (refusal n st (deliver w t)) 0 d) refl
+no-copies n st close d = absurd (d refl)
+no-copies n st malformed d = refl
+
+one-copy : (n : ℕ) (st : Store) (c : Asked) → refusal n st (callOf c) ≡ 0 → c .kind ≡ 3 → sent n st (callOf c) ≡ 1
+one-copy n st c done kind = rw (eq-eqb (refusal n st (callOf c)) 0 done, deliver-call c kind) refl
+
+event-copies : (n : ℕ) (st : Store) (c : Asked) → (c .kind ≡ 3 → ⊥) → (c .kind ≡ 4 → ⊥) → sent n st (callOf c) ≡ 0
+event-copies n st c other traded = rw (ne-eqb (c .kind) 3 other, ne-eqb (c .kind) 4 traded)
     (split (eqb (c .kind) 1) (λ t. rw t refl) (λ t. split (eqb (c .kind) 2) (λ u. rw (t, u) refl) (λ u. rw (t, u) refl)))
 
 -- ---- what a call finds
@@ -94,28 +111,44 @@ shown-present : (t : Bool) (v u : ℕ) → shownOf t v ≡ value u → t ≡ tru
 shown-present true v u e = refl
 shown-present false v u e = cc
 
--- every event has a stamp of 1 or more, and behind the last nothing has changed since the start
-pub record Laid (count : ℕ) (events : List KeptEvent) (sees : List ℕ) : Type 0 where
+-- every event has a stamp of 1 or more, behind the last nothing has changed since the start, and puts have a row of their own
+pub record Laid (count : ℕ) (events : List KeptEvent) (sees puts : List ℕ) : Type 0 where
   pub stamped : (e : ℕ) → e < count → 8 ≤ getD events e pastEvent .order
   pub unmade : (e : ℕ) → count ≤ e → e < 256 → getD events e pastEvent ≡ freshEvent
   pub unseen : (e : ℕ) → count ≤ e → e < 256 → rowAt sees 4 e ≡ replicate 4 0
+  pub put : Row count (λ e. getD events e pastEvent .put) puts
 
 zero-row : (e : ℕ) → e < 256 → rowAt (replicate 1024 0) 4 e ≡ replicate 4 0
 zero-row e l = ext-getD 0 (rowAt (replicate 1024 0) 4 e) (replicate 4 0) (length-row (replicate 1024 0) 4 e (omega (arith, length-replicate {A = ℕ} 1024 0)))
     (λ i m. getD-row (replicate 1024 0) 4 e i (omega (arith, length-row-le (replicate 1024 0) 4 e)) ∙ zero-at 1024 (e * 4 + i) ∙ sym (zero-at 4 i))
 
-laid-none : Laid 0 (replicate 256 freshEvent) (replicate 1024 0)
+laid-none : Laid 0 (replicate 256 freshEvent) (replicate 1024 0) (replicate 4 0)
 laid-none = record {
   stamped = λ e l. absurd (omega arith);
   unmade = λ e m l. getD-replicate 256 e freshEvent pastEvent l;
   unseen = λ e m l. zero-row e l;
+  put = row-none (λ e. getD (replicate 256 freshEvent) e pastEvent .put) 4;
 }
 
+-- the next event joins the row of puts if it is one
+abbrev pub PutRow : ℕ → Bool → List ℕ → List ℕ → Type 0
+PutRow count t puts puts′ = (f : ℕ → Bool) → Row count f puts → f count ≡ t → Row (count + 1) f puts′
+
+pub put-row : (count : ℕ) (puts : List ℕ) (t : Bool) → count < 256 → length puts ≡ 4
+    → PutRow count t puts (set puts (count / 64) (bitOr (getD puts (count / 64) 0) ((boolByte t * 2 ^ (count % 64)) % 2 ^ 64)))
+unfolding insert
+put-row count puts true room four f row q =
+    rw (shl-one 64 (count % 64) (omega arith)) (row-set count f puts row (omega arith) q)
+put-row count puts false room four f row q =
+    let zero-bit : (0 * 2 ^ (count % 64)) % 2 ^ 64 ≡ 0 = ap (λ (x : ℕ). x % 2 ^ 64) (zero-mul (2 ^ (count % 64))) in
+    rw (zero-bit, or-zero-r, set-getD) (row-skip count f puts row q)
+
 -- one event more
-laid-more : (count : ℕ) (events : List KeptEvent) (sees sees′ row : List ℕ) (e : KeptEvent) → Laid count events sees → count < length events → 8 ≤ e .order
+laid-more : (count : ℕ) (events : List KeptEvent) (sees sees′ row puts puts′ : List ℕ) (e : KeptEvent) → Laid count events sees puts → count < length events → 8 ≤ e .order
     → ((i : ℕ) → rowAt sees′ 4 i ≡ cond (eqb i count) row (rowAt sees 4 i))
-    → Laid (count + 1) (set events count e) sees′
-laid-more count events sees sees′ row e h l m rows = record {
+    → PutRow count (e .put) puts puts′
+    → Laid (count + 1) (set events count e) sees′ puts′
+laid-more count events sees sees′ row puts puts′ e h l m rows rowed = record {
   stamped = λ i j.
       split (eqb i count)
       (λ t. rw (eqb-true i count t, getD-set-same events count e pastEvent l) m)
@@ -124,21 +157,26 @@ laid-more count events sees sees′ row e h l m rows = record {
       rw (getD-set-other events count i e pastEvent d) (h .stamped i (omega arith)));
   unmade = λ i k j. getD-set-other events count i e pastEvent (λ q. omega arith) ∙ h .unmade i (omega arith) j;
   unseen = λ i k j. rows i ∙ rw (ne-eqb i count (λ q. omega arith)) (h .unseen i (omega arith) j);
+  put = rowed (λ i. getD (set events count e) i pastEvent .put)
+      (row-same count (λ i. getD events i pastEvent .put) puts (h .put) (λ i. getD (set events count e) i pastEvent .put)
+      (λ i j. ap (λ (x : KeptEvent). x .put) (sym (getD-set-other events count i e pastEvent (λ q. omega arith)))))
+      (ap (λ (x : KeptEvent). x .put) (getD-set-same events count e pastEvent l));
 }
 
 -- rows as the sets that they are
-row-set : (t : Bool) (r s : List ℕ) → has (cond t r s) ≡ cond t (has r) (has s)
-row-set true r s = refl
-row-set false r s = refl
+row-of-two : (t : Bool) (r s : List ℕ) → has (cond t r s) ≡ cond t (has r) (has s)
+row-of-two true r s = refl
+row-of-two false r s = refl
 
 -- ---- the loop
 
-pub record Turned (n : ℕ) (script out₀ out : List ℕ) (z : Arrays) (deliveries k : ℕ) : Type 0 where
+pub record Turned (n : ℕ) (script out₀ out : List ℕ) (z : Arrays) (copies k : ℕ) : Type 0 where
   pub within : k ≤ length script / 8
   pub sized : Sized z
-  pub laid : Laid (z .count) (z .events) (z .sees)
+  pub laid : Laid (z .count) (z .events) (z .sees) (z .puts)
   pub store : storeIn z ≡ storeUpTo k n script
-  pub delivered : deliveries ≡ deliveriesUpTo k n script
+  pub sum : copies ≡ totalUpTo sent k n script
+  pub few : copies ≤ 2049 * k
   pub long : length out ≡ length out₀
   pub written : out ≡ answersUpTo k n script ++ drop (8 * k) out₀
 
@@ -151,6 +189,7 @@ pub turned-none : (n : ℕ) (script out : List ℕ) (a : Kept) (x : KeptCell) (e
       kept = replicate 8 a;
       known = replicate 32 0;
       cells = replicate 256 x;
+      puts = replicate 4 0;
     })
     0 0
 turned-none n script out a x e p q r = record {
@@ -161,17 +200,19 @@ turned-none n script out a x e p q r = record {
     kept = length-replicate 8 a;
     known = length-replicate {A = ℕ} 32 0;
     cells = length-replicate 256 x;
+    puts = length-replicate {A = ℕ} 4 0;
   };
   laid = rw r laid-none;
   store = rw (p, q, r) (fresh-store ∙ sym (store-none n script));
-  delivered = sym (deliveries-none n script);
+  sum = sym (total-none sent n script);
+  few = omega arith;
   long = refl;
   written = ap (λ (l : List ℕ). l ++ out) (sym (answers-none n script));
 }
 
 -- the number of events stays small
-pub count-few : (n : ℕ) (script out₀ out : List ℕ) (z : Arrays) (deliveries k : ℕ) → Turned n script out₀ out z deliveries k → z .count ≤ 256
-count-few n script out₀ out z deliveries k h =
+pub count-few : (n : ℕ) (script out₀ out : List ℕ) (z : Arrays) (copies k : ℕ) → Turned n script out₀ out z copies k → z .count ≤ 256
+count-few n script out₀ out z copies k h =
     let limits : Limits (storeIn z) = rw (h .store) (up-to-limits k n script) in
     rw (store-count z) at (limits .count)
 
@@ -182,7 +223,7 @@ pub record Turn : Type 0 where
   pub out₀ : List ℕ
   pub out : List ℕ
   pub z : Arrays
-  pub deliveries : ℕ
+  pub copies : ℕ
   pub k : ℕ
   pub c : Asked
   pub s : ℕ
@@ -199,9 +240,9 @@ keptEvent t = getD (t .z .events) (t .w) pastEvent
 -- what holds of it
 pub record Right (t : Turn) : Type 0 where
   pub sites : t .n ≤ 8
-  pub inv : Turned (t .n) (t .script) (t .out₀) (t .out) (t .z) (t .deliveries) (t .k)
+  pub inv : Turned (t .n) (t .script) (t .out₀) (t .out) (t .z) (t .copies) (t .k)
   pub asked : callOf (t .c) ≡ callAt (t .script) (8 * t .k)
-  pub kind : t .c .kind ≤ 3
+  pub kind : t .c .kind ≤ 4
   pub site : t .s ≡ t .c .site % 8
   pub event : t .w ≡ t .c .event % 256
   pub told : refusal (t .n) (partOf (t .z .count) (keptSite t) (has (rowAt (t .z .known) 4 (t .c .site))) (keptEvent t)) (callOf (t .c))
@@ -209,14 +250,33 @@ pub record Right (t : Turn) : Type 0 where
   pub short : length (t .script) ≤ length (t .out₀)
   pub next : t .k < length (t .script) / 8
 
--- a delivery of e to site a that is not refused
-pub record Delivered (n count : ℕ) (c : Asked) (a : Kept) (e : KeptEvent) : Type 0 where
-  pub site : c .site < n
-  pub event : c .event < count
-  pub order : 8 ≤ e .order
-  pub object : e .object ≤ 31
-  pub present : e .present ≡ true
-  pub held : (i : ℕ) → getD (a .counts) i 0 ≤ 256
+-- a put w that may come to site s
+pub record Copyable (z : Arrays) (w s : ℕ) : Type 0 where
+  pub order : 8 ≤ getD (z .events) w pastEvent .order
+  pub object : getD (z .events) w pastEvent .object ≤ 31
+  pub present : getD (z .events) w pastEvent .present ≡ true
+  pub held : (i : ℕ) → getD (getD (z .kept) s pastSite .counts) i 0 ≤ 256
+
+pub copyable : (n : ℕ) → n ≤ 8 → (z : Arrays) → Laid (z .count) (z .events) (z .sees) (z .puts) → StoreInv n (storeIn z .event) (storeIn z) → Limits (storeIn z)
+    → (w s : ℕ) → w < z .count → storeIn z .event w .isPut ≡ true → s < 8 → Copyable z w s
+copyable n n≤8 z laid keeps limits w s l isPut small =
+    let e : KeptEvent = getD (z .events) w pastEvent in
+    let at : storeIn z .event w ≡ eventOf e (has (rowAt (z .sees) 4 w)) = event-at z w l in
+    let done : w < storeIn z .count = rw (store-count z) l in
+    record {
+      order = laid .stamped w l;
+      object = omega (arith, limits .object w done, ap (λ (x : Event). x .object) at);
+      present =
+          shown-present (e .present) (e .value) _
+          (sym (ap (λ (x : Event). x .shown) at) ∙ keeps .events w done .written isPut);
+      held = λ i. omega (arith, sizes n n≤8 (storeIn z) keeps .held s i, ap (λ (x : Site). x .held i) (site-at z s small), limits .count);
+    }
+
+-- a delivery that is not refused
+pub record Delivered (t : Turn) : Type 0 where
+  pub site : t .c .site < t .n
+  pub event : t .c .event < t .z .count
+  pub copy : Copyable (t .z) (t .w) (t .s)
 
 -- a put or a get at site a that is not refused
 pub record Makes (n count : ℕ) (c : Asked) (a : Kept) : Type 0 where
@@ -229,7 +289,7 @@ pub record Makes (n count : ℕ) (c : Asked) (a : Kept) : Type 0 where
   pub most : c .kind ≤ 2
 
 module _ (t : Turn) (h : Right t) where
-  abbrev st : Store
+  abbrev pub st : Store
   st = storeIn (t .z)
 
   abbrev call : Call
@@ -241,23 +301,23 @@ module _ (t : Turn) (h : Right t) where
   abbrev e : KeptEvent
   e = keptEvent t
 
-  limits : Limits st
+  pub limits : Limits st
   limits = rw (h .inv .store) (up-to-limits (t .k) (t .n) (t .script))
 
-  sizes : Sizes st
-  sizes = rw (h .inv .store) (up-to-sizes (t .k) (t .n) (h .sites) (t .script))
+  pub small : Sizes st
+  small = rw (h .inv .store) (up-to-sizes (t .k) (t .n) (h .sites) (t .script))
 
-  keeps : StoreInv (t .n) (st .event) st
+  pub keeps : StoreInv (t .n) (st .event) st
   keeps = rw (h .inv .store) (up-to-keeps (t .k) (t .n) (h .sites) (t .script))
 
   few : t .z .count ≤ 256
-  few = count-few (t .n) (t .script) (t .out₀) (t .out) (t .z) (t .deliveries) (t .k) (h .inv)
+  few = count-few (t .n) (t .script) (t .out₀) (t .out) (t .z) (t .copies) (t .k) (h .inv)
 
   held-few : (i : ℕ) → getD (a .counts) i 0 ≤ 256
-  held-few i = omega (arith, sizes .held (t .s) i, ap (λ (x : Site). x .held i) (site-at (t .z) (t .s) (omega (arith, h .site))), limits .count)
+  held-few i = omega (arith, small .held (t .s) i, ap (λ (x : Site). x .held i) (site-at (t .z) (t .s) (omega (arith, h .site))), limits .count)
 
   clock-few : a .clock ≤ 256
-  clock-few = omega (arith, sizes .clock (t .s), ap (λ (x : Site). x .clock) (site-at (t .z) (t .s) (omega (arith, h .site))), limits .count)
+  clock-few = omega (arith, small .clock (t .s), ap (λ (x : Site). x .clock) (site-at (t .z) (t .s) (omega (arith, h .site))), limits .count)
 
   -- the number that refuses the call is i
   abbrev pub Answered : ℕ → Type 0
@@ -281,29 +341,24 @@ module _ (t : Turn) (h : Right t) where
   pub is-delivered : t .number ≡ 0 → t .c .kind ≡ 3 → enough ≡ true → Answered 0
   is-delivered q kind i = refusal-is ∙ delivery-done (t .c) a e (t .number) q kind i
 
-  pub is-made : t .number ≡ 0 → (t .c .kind ≡ 3 → ⊥) → Answered 0
-  is-made q other = refusal-is ∙ event-done (t .c) a e (t .number) q other
+  -- a close is never refused
+  pub is-done : t .number ≡ 0 → (t .c .kind ≡ 3 → ⊥) → Answered 0
+  is-done q other = refusal-is ∙ event-done (t .c) a e (t .number) q other
 
-  pub delivers : Answered 0 → t .c .kind ≡ 3 → Delivered (t .n) (t .z .count) (t .c) (keptSite t) (keptEvent t)
+  pub delivers : Answered 0 → t .c .kind ≡ 3 → Delivered t
   delivers r kind =
-      let w : ℕ = t .c .event in
       let d = deliver-fits (t .n) st (t .c) r kind in
-      let l : w < t .z .count = rw (store-count (t .z)) at (d .done) in
-      let same : t .w ≡ w = omega (arith, few, h .event) in
-      let at : st .event w ≡ eventOf e (has (rowAt (t .z .sees) 4 w)) = rw same (event-at (t .z) w l) in
+      let l : t .c .event < t .z .count = rw (store-count (t .z)) at (d .done) in
+      let same : t .w ≡ t .c .event = omega (arith, few, h .event) in
       record {
         site = deliver-site (t .n) st (t .c) r kind;
         event = l;
-        order = rw same (h .inv .laid .stamped w l);
-        object = omega (arith, limits .object w (d .done), ap (λ (x : Event). x .object) at);
-        present =
-            shown-present (e .present) (e .value) _
-            (sym (ap (λ (x : Event). x .shown) at) ∙ keeps .events w (d .done) .written (d .isPut));
-        held = held-few;
+        copy =
+            copyable (t .n) (h .sites) (t .z) (h .inv .laid) keeps limits (t .w) (t .s) (omega arith) (rw same (d .isPut)) (omega (arith, h .site));
       }
 
-  pub makes : Answered 0 → (t .c .kind ≡ 3 → ⊥) → Makes (t .n) (t .z .count) (t .c) (keptSite t)
-  makes r other =
+  pub makes : Answered 0 → (t .c .kind ≡ 3 → ⊥) → (t .c .kind ≡ 4 → ⊥) → Makes (t .n) (t .z .count) (t .c) (keptSite t)
+  makes r other traded =
       let some = some-kind (t .n) st (t .c) r in
       let fits : Doable (t .n) st (t .c .site) (t .c .object) =
       split (eqb (t .c .kind) 1) (λ u. put-fits (t .n) st (t .c) r (eqb-true (t .c .kind) 1 u))
@@ -320,11 +375,11 @@ module _ (t : Turn) (h : Right t) where
 
   module _ (out′ bytes : List ℕ) (wrote : out′ ≡ sets (t .out) (8 * t .k) bytes) where
     -- one call more, whichever way it went
-    turned : (z′ : Arrays) (deliveries′ : ℕ) → deliveries′ ≡ t .deliveries + delivered (t .n) st call → Sized z′
-        → Laid (z′ .count) (z′ .events) (z′ .sees)
+    pub turned : (z′ : Arrays) (copies′ : ℕ) → copies′ ≡ t .copies + sent (t .n) st call → sent (t .n) st call ≤ 2048 → Sized z′
+        → Laid (z′ .count) (z′ .events) (z′ .sees) (z′ .puts)
         → storeIn z′ ≡ afterCall (t .n) st call → bytes ≡ answer (t .n) st call
-        → Turned (t .n) (t .script) (t .out₀) out′ z′ deliveries′ (t .k + 1)
-    turned z′ deliveries′ counted sized laid stepped answered =
+        → Turned (t .n) (t .script) (t .out₀) out′ z′ copies′ (t .k + 1)
+    turned z′ copies′ counted most sized laid stepped answered =
         let n : ℕ = t .n in
         let k : ℕ = t .k in
         let script : List ℕ = t .script in
@@ -337,7 +392,8 @@ module _ (t : Turn) (h : Right t) where
           sized = sized;
           laid = laid;
           store = rw (add-one, store-more, ← (h .inv .store), ← (h .asked)) stepped;
-          delivered = rw (add-one, deliveries-more, ← (h .inv .store), ← (h .asked), ← (h .inv .delivered)) counted;
+          sum = rw (add-one, total-more, ← (h .inv .store), ← (h .asked), ← (h .inv .sum)) counted;
+          few = omega (arith, h .inv .few);
           long = ap length wrote ∙ length-sets (t .out) (8 * k) bytes ∙ h .inv .long;
           written =
               wrote
@@ -348,10 +404,11 @@ module _ (t : Turn) (h : Right t) where
         }
 
     pub turned-refused : (i : ℕ) → Answered i → (i ≡ 0 → ⊥) → bytes ≡ i ∷ replicate 7 0
-        → Turned (t .n) (t .script) (t .out₀) out′ (t .z) (t .deliveries) (t .k + 1)
+        → Turned (t .n) (t .script) (t .out₀) out′ (t .z) (t .copies) (t .k + 1)
     turned-refused i is d b =
         let r : refusal (t .n) st call ≡ 0 → ⊥ = λ q. d (sym is ∙ q) in
-        turned (t .z) (t .deliveries) (omega (arith, none-delivered (t .n) st call r)) (h .inv .sized) (h .inv .laid) (refused-step (t .z) (h .inv .sized) (t .n) call r)
+        let none : sent (t .n) st call ≡ 0 = no-copies (t .n) st call r in
+        turned (t .z) (t .copies) (omega arith) (omega arith) (h .inv .sized) (h .inv .laid) (refused-step (t .z) (h .inv .sized) (t .n) call r)
         (b ∙ ap (λ (j : ℕ). j ∷ replicate 7 0) (sym is) ∙ sym (refused-answer (t .n) st call r))
 
     module _ (done : Answered 0) where
@@ -364,64 +421,68 @@ module _ (t : Turn) (h : Right t) where
           → ((i : ℕ) → i < 8 → has (rowAt known′ 4 i)
           ≡ cond (eqb i (t .s)) (λ x. eqb x (t .w) || (has (rowAt (t .z .sees) 4 (t .w)) x || has (rowAt (t .z .known) 4 (t .s)) x)) (has (rowAt (t .z .known) 4 i)))
           → bytes ≡ replicate 8 0
-          → Turned (t .n) (t .script) (t .out₀) out′ (withSite (t .z) (t .s) b known′ (32 * t .s + o) y) (t .deliveries + 1) (t .k + 1)
+          → Turned (t .n) (t .script) (t .out₀) out′ (withSite (t .z) (t .s) b known′ (32 * t .s + o) y) (t .copies + 1) (t .k + 1)
       turned-delivered kind b y known′ o at f merged long rows zeros =
           let d = delivers done kind in
-          let object : o ≡ e .object = omega (arith, d .object) in
+          let object : o ≡ e .object = omega (arith, d .copy .object) in
           let site : t .s ≡ t .c .site = omega (arith, d .site, h .site, h .sites) in
           let event : t .w ≡ t .c .event = omega (arith, d .event, few, h .event) in
           let same : call ≡ deliver (t .w) (t .s) = deliver-call (t .c) kind ∙ ap₂ deliver (sym event) (sym site) in
-          turned (withSite (t .z) (t .s) b known′ (32 * t .s + o) y) (t .deliveries + 1) (omega (arith, one-delivered (t .n) st (t .c) done kind))
+          let one : sent (t .n) st call ≡ 1 = one-copy (t .n) st (t .c) done kind in
+          turned (withSite (t .z) (t .s) b known′ (32 * t .s + o) y) (t .copies + 1) (omega arith) (omega arith)
           (site-sized (t .z) (h .inv .sized) (t .s) b known′ (32 * t .s + o) y long)
           (h .inv .laid)
-          (rw (object, same)
-          (delivered-step (t .z) (h .inv .sized) (t .n) (t .w) (t .s) b y known′ (omega (arith, d .event)) (omega (arith, h .site)) (d .object) (rw same at done) f
-          (rw object at merged) rows))
-          (zeros ∙ sym (done-answer (t .n) st call done ∙ rw same (delivery-answer st (t .w) (t .s))))
+          (rw object
+          (copied-step (t .z) (h .inv .sized) (t .w) (t .s) b y known′ (omega (arith, d .event)) (omega (arith, h .site)) (d .copy .object) f
+          (rw object at merged) rows)
+          ∙ copy-step (t .n) st (t .w) (t .s) ∙ rw same (done-step (t .z) (h .inv .sized) (t .n) (deliver (t .w) (t .s)) (rw same at done)))
+          (zeros ∙ sym (done-answer (t .n) st call done ∙ rw same (delivery-answer (t .n) st (t .w) (t .s))))
 
-      pub turned-made : (t .c .kind ≡ 3 → ⊥) → (r : Served) (known′ sees′ : List ℕ) (o : ℕ) → o ≡ t .c .object % 32
+      pub turned-made : (t .c .kind ≡ 3 → ⊥) → (t .c .kind ≡ 4 → ⊥) → (r : Served) (known′ sees′ puts′ : List ℕ) (o : ℕ) → o ≡ t .c .object % 32
           → 8 ≤ r .event .order
           → ((st : Store) (known : ℕ → Bool) → st .count ≡ t .z .count → st .site (t .c .site) ≡ siteOf a known (st .site (t .c .site) .cell)
           → st .site (t .c .site) .cell (t .c .object) ≡ cellOf (getD (t .z .cells) (32 * t .s + o) noCell)
           → Made st call (t .c .site) (t .c .object) known r)
-          → length known′ ≡ 32 → length sees′ ≡ 1024
+          → length known′ ≡ 32 → length sees′ ≡ 1024 → length puts′ ≡ 4
           → ((i : ℕ) → i < 8 → has (rowAt known′ 4 i)
           ≡ cond (eqb i (t .s)) (upd (has (rowAt (t .z .known) 4 (t .s))) (t .z .count) true) (has (rowAt (t .z .known) 4 i)))
           → ((i : ℕ) → rowAt sees′ 4 i ≡ cond (eqb i (t .z .count)) (rowAt (t .z .known) 4 (t .s)) (rowAt (t .z .sees) 4 i))
+          → PutRow (t .z .count) (r .event .put) (t .z .puts) puts′
           → bytes ≡ r .answer
-          → Turned (t .n) (t .script) (t .out₀) out′ (withMade (withSite (t .z) (t .s) (r .site) known′ (32 * t .s + o) (r .cell)) (r .event) sees′)
-          (t .deliveries) (t .k + 1)
-      turned-made other r known′ sees′ o at least made long wide rows seen b =
+          → Turned (t .n) (t .script) (t .out₀) out′ (withMade (withSite (t .z) (t .s) (r .site) known′ (32 * t .s + o) (r .cell)) (r .event) sees′ puts′)
+          (t .copies) (t .k + 1)
+      turned-made other traded r known′ sees′ puts′ o at least made long wide four rows seen rowed b =
           let z : Arrays = t .z in
           let s : ℕ = t .s in
-          let d = makes done other in
+          let d = makes done other traded in
           let object : o ≡ t .c .object = omega (arith, d .object) in
           let site : s ≡ t .c .site = omega (arith, d .site, h .site, h .sites) in
-          let small : s < 8 = omega (arith, h .site) in
+          let low-site : s < 8 = omega (arith, h .site) in
           let low : o ≤ 31 = omega arith in
           let m : Made st call s o (has (rowAt (z .known) 4 s)) r =
           rw (site, object)
-          (made st (has (rowAt (z .known) 4 (t .c .site))) (store-count z) (rw (← site) (site-found z s small))
-          (rw (← site, ← object) (cell-at z s o small low))) in
+          (made st (has (rowAt (z .known) 4 (t .c .site))) (store-count z) (rw (← site) (site-found z s low-site))
+          (rw (← site, ← object) (cell-at z s o low-site low))) in
           let with-site : Arrays = withSite z s (r .site) known′ (32 * s + o) (r .cell) in
-          turned (withMade with-site (r .event) sees′) (t .deliveries) (omega (arith, other-delivered (t .n) st (t .c) other))
-          (made-sized with-site (site-sized z (h .inv .sized) s (r .site) known′ (32 * s + o) (r .cell) long) (r .event) sees′ wide)
-          (laid-more (z .count) (z .events) (z .sees) sees′ (rowAt (z .known) 4 s) (r .event) (h .inv .laid) (omega (arith, d .room, h .inv .sized .events)) least seen)
-          (made-step z (h .inv .sized) (t .n) call s o r sees′ known′ small low (d .room) done m rows
-          (λ i l. ap has (seen i) ∙ row-set (eqb i (z .count)) (rowAt (z .known) 4 s) (rowAt (z .sees) 4 i)))
-          (b ∙ m .answer ∙ sym (done-answer (t .n) st call done))
+          let none : sent (t .n) st call ≡ 0 = event-copies (t .n) st (t .c) other traded in
+          turned (withMade with-site (r .event) sees′ puts′) (t .copies) (omega arith) (omega arith)
+          (made-sized with-site (site-sized z (h .inv .sized) s (r .site) known′ (32 * s + o) (r .cell) long) (r .event) sees′ puts′ wide four)
+          (laid-more (z .count) (z .events) (z .sees) sees′ (rowAt (z .known) 4 s) (z .puts) puts′ (r .event) (h .inv .laid) (omega (arith, d .room, h .inv .sized .events)) least seen rowed)
+          (made-step z (h .inv .sized) (t .n) call s o r sees′ known′ puts′ low-site low (d .room) done m rows
+          (λ i l. ap has (seen i) ∙ row-of-two (eqb i (z .count)) (rowAt (z .known) 4 s) (rowAt (z .sees) 4 i)))
+          (b ∙ m .answer (t .n) ∙ sym (done-answer (t .n) st call done))
 
 -- the loop's variables may be given by equations
 pub carried : {n : ℕ} {script out₀ out out′ : List ℕ} {kept kept′ : List Kept} {known known′ : List ℕ} {cells cells′ : List KeptCell}
-    {events events′ : List KeptEvent} {sees sees′ : List ℕ} {count count′ deliveries deliveries′ k : ℕ}
-    → out ≡ out′ → kept ≡ kept′ → known ≡ known′ → cells ≡ cells′ → events ≡ events′ → sees ≡ sees′ → count ≡ count′ → deliveries ≡ deliveries′
+    {events events′ : List KeptEvent} {sees sees′ puts puts′ : List ℕ} {count count′ copies copies′ k : ℕ}
+    → out ≡ out′ → kept ≡ kept′ → known ≡ known′ → cells ≡ cells′ → events ≡ events′ → sees ≡ sees′ → puts ≡ puts′ → count ≡ count′ → copies ≡ copies′
     → Turned n script out₀ out′
-    (record { count = count′; events = events′; sees = sees′; kept = kept′; known = known′; cells = cells′ })
-    deliveries′ k
-    → Turned n script out₀ out (record { count = count; events = events; sees = sees; kept = kept; known = known; cells = cells }) deliveries k
-carried p q r s t u v w h = rw (p, q, r, s, t, u, v, w) h
+    (record { count = count′; events = events′; sees = sees′; kept = kept′; known = known′; cells = cells′; puts = puts′ })
+    copies′ k
+    → Turned n script out₀ out (record { count = count; events = events; sees = sees; kept = kept; known = known; cells = cells; puts = puts }) copies k
+carried p q r s t u v w x h = rw (p, q, r, s, t, u, v, w, x) h
 
-module _ (n : ℕ) (script out₀ out : List ℕ) (z : Arrays) (deliveries k : ℕ) (h : Turned n script out₀ out z deliveries k)
+module _ (n : ℕ) (script out₀ out : List ℕ) (z : Arrays) (copies k : ℕ) (h : Turned n script out₀ out z copies k)
     (all : k ≡ length script / 8) where
   whole : storeIn z ≡ storeAfter n script
   whole = h .store ∙ ap (λ (i : ℕ). storeUpTo i n script) all ∙ store-whole n script
@@ -433,11 +494,11 @@ module _ (n : ℕ) (script out₀ out : List ℕ) (z : Arrays) (deliveries k : �
       ∙ ap (λ (l : List ℕ). l ++ drop (8 * k) out₀) (ap (λ (i : ℕ). answersUpTo i n script) all ∙ answers-whole n script)
       ∙ ap (λ (i : ℕ). answers n fresh (callsOf script) ++ drop i out₀) end
 
-  pub whole-ends : Ends n script (record { count = z .count; events = z .events; sees = z .sees; deliveries = deliveries })
+  pub whole-ends : Ends n script (record { count = z .count; events = z .events; sees = z .sees; brought = copies })
   whole-ends = record {
     count = sym (store-count z) ∙ ap (λ (st : Store). st .count) whole;
     event = λ e l. sym (event-at z e l) ∙ ap (λ (st : Store). st .event e) whole;
     unmade = h .laid .unmade;
     unseen = h .laid .unseen;
-    deliveries = h .delivered ∙ ap (λ (i : ℕ). deliveriesUpTo i n script) all ∙ deliveries-whole n script;
+    brought = h .sum ∙ ap (λ (i : ℕ). totalUpTo sent i n script) all ∙ total-whole sent n script ∙ total-add delivered closed n fresh (callsOf script);
   }

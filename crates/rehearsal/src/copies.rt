@@ -22,15 +22,15 @@ fn puts(ran: Ran) -> usize
     n
 }
 
-// A put lacks at every site but its own, and each delivery brings one put to one site that lacked it.
+// A put lacks at every site but its own, and each copy brings one put to one site that lacked it.
 pub fn outstanding(n: usize, ran: Ran) -> usize
     requires { ⌜ 1 ≤ n ⌝ }
     requires { ⌜ n ≤ 8 ⌝ }
     requires { ⌜ ran .count ≤ 256 ⌝ }
-    ensures { λ r. ⌜ r ≡ puts (ranStore ran .event) (ran .count) * (n - 1) - ran .deliveries ⌝ }
+    ensures { λ r. ⌜ r ≡ puts (ranStore ran .event) (ran .count) * (n - 1) - ran .brought ⌝ }
 {
     let all = puts(ran) * (n - 1);
-    let done = ran.deliveries;
+    let done = ran.brought;
     if all < done {
         return 0;
     }

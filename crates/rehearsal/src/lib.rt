@@ -17,12 +17,12 @@ ghost use Rattle.judge.specs.declared.Judgment.the-variants.{Judged};
 ghost use Rattle.store.specs.Rehearsal.{rehearsalRefusal, recordOf};
 ghost use Rattle.store.specs.Demand.{Rehearses};
 
-// What a script came to: the events done, what each sees, and how many deliveries.
+// What a script came to: the events done, what each sees, and how many copies deliveries and closes brought.
 pub struct Ran {
     pub count: usize,
     pub events: [KeptEvent; 256],
     pub sees: [u64; 1024],
-    pub deliveries: usize,
+    pub brought: usize,
 }
 
 // A rehearsal that questions 20 to 23 let pass: the whole script, and then its record.

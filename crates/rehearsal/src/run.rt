@@ -55,6 +55,7 @@ fn write(out: &mut [u8], at: usize, bytes: [u8; 8])
 }
 
 // The answers are written to `out`, 8 bytes a call. A done call reads its site and event once more, so that a refused one copies only what it is asked about.
+// A close takes the lowest put that some site lacks, of a row difference, until there is none; its needs are met at every site that lacks it.
 pub fn run(n: usize, script: &[u8], out: &mut [u8]) -> Ran
     requires { ⌜ n ≤ 8 ⌝ }
     requires { ⌜ length (now script) % 8 ≡ 0 ⌝ }
@@ -68,8 +69,9 @@ pub fn run(n: usize, script: &[u8], out: &mut [u8]) -> Ran
     let mut cells = [no_cell(); 256];
     let mut events = [no_event(); 256];
     let mut sees = [0u64; 1024];
+    let mut puts = [0u64; 4];
     let mut count: usize = 0;
-    let mut deliveries: usize = 0;
+    let mut brought: usize = 0;
     let mut k: usize = 0;
     while k < script.len() / 8 {
         let c = script::asked_at(script, 8 * k);
@@ -92,9 +94,30 @@ pub fn run(n: usize, script: &[u8], out: &mut [u8]) -> Ran
                 kept[s] = sites::after_delivery(site, put);
                 cells[at] = sites::merged(x, put);
                 sites::learn(&mut known, s, &sees, w);
-                deliveries += 1;
+                brought += 1;
                 write(out, 8 * k, [0; 8]);
             }
+        } else if c.kind == 4 {
+            let mut copies: usize = 0;
+            let mut lacked = sites::first_lacked(n, &puts, &known);
+            while lacked < 256 {
+                let copy = events[lacked];
+                for t in 0..n {
+                    if !rows::test(&known, 256 * t + lacked) {
+                        let to = kept[t];
+                        let at = 32 * t + copy.object as usize % 32;
+                        let x = cells[at];
+                        kept[t] = sites::after_delivery(to, copy);
+                        cells[at] = sites::merged(x, copy);
+                        sites::learn(&mut known, t, &sees, lacked);
+                        copies += 1;
+                    }
+                }
+                lacked = sites::first_lacked(n, &puts, &known);
+            }
+            brought += copies;
+            let bytes = serve::closed(copies as u32);
+            write(out, 8 * k, bytes);
         } else {
             let own = kept[s];
             let at = 32 * s + c.object as usize % 32;
@@ -108,6 +131,7 @@ pub fn run(n: usize, script: &[u8], out: &mut [u8]) -> Ran
             cells[at] = cell;
             events[count] = event;
             sites::see(&mut known, s, &mut sees, count);
+            puts[count / 64] |= (event.put as u64) << (count % 64);
             count += 1;
             write(out, 8 * k, bytes);
         }
@@ -117,6 +141,6 @@ pub fn run(n: usize, script: &[u8], out: &mut [u8]) -> Ran
         count: count,
         events: events,
         sees: sees,
-        deliveries: deliveries,
+        brought: brought,
     }
 }

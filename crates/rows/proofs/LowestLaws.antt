@@ -1,13 +1,13 @@
 -- Laws of the lowest and the highest number at which a test holds. Assumes nothing.
 use mathlib.Core.Path.{_≡_, refl, sym, ap, _∙_}
-use mathlib.Core.Bool.{Bool, true, false, cond, not, _&&_, _||_}
+use mathlib.Core.Bool.{Bool, true, false, cond, not, _||_}
 use Prim.Native.Nat.{ℕ, zero, suc, _+_, _-_, _<_, _≤_}
 use native.Mathlib.Omega.{arith}
 use native.Mathlib.Nat.{le-refl}
 use lib.Dec.{ltb, leb}
 use borrow.Author.Tests.{ltb-true, ltb-false, lt-ltb, le-ltb, leb-true, leb-false}
 use Rattle.rows.specs.Lowest.{searchFrom, lowest, some, searchDown, highest}
-use Rattle.rows.proofs.Tests.{split, tell, same-test, or-elim, or-left, or-right, and-left, and-right}
+use Rattle.rows.proofs.Tests.{split, tell, same-test, or-elim, or-left, or-right}
 
 -- ---- what is known of the lowest, and that it is the only such number
 
@@ -160,22 +160,6 @@ unfolding some
 none-test n f r e = split (leb n r)
     (λ t. t ∙ sym (ap not (le-ltb (lowest n f) n (omega (arith, leb-true n r t)))))
     (λ t. t ∙ sym (ap not (lt-ltb (lowest n f) n (omega (arith, leb-false n r t)))))
-
--- ---- a test f among m numbers that holds only below n, where it is g
-
-module _ (m n : ℕ) (f g : ℕ → Bool) (wide : n ≤ m) (cut : (x : ℕ) → f x ≡ (ltb x n && g x)) where
-  inner : (x : ℕ) → x < n → g x ≡ f x
-  inner x h = sym (cut x ∙ ap (λ (t : Bool). t && g x) (lt-ltb x n h))
-
-  outer : (x : ℕ) → f x ≡ true → (x < n) × (g x ≡ true)
-  outer x e =
-      let t : ltb x n && g x ≡ true = sym (cut x) ∙ e in
-      (ltb-true x n (and-left (ltb x n) (g x) t), and-right (ltb x n) (g x) t)
-
-  pub some-cut : some m f ≡ some n g
-  some-cut = same-test (some m f) (some n g)
-      (λ e. let p = outer (lowest m f) (some-at m f e .1) in some-of n g (lowest m f) (p .0) (p .1))
-      (λ e. let p = some-at n g e in some-of m f (lowest n g) (omega (arith, p .0)) (sym (inner (lowest n g) (p .0)) ∙ p .1))
 
 -- ---- the highest
 

@@ -9,10 +9,9 @@ use lib.Dec.{ltb, eqb}
 use borrow.Author.Tests.{ltb-true, ltb-false, eqb-true, eq-eqb}
 use Rattle.rows.proofs.Tests.{split, tell, or-elim, or-left, or-right}
 use Rattle.store.specs.Store.{upd, merge, Site, Event, Store}
-use Rattle.store.specs.Calls.{deliver}
-use Rattle.store.specs.Rules.{valueOr0, afterDelivery, effect}
+use Rattle.store.specs.Rules.{valueOr0, afterDelivery, withCopy}
 use Rattle.store.proofs.UpdateLaws.{upd-elim, raise-le, lt-suc-elim}
-use Rattle.store.proofs.Invariant.{Table, place, totals, HoldsLast, EventInv, SiteInv, StoreInv, totals-more, event-more, site-more, holds-more, holds-merged}
+use Rattle.store.proofs.Invariant.{Table, place, totals, HoldsLast, CountedPut, EventInv, SiteInv, StoreInv, totals-more, event-more, site-more, counted-more, holds-more, holds-merged}
 
 -- what a delivery of w, whose event is e, to t has that is not refused
 pub record Deliverable (st : Store) (w t : ℕ) (e : Event) : Type 0 where
@@ -20,6 +19,13 @@ pub record Deliverable (st : Store) (w t : ℕ) (e : Event) : Type 0 where
   pub isPut : e .isPut ≡ true
   pub lacks : st .site t .known w ≡ false
   pub reached : (i : ℕ) → i < 8 → e .needs i ≤ st .site t .held i
+
+-- a site then still knows what it knew, and knows the put
+pub still-known : (a : Site) (w : ℕ) (e : Event) (x : ℕ) → a .known x ≡ true → afterDelivery a w e .known x ≡ true
+still-known a w e x h = or-right (eqb x w) (e .sees x || a .known x) (or-right (e .sees x) (a .known x) h)
+
+pub put-known : (a : Site) (w : ℕ) (e : Event) → afterDelivery a w e .known w ≡ true
+put-known a w e = or-left (eqb w w) (e .sees w || a .known w) (eq-eqb w w refl)
 
 module _ (n : ℕ) (n≤8 : n ≤ 8) (F : Table) (st : Store) (ok : StoreInv n F st) (w t : ℕ) (d : Deliverable st w t (F w)) where
   event-w : EventInv n F (totals (st .site)) w
@@ -61,13 +67,13 @@ module _ (n : ℕ) (n≤8 : n ≤ 8) (F : Table) (st : Store) (ok : StoreInv n F
 
   -- what t knows then
   knows : (x : ℕ) → st .site t .known x ≡ true → afterDelivery (st .site t) w (F w) .known x ≡ true
-  knows x h = or-right (eqb x w) (F w .sees x || st .site t .known x) (or-right (F w .sees x) (st .site t .known x) h)
+  knows = still-known (st .site t) w (F w)
 
   knows-seen : (x : ℕ) → F w .sees x ≡ true → afterDelivery (st .site t) w (F w) .known x ≡ true
   knows-seen x h = or-right (eqb x w) (F w .sees x || st .site t .known x) (or-left (F w .sees x) (st .site t .known x) h)
 
   knows-w : afterDelivery (st .site t) w (F w) .known w ≡ true
-  knows-w = or-left (eqb w w) (F w .sees w || st .site t .known w) (eq-eqb w w refl)
+  knows-w = put-known (st .site t) w (F w)
 
   came : {C : Type 0} (x : ℕ) → afterDelivery (st .site t) w (F w) .known x ≡ true
       → (x ≡ w → C) → (F w .sees x ≡ true → C) → (st .site t .known x ≡ true → C) → C
@@ -75,7 +81,7 @@ module _ (n : ℕ) (n≤8 : n ≤ 8) (F : Table) (st : Store) (ok : StoreInv n F
       or-elim (eqb x w) (F w .sees x || st .site t .known x) h (λ e. f (eqb-true x w e))
       (λ e. or-elim (F w .sees x) (st .site t .known x) e g k)
 
-  came-put : (q : ℕ) → afterDelivery (st .site t) w (F w) .known q ≡ true → F q .isPut ≡ true → (q ≡ w) ⊎ (st .site t .known q ≡ true)
+  pub came-put : (q : ℕ) → afterDelivery (st .site t) w (F w) .known q ≡ true → F q .isPut ≡ true → (q ≡ w) ⊎ (st .site t .known q ≡ true)
   came-put q h i = came q h (λ x. inl x) (λ x. inr (seen-known q x i)) (λ x. inr x)
 
   known-below : (e : ℕ) → afterDelivery (st .site t) w (F w) .known e ≡ true → e < st .count
@@ -106,6 +112,13 @@ module _ (n : ℕ) (n≤8 : n ≤ 8) (F : Table) (st : Store) (ok : StoreInv n F
         (λ x. knows e (ok .sites t .held-known e h i (omega (arith, ap (st .site t .held) s))))
         (λ x. rw (one-place e h i s (x ∙ next)) knows-w))
         (λ s l. knows e (ok .sites t .held-known e h i l));
+    counted = λ i p.
+        upd-elim (λ (y : ℕ). p < y → CountedPut F (afterDelivery (st .site t) w (F w) .known) i p)
+        (st .site t .held) (F w .site) (suc (st .site t .held (F w .site))) i
+        (λ s l. lt-suc-elim p (st .site t .held (F w .site)) l
+        (λ x. counted-more knows (ok .sites t .counted i p (omega (arith, ap (st .site t .held) s))))
+        (λ x. record { put = w; seen = knows-w; isPut = d .isPut; site = sym s; place = sym (x ∙ next) }))
+        (λ s l. counted-more knows (ok .sites t .counted i p l));
     held-made = λ i.
         upd-elim (λ (y : ℕ). y ≤ totals (st .site) i) (st .site t .held) (F w .site) (suc (st .site t .held (F w .site))) i
         (λ s. rw (s, next) (event-w .place-made (d .isPut)))
@@ -129,8 +142,7 @@ module _ (n : ℕ) (n≤8 : n ≤ 8) (F : Table) (st : Store) (ok : StoreInv n F
         (ok .sites t .cell o));
   }
 
-  pub deliver-keeps : F w ≡ st .event w → StoreInv n F (effect st (deliver w t))
-  unfolding effect
+  pub deliver-keeps : F w ≡ st .event w → StoreInv n F (withCopy st w t)
   deliver-keeps eF =
       let b : Site = afterDelivery (st .site t) w (st .event w) in
       let there : SiteInv F (st .count) (totals (st .site)) t b = rw eF at delivered in

@@ -49,6 +49,14 @@ abbrev pub ShowsLast : Table → (ℕ → Bool) → ℕ → Held → Type 0
 ShowsLast F K o none = NoPut F K o
 ShowsLast F K o (value v) = (p : ℕ) × LastPut F K o p × (F p .shown ≡ value v)
 
+-- the put of site i with place p is in the set K
+pub record CountedPut (F : Table) (K : ℕ → Bool) (i p : ℕ) : Type 0 where
+  pub put : ℕ
+  pub seen : K put ≡ true
+  pub isPut : F put .isPut ≡ true
+  pub site : F put .site ≡ i
+  pub place : place (F put) ≡ p
+
 -- of event e, where the sites have made so many puts each
 pub record EventInv (n : ℕ) (F : Table) (made : ℕ → ℕ) (e : ℕ) : Type 0 where
   pub site : F e .site < n
@@ -57,8 +65,9 @@ pub record EventInv (n : ℕ) (F : Table) (made : ℕ → ℕ) (e : ℕ) : Type 
   pub session : (f : ℕ) → f < e → F f .site ≡ F e .site → F e .sees f ≡ true
   pub rises : (f : ℕ) → F e .sees f ≡ true → F f .stamp < F e .stamp
   pub stamp : F e .stamp ≤ suc e
-  -- needs count the puts that it sees
+  -- needs count the puts that it sees, and it sees every put that they count
   pub needs : (f : ℕ) → F e .sees f ≡ true → F f .isPut ≡ true → place (F f) < F e .needs (F f .site)
+  pub counted : (i p : ℕ) → p < F e .needs i → CountedPut F (F e .sees) i p
   pub needs-made : (i : ℕ) → F e .needs i ≤ made i
   pub place-made : F e .isPut ≡ true → place (F e) < made (F e .site)
   pub written : F e .isPut ≡ true → F e .shown ≡ value (valueOr0 (F e .shown))
@@ -74,6 +83,7 @@ pub record SiteInv (F : Table) (m : ℕ) (made : ℕ → ℕ) (s : ℕ) (a : Sit
   -- of each site's puts, the first `held` are known and no others
   pub known-held : (e : ℕ) → a .known e ≡ true → F e .isPut ≡ true → place (F e) < a .held (F e .site)
   pub held-known : (e : ℕ) → e < m → F e .isPut ≡ true → place (F e) < a .held (F e .site) → a .known e ≡ true
+  pub counted : (i p : ℕ) → p < a .held i → CountedPut F (a .known) i p
   pub held-made : (i : ℕ) → a .held i ≤ made i
   pub cell : (o : ℕ) → HoldsLast F (a .known) o (a .cell o)
 
@@ -96,6 +106,7 @@ event-more {n} {F} {made} {made′} {e} up h = record {
   rises = h .rises;
   stamp = h .stamp;
   needs = h .needs;
+  counted = h .counted;
   needs-made = λ i. omega (arith, h .needs-made i, up i);
   place-made = λ p. omega (arith, h .place-made p, up (F e .site));
   written = h .written;
@@ -111,9 +122,15 @@ site-more up h = record {
   clock-few = h .clock-few;
   known-held = h .known-held;
   held-known = h .held-known;
+  counted = h .counted;
   held-made = λ i. omega (arith, h .held-made i, up i);
   cell = h .cell;
 }
+
+-- ---- more events known
+
+pub counted-more : {F : Table} {K L : ℕ → Bool} {i p : ℕ} → ((q : ℕ) → K q ≡ true → L q ≡ true) → CountedPut F K i p → CountedPut F L i p
+counted-more up c = record { put = c .put; seen = up (c .put) (c .seen); isPut = c .isPut; site = c .site; place = c .place }
 
 -- ---- the order of (stamp, site), as keys
 

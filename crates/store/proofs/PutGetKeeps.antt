@@ -9,7 +9,7 @@ use Rattle.store.specs.Store.{upd, full, cellValue, Site, Event, Store}
 use Rattle.store.specs.Calls.{put, get}
 use Rattle.store.specs.Rules.{valueOr0, made, afterPut, afterGet, effect}
 use Rattle.store.proofs.UpdateLaws.{upd-elim, upd-same, raise-le, lt-suc-elim}
-use Rattle.store.proofs.Invariant.{Table, key, place, totals, HoldsLast, ShowsLast, EventInv, SiteInv, StoreInv, totals-more, event-more, holds-more, holds-shows}
+use Rattle.store.proofs.Invariant.{Table, key, place, totals, HoldsLast, ShowsLast, CountedPut, EventInv, SiteInv, StoreInv, totals-more, event-more, counted-more, holds-more, holds-shows}
 
 module _ (n : ℕ) (n≤8 : n ≤ 8) (F : Table) (st : Store) (ok : StoreInv n F st) (s : ℕ) (s<n : s < n) where
   -- the new event sees what its site knew
@@ -25,6 +25,7 @@ module _ (n : ℕ) (n≤8 : n ≤ 8) (F : Table) (st : Store) (ok : StoreInv n F
     rises = λ f h. rw eF (omega (arith, ok .sites s .clock f (rw eF at h)));
     stamp = rw eF (omega (arith, ok .sites s .clock-few));
     needs = λ f h i. rw eF (ok .sites s .known-held f (rw eF at h) i);
+    counted = λ i q l. rw eF (ok .sites s .counted i q (rw eF at l));
     needs-made = λ i. rw eF (omega (arith, ok .sites s .held-made i, more i));
     place-made = λ q. rw eF (rise (rw eF at q));
     written = λ q. rw eF (written (rw eF at q));
@@ -76,6 +77,13 @@ module _ (n : ℕ) (n≤8 : n ≤ 8) (F : Table) (st : Store) (ok : StoreInv n F
         (st .site s .held) s (suc (st .site s .held s)) (F e .site)
         (λ q x. own-then e h q)
         (λ q x. lt-suc-elim e (st .count) h (λ l. knows e (ok .sites s .held-known e l i x)) (λ l. rw l knows-new));
+    counted = λ i p.
+        upd-elim (λ (y : ℕ). p < y → CountedPut F (upd (st .site s .known) (st .count) true) i p)
+        (st .site s .held) s (suc (st .site s .held s)) i
+        (λ q l. lt-suc-elim p (st .site s .held s) l
+        (λ x. counted-more knows (ok .sites s .counted i p (omega (arith, ap (st .site s .held) q))))
+        (λ x. record { put = st .count; seen = knows-new; isPut = rw eF; site = rw (eF, q); place = rw (eF, x) }))
+        (λ q l. counted-more knows (ok .sites s .counted i p l));
     held-made = λ i.
         upd-elim (λ (y : ℕ). y ≤ totals′ i) (st .site s .held) s (suc (st .site s .held s)) i
         (λ q. rw q rise)
@@ -113,6 +121,7 @@ module _ (n : ℕ) (n≤8 : n ≤ 8) (F : Table) (st : Store) (ok : StoreInv n F
     clock-few = omega (arith, ok .sites s .clock-few);
     known-held = λ e h i. came e h (λ l. absurd (false≢true (rw (l, eF) at i))) (λ l. ok .sites s .known-held e l i);
     held-known = λ e h i y. lt-suc-elim e (st .count) h (λ l. knows e (ok .sites s .held-known e l i y)) (λ l. rw l knows-new);
+    counted = λ i p l. counted-more knows (ok .sites s .counted i p l);
     held-made = λ i. omega (arith, ok .sites s .held-made i, more i);
     cell = λ o′.
         holds-more F (st .site s .known) (upd (st .site s .known) (st .count) true) o′ (st .site s .cell o′) knows
@@ -134,11 +143,12 @@ module _ (n : ℕ) (n≤8 : n ≤ 8) (F : Table) (st : Store) (ok : StoreInv n F
     held-known = λ e l i y.
         lt-suc-elim e (st .count) l (λ h. ok .sites t .held-known e h i y)
         (λ h. let z : st .site s .held s < st .site t .held s = rw (h, eF) at y in absurd (omega (arith, ok .sites t .held-made s)));
+    counted = ok .sites t .counted;
     held-made = λ i. omega (arith, ok .sites t .held-made i, more i);
     cell = ok .sites t .cell;
   }
 
-  pub put-keeps : (o v : ℕ) → F (st .count) ≡ made st s true o (value v) → StoreInv n F (effect st (put s o v))
+  pub put-keeps : (o v : ℕ) → F (st .count) ≡ made st s true o (value v) → StoreInv n F (effect n st (put s o v))
   unfolding effect
   put-keeps o v eF =
       let b : Site = afterPut (st .site s) s (st .count) o v in
@@ -161,7 +171,7 @@ module _ (n : ℕ) (n≤8 : n ≤ 8) (F : Table) (st : Store) (ok : StoreInv n F
             (λ q. omega (arith, ok .few i));
       }
 
-  pub get-keeps : (o : ℕ) → F (st .count) ≡ made st s false o (cellValue (st .site s .cell o)) → StoreInv n F (effect st (get s o))
+  pub get-keeps : (o : ℕ) → F (st .count) ≡ made st s false o (cellValue (st .site s .cell o)) → StoreInv n F (effect n st (get s o))
   unfolding effect
   get-keeps o eF =
       let x : Held = cellValue (st .site s .cell o) in

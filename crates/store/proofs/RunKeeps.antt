@@ -6,13 +6,13 @@ use Prim.Native.Nat.{ℕ, zero, suc, _≤_, _<_}
 use native.Mathlib.Omega.{arith}
 use native.Mathlib.Nat.{le-refl}
 use lib.Dec.{leb, ltb, eqb}
-use borrow.Author.Tests.{ltb-true, leb-true, eqb-true, not-true}
-use Rattle.rows.proofs.Tests.{and-left, and-right}
+use borrow.Author.Tests.{ltb-true, leb-true, le-leb, eqb-true, not-true}
+use Rattle.rows.proofs.Tests.{and-both, and-left, and-right}
 use Rattle.consistency.specs.Reads.{value}
 use Rattle.store.specs.Store.{cellValue, Store, fresh}
-use Rattle.store.specs.Calls.{Call, put, get, deliver, malformed}
+use Rattle.store.specs.Calls.{Call, put, get, deliver, close, malformed}
 use Rattle.record.specs.Questions.{ask}
-use Rattle.store.specs.Rules.{reached, refusal, made, effect, afterCall, run}
+use Rattle.store.specs.Rules.{reached, refusal, made, withCopy, Copy, copyRefusal, afterCopy, afterCopies, closeCopies, effect, afterCall, run}
 use Rattle.store.proofs.UpdateLaws.{upd-same, upd-below, lt-suc-elim}
 use Rattle.store.proofs.Invariant.{Table, StoreInv}
 use Rattle.store.proofs.DeliverKeeps.{Deliverable, deliver-keeps}
@@ -35,6 +35,12 @@ reached-le (suc k) needs held h i l =
     lt-suc-elim i k l
     (λ q. reached-le k needs held (and-left (reached k needs held) (leb (needs k) (held k)) h) i q)
     (λ q. rw q (leb-true (needs k) (held k) (and-right (reached k needs held) (leb (needs k) (held k)) h)))
+
+pub reached-true : (k : ℕ) (needs held : ℕ → ℕ) → ((i : ℕ) → i < k → needs i ≤ held i) → reached k needs held ≡ true
+unfolding reached
+reached-true zero needs held h = refl
+reached-true (suc k) needs held h =
+    and-both (reached k needs held) (leb (needs k) (held k)) (reached-true k needs held (λ i l. h i (omega arith))) (le-leb (needs k) (held k) (h k (le-refl _)))
 
 -- what a put or a get on object o at s has that is not refused
 pub record Doable (n : ℕ) (st : Store) (s o : ℕ) : Type 0 where
@@ -86,13 +92,24 @@ unfolding refusal
 delivery-site n st w t r = ltb-true t n (ask-yes (ltb t n) 31 _ r)
 
 -- a step keeps what every call keeps that is not refused
-pub step-elim : (n : ℕ) (st : Store) (c : Call) (P : Store → Type 0) → (refusal n st c ≡ 0 → P (effect st c)) → P st → P (afterCall n st c)
+pub step-elim : (n : ℕ) (st : Store) (c : Call) (P : Store → Type 0) → (refusal n st c ≡ 0 → P (effect n st c)) → P st → P (afterCall n st c)
 unfolding afterCall
 step-elim n st c P done refused = go (eqb (refusal n st c) 0) refl
   where
-    go : (t : Bool) → eqb (refusal n st c) 0 ≡ t → P (cond t (effect st c) st)
+    go : (t : Bool) → eqb (refusal n st c) 0 ≡ t → P (cond t (effect n st c) st)
     go true e = done (eqb-true (refusal n st c) 0 e)
     go false e = refused
+
+-- a close keeps what every delivery keeps that is not refused
+pub copies-keep : (n : ℕ) (P : Store → Type 0) → ((st : Store) (w t : ℕ) → refusal n st (deliver w t) ≡ 0 → P st → P (withCopy st w t))
+    → (cs : List Copy) (st : Store) → P st → P (afterCopies n st cs)
+unfolding afterCopies afterCopy
+copies-keep n P keeps [] st p = p
+copies-keep n P keeps (c ∷ cs) st p = copies-keep n P keeps cs (afterCopy n st c) (go (eqb (copyRefusal n st c) 0) refl)
+  where
+    go : (t : Bool) → eqb (copyRefusal n st c) 0 ≡ t → P (cond t (withCopy st (c .event) (c .site)) st)
+    go true e = keeps st (c .event) (c .site) (eqb-true (copyRefusal n st c) 0 e) p
+    go false e = p
 
 -- ---- what is done stays
 
@@ -103,21 +120,22 @@ pub record Stays (st later : Store) : Type 0 where
 stays-here : (st : Store) → Stays st st
 stays-here st = record { count = le-refl _; event = λ e l. refl }
 
-effect-stays : (st : Store) (c : Call) → Stays st (effect st c)
+effect-stays : (n : ℕ) (st : Store) (c : Call) → Stays st (effect n st c)
 unfolding effect
-effect-stays st (put s o v) = record {
+effect-stays n st (put s o v) = record {
   count = omega arith;
   event = upd-below (st .event) (st .count) (made st s true o (value v));
 }
-effect-stays st (get s o) = record {
+effect-stays n st (get s o) = record {
   count = omega arith;
   event = upd-below (st .event) (st .count) (made st s false o (cellValue (st .site s .cell o)));
 }
-effect-stays st (deliver w t) = record { count = le-refl _; event = λ e l. refl }
-effect-stays st malformed = stays-here st
+effect-stays n st (deliver w t) = record { count = le-refl _; event = λ e l. refl }
+effect-stays n st close = copies-keep n (Stays st) (λ x w t r h. record { count = h .count; event = h .event }) (closeCopies n st) st (stays-here st)
+effect-stays n st malformed = stays-here st
 
 pub step-stays : (n : ℕ) (st : Store) (c : Call) → Stays st (afterCall n st c)
-step-stays n st c = step-elim n st c (Stays st) (λ r. effect-stays st c) (stays-here st)
+step-stays n st c = step-elim n st c (Stays st) (λ r. effect-stays n st c) (stays-here st)
 
 pub run-stays : (n : ℕ) (st : Store) (cs : List Call) → Stays st (run n st cs)
 unfolding run
@@ -139,8 +157,22 @@ Has F st = (e : ℕ) → e < st .count → F e ≡ st .event e
 pub has-earlier : (F : Table) (st later : Store) → Stays st later → Has F later → Has F st
 has-earlier F st later h k e l = k e (omega (arith, h .count)) ∙ h .event e l
 
-effect-keeps : (n : ℕ) → n ≤ 8 → (F : Table) (st : Store) → StoreInv n F st → (c : Call) → refusal n st c ≡ 0 → Has F (effect st c)
-    → StoreInv n F (effect st c)
+-- a delivery changes no event
+copy-keeps : (n : ℕ) → n ≤ 8 → (F : Table) (st : Store) (w t : ℕ) → refusal n st (deliver w t) ≡ 0 → Has F st × StoreInv n F st
+    → Has F (withCopy st w t) × StoreInv n F (withCopy st w t)
+copy-keeps n n≤8 F st w t r h =
+    let d = deliverable n st w t r in
+    let eF : F w ≡ st .event w = h .0 w (d .done) in
+    (h .0, deliver-keeps n n≤8 F st (h .1) w t (rw eF d) eF)
+
+pub copy-inv : (n : ℕ) → n ≤ 8 → (st : Store) (w t : ℕ) → refusal n st (deliver w t) ≡ 0 → StoreInv n (st .event) st → StoreInv n (st .event) (withCopy st w t)
+copy-inv n n≤8 st w t done ok = copy-keeps n n≤8 (st .event) st w t done ((λ e l. refl), ok) .1
+
+pub copies-inv : (n : ℕ) → n ≤ 8 → (cs : List Copy) (st : Store) → StoreInv n (st .event) st → StoreInv n (afterCopies n st cs .event) (afterCopies n st cs)
+copies-inv n n≤8 = copies-keep n (λ (x : Store). StoreInv n (x .event) x) (copy-inv n n≤8)
+
+effect-keeps : (n : ℕ) → n ≤ 8 → (F : Table) (st : Store) → StoreInv n F st → (c : Call) → refusal n st c ≡ 0 → Has F (effect n st c)
+    → StoreInv n F (effect n st c)
 unfolding effect
 effect-keeps n n≤8 F st ok (put s o v) r has =
     put-keeps n n≤8 F st ok s (put-doable n st s o v r .site) o v
@@ -148,10 +180,10 @@ effect-keeps n n≤8 F st ok (put s o v) r has =
 effect-keeps n n≤8 F st ok (get s o) r has =
     get-keeps n n≤8 F st ok s (get-doable n st s o r .site) o
     (has (st .count) (le-refl _) ∙ upd-same (st .event) (st .count) (made st s false o (cellValue (st .site s .cell o))))
-effect-keeps n n≤8 F st ok (deliver w t) r has =
-    let d = deliverable n st w t r in
-    let eF : F w ≡ st .event w = has w (d .done) in
-    deliver-keeps n n≤8 F st ok w t (rw eF d) eF
+effect-keeps n n≤8 F st ok (deliver w t) r has = copy-keeps n n≤8 F st w t r (has, ok) .1
+effect-keeps n n≤8 F st ok close r has =
+    copies-keep n (λ (x : Store). Has F x × StoreInv n F x) (λ x w t. copy-keeps n n≤8 F x w t) (closeCopies n st) st
+    (has-earlier F st (effect n st close) (effect-stays n st close) has, ok) .1
 effect-keeps n n≤8 F st ok malformed r has = ok
 
 pub step-keeps : (n : ℕ) → n ≤ 8 → (F : Table) (st : Store) → StoreInv n F st → (c : Call) → Has F (afterCall n st c) → StoreInv n F (afterCall n st c)
@@ -177,6 +209,7 @@ fresh-keeps n F = record {
     clock-few = le-refl _;
     known-held = λ e h i. absurd (false≢true h);
     held-known = λ e l i x. absurd (omega arith);
+    counted = λ i p l. absurd (omega arith);
     held-made = λ i. le-refl _;
     cell = λ o q h i b. absurd (false≢true h);
   };

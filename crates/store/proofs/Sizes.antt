@@ -13,11 +13,11 @@ use Rattle.record.specs.Layout.{byte}
 use Rattle.record.proofs.StoresLaws.{Bytes}
 use Rattle.consistency.specs.Reads.{Held, none, value}
 use Rattle.store.specs.Store.{upd, Cell, empty, full, cellValue, Event, Store, fresh}
-use Rattle.store.specs.Calls.{Call, put, get, deliver, malformed, callAt, callsFrom, callsOf}
-use Rattle.store.specs.Rules.{refusal, made, valueOr0, effect, afterCall, run}
+use Rattle.store.specs.Calls.{Call, put, get, deliver, close, malformed, callAt, callsFrom, callsOf}
+use Rattle.store.specs.Rules.{refusal, made, valueOr0, closeCopies, effect, afterCall, run}
 use Rattle.store.proofs.UpdateLaws.{upd-elim, lt-suc-elim}
 use Rattle.store.proofs.Invariant.{HoldsLast, ShowsLast, StoreInv}
-use Rattle.store.proofs.RunKeeps.{put-doable, get-doable, step-elim, every-run}
+use Rattle.store.proofs.RunKeeps.{put-doable, get-doable, step-elim, copies-keep, every-run}
 
 -- ---- every event
 
@@ -32,7 +32,7 @@ pub record Limits (st : Store) : Type 0 where
   pub count : st .count ≤ 256
   pub object : (e : ℕ) → e < st .count → st .event e .object ≤ 31
 
-effect-limits : (n : ℕ) (st : Store) → Limits st → (c : Call) → refusal n st c ≡ 0 → Limits (effect st c)
+effect-limits : (n : ℕ) (st : Store) → Limits st → (c : Call) → refusal n st c ≡ 0 → Limits (effect n st c)
 unfolding effect
 effect-limits n st h (put s o v) r =
     let d = put-doable n st s o v r in
@@ -45,6 +45,7 @@ effect-limits n st h (get s o) r =
           one-more (λ (x : Event). x .object ≤ 31) st (made st s false o (cellValue (st .site s .cell o))) (h .object) (d .object);
     }
 effect-limits n st h (deliver w t) r = record { count = h .count; object = h .object }
+effect-limits n st h close r = copies-keep n Limits (λ x w t r k. record { count = k .count; object = k .object }) (closeCopies n st) st h
 effect-limits n st h malformed r = h
 
 run-limits : (n : ℕ) (st : Store) (cs : List Call) → Limits st → Limits (run n st cs)
@@ -80,7 +81,7 @@ module _ (n : ℕ) (n≤8 : n ≤ 8) (st : Store) (ok : StoreInv n (st .event) s
       let l = ok .sites s .below (h .0) (h .1 .seen) in
       (omega (arith, ok .events (h .0) l .stamp, h .3), omega (arith, ok .events (h .0) l .site, h .4))
 
-  sizes : Sizes st
+  pub sizes : Sizes st
   sizes = record {
     stamp = λ e l. omega (arith, ok .events e l .stamp);
     needs = λ e i l. omega (arith, ok .events e l .needs-made i, ok .few i);
@@ -100,6 +101,7 @@ abbrev pub Fits : Call → Type 0
 Fits (put s o v) = v < 2 ^ 32
 Fits (get s o) = Unit {0}
 Fits (deliver w t) = Unit {0}
+Fits close = Unit {0}
 Fits malformed = Unit {0}
 
 abbrev pub AllFit : List Call → Type 0
@@ -113,19 +115,20 @@ Wrote e = e .isPut ≡ true → valueOr0 (e .shown) < 2 ^ 32
 abbrev Written : Store → Type 0
 Written st = (e : ℕ) → e < st .count → Wrote (st .event e)
 
-effect-written : (st : Store) (c : Call) → Fits c → Written st → Written (effect st c)
+effect-written : (n : ℕ) (st : Store) (c : Call) → Fits c → Written st → Written (effect n st c)
 unfolding effect
-effect-written st (put s o v) f h = one-more Wrote st (made st s true o (value v)) h (λ q. f)
-effect-written st (get s o) f h =
+effect-written n st (put s o v) f h = one-more Wrote st (made st s true o (value v)) h (λ q. f)
+effect-written n st (get s o) f h =
     one-more Wrote st (made st s false o (cellValue (st .site s .cell o))) h (λ q. absurd (false≢true q))
-effect-written st (deliver w t) f h = h
-effect-written st malformed f h = h
+effect-written n st (deliver w t) f h = h
+effect-written n st close f h = copies-keep n Written (λ x w t r k. k) (closeCopies n st) st h
+effect-written n st malformed f h = h
 
 run-written : (n : ℕ) (st : Store) (cs : List Call) → AllFit cs → Written st → Written (run n st cs)
 unfolding run
 run-written n st [] f h = h
 run-written n st (c ∷ cs) f h =
-    run-written n (afterCall n st c) cs (f .1) (step-elim n st c Written (λ r. effect-written st c (f .0) h) h)
+    run-written n (afterCall n st c) cs (f .1) (step-elim n st c Written (λ r. effect-written n st c (f .0) h) h)
 
 -- gets and cells have values of puts
 pub record Values (st : Store) : Type 0 where
@@ -170,9 +173,10 @@ call-fits s h at =
     let c : Call = deliver (little 2 s (at + 4)) (byte s (at + 1)) in
     let t = eqb (byte s at) 2 && eqb (little 4 s (at + 4)) 0 in
     let u = eqb (byte s at) 3 && (eqb (byte s (at + 2)) 0 && eqb (little 2 s (at + 6)) 0) in
-    cond-fits (eqb (byte s (at + 3)) 0) (cond (eqb (byte s at) 1) a (cond t b (cond u c malformed))) malformed
-    (cond-fits (eqb (byte s at) 1) a (cond t b (cond u c malformed)) (omega (arith, little-lt s h 4 (at + 4)))
-    (cond-fits t b (cond u c malformed) tt (cond-fits u c malformed tt tt)))
+    let v = eqb (byte s at) 4 && (eqb (byte s (at + 1)) 0 && (eqb (byte s (at + 2)) 0 && eqb (little 4 s (at + 4)) 0)) in
+    cond-fits (eqb (byte s (at + 3)) 0) (cond (eqb (byte s at) 1) a (cond t b (cond u c (cond v close malformed)))) malformed
+    (cond-fits (eqb (byte s at) 1) a (cond t b (cond u c (cond v close malformed))) (omega (arith, little-lt s h 4 (at + 4)))
+    (cond-fits t b (cond u c (cond v close malformed)) tt (cond-fits u c (cond v close malformed) tt (cond-fits v close malformed tt tt))))
     tt
 
 pub calls-from-fit : (s : List ℕ) → Bytes s → (k at : ℕ) → AllFit (callsFrom k s at)

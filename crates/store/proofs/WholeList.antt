@@ -1,16 +1,15 @@
 -- The whole list of calls, as a loop over a script goes through it: by what is left, and counted up from the first call. Assumes nothing.
 use mathlib.Core.Path.{_≡_, refl, sym, ap, _∙_}
-use mathlib.Core.Bool.{Bool, true, false, cond, _&&_}
+use mathlib.Core.Bool.{Bool, true, false, cond}
 use mathlib.Core.List.{List, [], _∷_, _++_, append-assoc, append-nil}
 use Prim.Native.Nat.{ℕ, zero, suc, _+_, _*_, _/_, _≤_}
 use native.Mathlib.Omega.{arith}
 use lib.Dec.{eqb}
 use lib.ListN.{length, length-append, replicate, length-replicate}
-use Rattle.record.specs.Encode.{bit}
-use Rattle.record.proofs.NumberBytes.{bit-le, length-little}
+use Rattle.record.proofs.NumberBytes.{length-little}
 use Rattle.store.specs.Store.{Store, fresh}
-use Rattle.store.specs.Calls.{Call, put, get, deliver, malformed, callAt, callsFrom, callsOf}
-use Rattle.store.specs.Rules.{refusal, afterCall, run, isDelivery, deliveries, doneAnswer, answer, answers}
+use Rattle.store.specs.Calls.{Call, put, get, deliver, close, malformed, callAt, callsFrom, callsOf}
+use Rattle.store.specs.Rules.{refusal, afterCall, run, total, doneAnswer, answer, answers}
 use Rattle.store.specs.Rehearsal.{storeAfter}
 use Rattle.store.proofs.Invariant.{StoreInv}
 use Rattle.store.proofs.RunKeeps.{every-run}
@@ -36,22 +35,18 @@ pub no-answers-left : (n : ℕ) (st : Store) (s : List ℕ) (at : ℕ) → answe
 unfolding answers callsFrom
 no-answers-left n st s at = refl
 
--- a call that is a done delivery counts 1, any other 0
-abbrev pub delivered : ℕ → Store → Call → ℕ
-delivered n st c = bit (isDelivery c && eqb (refusal n st c) 0)
+pub total-left : (f : ℕ → Store → Call → ℕ) (n : ℕ) (st : Store) (k : ℕ) (s : List ℕ) (at : ℕ)
+    → total f n st (callsFrom (suc k) s at) ≡ f n st (callAt s at) + total f n (afterCall n st (callAt s at)) (callsFrom k s (at + 8))
+unfolding total callsFrom
+total-left f n st k s at = refl
 
-pub deliveries-left : (n : ℕ) (st : Store) (k : ℕ) (s : List ℕ) (at : ℕ)
-    → deliveries n st (callsFrom (suc k) s at) ≡ delivered n st (callAt s at) + deliveries n (afterCall n st (callAt s at)) (callsFrom k s (at + 8))
-unfolding deliveries callsFrom
-deliveries-left n st k s at = refl
-
-pub no-deliveries-left : (n : ℕ) (st : Store) (s : List ℕ) (at : ℕ) → deliveries n st (callsFrom zero s at) ≡ 0
-unfolding deliveries callsFrom
-no-deliveries-left n st s at = refl
+pub no-total-left : (f : ℕ → Store → Call → ℕ) (n : ℕ) (st : Store) (s : List ℕ) (at : ℕ) → total f n st (callsFrom zero s at) ≡ 0
+unfolding total callsFrom
+no-total-left f n st s at = refl
 
 -- ---- counted up
 
--- the store after the first k calls of a script, their answers, and how many of them were done deliveries
+-- the store after the first k calls of a script, their answers, and a number of each added up
 unfoldable pub storeUpTo : ℕ → ℕ → List ℕ → Store
 storeUpTo zero n s = fresh
 storeUpTo (suc k) n s = afterCall n (storeUpTo k n s) (callAt s (8 * k))
@@ -60,9 +55,9 @@ unfoldable pub answersUpTo : ℕ → ℕ → List ℕ → List ℕ
 answersUpTo zero n s = []
 answersUpTo (suc k) n s = answersUpTo k n s ++ answer n (storeUpTo k n s) (callAt s (8 * k))
 
-unfoldable pub deliveriesUpTo : ℕ → ℕ → List ℕ → ℕ
-deliveriesUpTo zero n s = 0
-deliveriesUpTo (suc k) n s = deliveriesUpTo k n s + delivered n (storeUpTo k n s) (callAt s (8 * k))
+unfoldable pub totalUpTo : (ℕ → Store → Call → ℕ) → ℕ → ℕ → List ℕ → ℕ
+totalUpTo f zero n s = 0
+totalUpTo f (suc k) n s = totalUpTo f k n s + f n (storeUpTo k n s) (callAt s (8 * k))
 
 pub store-none : (n : ℕ) (s : List ℕ) → storeUpTo 0 n s ≡ fresh
 unfolding storeUpTo
@@ -80,19 +75,19 @@ pub answers-more : (k n : ℕ) (s : List ℕ) → answersUpTo (suc k) n s ≡ an
 unfolding answersUpTo
 answers-more k n s = refl
 
-pub deliveries-none : (n : ℕ) (s : List ℕ) → deliveriesUpTo 0 n s ≡ 0
-unfolding deliveriesUpTo
-deliveries-none n s = refl
+pub total-none : (f : ℕ → Store → Call → ℕ) (n : ℕ) (s : List ℕ) → totalUpTo f 0 n s ≡ 0
+unfolding totalUpTo
+total-none f n s = refl
 
-pub deliveries-more : (k n : ℕ) (s : List ℕ) → deliveriesUpTo (suc k) n s ≡ deliveriesUpTo k n s + delivered n (storeUpTo k n s) (callAt s (8 * k))
-unfolding deliveriesUpTo
-deliveries-more k n s = refl
+pub total-more : (f : ℕ → Store → Call → ℕ) (k n : ℕ) (s : List ℕ) → totalUpTo f (suc k) n s ≡ totalUpTo f k n s + f n (storeUpTo k n s) (callAt s (8 * k))
+unfolding totalUpTo
+total-more f k n s = refl
 
-pub deliveries-most : (k n : ℕ) (s : List ℕ) → deliveriesUpTo k n s ≤ k
-unfolding deliveriesUpTo
-deliveries-most zero n s = omega arith
-deliveries-most (suc k) n s =
-    omega (arith, deliveries-most k n s, bit-le (isDelivery (callAt s (8 * k)) && eqb (refusal n (storeUpTo k n s) (callAt s (8 * k))) 0))
+-- two numbers of each call
+pub total-add : (f g : ℕ → Store → Call → ℕ) (n : ℕ) (st : Store) (cs : List Call) → total (λ m x c. f m x c + g m x c) n st cs ≡ total f n st cs + total g n st cs
+unfolding total
+total-add f g n st [] = refl
+total-add f g n st (c ∷ cs) = omega (arith, total-add f g n (afterCall n st c) cs)
 
 -- after k calls, j more make what k + j make
 run-on : (j k n : ℕ) (s : List ℕ) → run n (storeUpTo k n s) (callsFrom j s (8 * k)) ≡ storeUpTo (k + j) n s
@@ -121,22 +116,22 @@ answers-on (suc j) k n s =
     ∙ answers-on j (suc k) n s
     ∙ ap (λ (i : ℕ). answersUpTo i n s) (omega arith)
 
-deliveries-on : (j k n : ℕ) (s : List ℕ) → deliveriesUpTo k n s + deliveries n (storeUpTo k n s) (callsFrom j s (8 * k)) ≡ deliveriesUpTo (k + j) n s
-deliveries-on zero k n s =
+total-on : (f : ℕ → Store → Call → ℕ) (j k n : ℕ) (s : List ℕ) → totalUpTo f k n s + total f n (storeUpTo k n s) (callsFrom j s (8 * k)) ≡ totalUpTo f (k + j) n s
+total-on f zero k n s =
     let same : k ≡ k + 0 = omega arith in
-    omega (arith, no-deliveries-left n (storeUpTo k n s) s (8 * k), ap (λ (i : ℕ). deliveriesUpTo i n s) same)
-deliveries-on (suc j) k n s =
+    omega (arith, no-total-left f n (storeUpTo k n s) s (8 * k), ap (λ (i : ℕ). totalUpTo f i n s) same)
+total-on f (suc j) k n s =
     let now : Store = storeUpTo k n s in
     let next : 8 * k + 8 ≡ 8 * suc k = omega arith in
     let same : suc k + j ≡ k + suc j = omega arith in
-    let left : deliveries n (afterCall n now (callAt s (8 * k))) (callsFrom j s (8 * k + 8)) ≡ deliveries n (storeUpTo (suc k) n s) (callsFrom j s (8 * suc k)) =
+    let left : total f n (afterCall n now (callAt s (8 * k))) (callsFrom j s (8 * k + 8)) ≡ total f n (storeUpTo (suc k) n s) (callsFrom j s (8 * suc k)) =
     rw (store-more k n s, next) refl in omega (
       arith,
-      deliveries-left n now j s (8 * k),
+      total-left f n now j s (8 * k),
       left,
-      deliveries-more k n s,
-      deliveries-on j (suc k) n s,
-      ap (λ (i : ℕ). deliveriesUpTo i n s) same,
+      total-more f k n s,
+      total-on f j (suc k) n s,
+      ap (λ (i : ℕ). totalUpTo f i n s) same,
     )
 
 -- the first k calls are a list of calls, so what every list has, they have
@@ -148,9 +143,9 @@ pub answers-up-to : (k n : ℕ) (s : List ℕ) → answersUpTo k n s ≡ answers
 unfolding storeUpTo answersUpTo
 answers-up-to k n s = let z : k ≡ 0 + k = omega arith in ap (λ (i : ℕ). answersUpTo i n s) z ∙ sym (answers-on k 0 n s)
 
-pub deliveries-up-to : (k n : ℕ) (s : List ℕ) → deliveriesUpTo k n s ≡ deliveries n fresh (callsFrom k s 0)
-unfolding storeUpTo deliveriesUpTo
-deliveries-up-to k n s = let z : k ≡ 0 + k = omega arith in omega (arith, ap (λ (i : ℕ). deliveriesUpTo i n s) z, deliveries-on k 0 n s)
+pub total-up-to : (f : ℕ → Store → Call → ℕ) (k n : ℕ) (s : List ℕ) → totalUpTo f k n s ≡ total f n fresh (callsFrom k s 0)
+unfolding storeUpTo totalUpTo
+total-up-to f k n s = let z : k ≡ 0 + k = omega arith in omega (arith, ap (λ (i : ℕ). totalUpTo f i n s) z, total-on f k 0 n s)
 
 pub up-to-keeps : (k n : ℕ) → n ≤ 8 → (s : List ℕ) → StoreInv n (storeUpTo k n s .event) (storeUpTo k n s)
 up-to-keeps k n n≤8 s = rw store-up-to (every-run n n≤8 (callsFrom k s 0))
@@ -170,26 +165,27 @@ pub answers-whole : (n : ℕ) (s : List ℕ) → answersUpTo (length s / 8) n s 
 unfolding callsOf
 answers-whole n s = answers-up-to (length s / 8) n s
 
-pub deliveries-whole : (n : ℕ) (s : List ℕ) → deliveriesUpTo (length s / 8) n s ≡ deliveries n fresh (callsOf s)
+pub total-whole : (f : ℕ → Store → Call → ℕ) (n : ℕ) (s : List ℕ) → totalUpTo f (length s / 8) n s ≡ total f n fresh (callsOf s)
 unfolding callsOf
-deliveries-whole n s = deliveries-up-to (length s / 8) n s
+total-whole f n s = total-up-to f (length s / 8) n s
 
 -- ---- lengths
 
-done-length : (st : Store) (c : Call) → length (doneAnswer st c) ≡ 8
+done-length : (n : ℕ) (st : Store) (c : Call) → length (doneAnswer n st c) ≡ 8
 unfolding doneAnswer
-done-length st (put s o v) =
+done-length n st (put s o v) =
     simp (length-append, length-little, length-replicate)
-done-length st (get s o) = simp (length-append, length-little)
-done-length st (deliver w t) = refl
-done-length st malformed = refl
+done-length n st (get s o) = simp (length-append, length-little)
+done-length n st (deliver w t) = refl
+done-length n st close = simp length-little
+done-length n st malformed = refl
 
 pub answer-length : (n : ℕ) (st : Store) (c : Call) → length (answer n st c) ≡ 8
 unfolding answer
 answer-length n st c = go (eqb (refusal n st c) 0)
   where
-    go : (t : Bool) → length (cond t (doneAnswer st c) (refusal n st c ∷ replicate 7 0)) ≡ 8
-    go true = done-length st c
+    go : (t : Bool) → length (cond t (doneAnswer n st c) (refusal n st c ∷ replicate 7 0)) ≡ 8
+    go true = done-length n st c
     go false = refl
 
 pub answers-length : (n : ℕ) (st : Store) (cs : List Call) → length (answers n st cs) ≡ 8 * length cs

@@ -1,12 +1,16 @@
 -- The third demand, in one place: what a rehearsal promises of its result and of both buffers, for every input.
 use mathlib.Core.Path.{_≡_}
-use mathlib.Core.List.{List}
+use mathlib.Core.List.{List, _∷_, _++_}
 use Prim.Native.Nat.{ℕ, _≤_}
 use Rattle.record.specs.Layout.{gcr1}
 use Rattle.record.specs.History.{historyOf}
 use Rattle.record.specs.Answers.{Passes}
 use Rattle.consistency.specs.Holds.{Holds}
 use Rattle.consistency.specs.declared.Predicate.the-variants.{RVal, CausalVisibility, CausalArbitration}
+use Rattle.store.specs.Store.{fresh}
+use Rattle.store.specs.Calls.{Call, close, callsOf}
+use Rattle.store.specs.Rules.{run}
+use Rattle.store.specs.Close.{Closes}
 use Rattle.store.specs.Rehearsal.{rehearsalRefusal, recordOf, recordAfter, answersAfter, lengthAfter, mostCopies}
 use Rattle.store.specs.declared.Rehearsed.{Rehearsed}
 
@@ -17,7 +21,7 @@ pub record CausalRecord (s : List ℕ) : Type 0 where
   pub arbitration : Holds CausalArbitration (historyOf gcr1 s)
   pub rVal : Holds RVal (historyOf gcr1 s)
 
--- n sites, a script, and the record and answer buffers, as lent and as left
+-- n sites, a script, and the record and answer buffers, as lent and as left. Each close in the script's list finds the store of the calls before it
 pub record Rehearses (n : ℕ) (script rec ans rec′ ans′ : List ℕ) (r : Rehearsed) : Type 0 where
   pub number : r .number ≡ rehearsalRefusal n script rec ans
   pub length : r .length ≡ lengthAfter n script rec ans
@@ -25,3 +29,4 @@ pub record Rehearses (n : ℕ) (script rec ans rec′ ans′ : List ℕ) (r : Re
   pub answered : ans′ ≡ answersAfter n script rec ans
   pub copies : r .outstanding ≤ mostCopies n script rec ans
   pub causal : r .number ≡ 0 → CausalRecord (recordOf n script)
+  pub closes : r .number ≡ 0 → (before after : List Call) → callsOf script ≡ before ++ (close ∷ after) → Closes n (run n fresh before)

@@ -31,6 +31,9 @@ struct Event {
 const NO_EVENT: Event = Event { visible: EMPTY, needs: [0; 8], value: 0, order: 0, object: 0, found: false };
 const FRESH: Site = Site { clock: 0, held: [0; 8], known: EMPTY, cells: [Cell { value: 0, order: 0 }; 32] };
 
+/// The eight bytes of a close: its kind, and zeros.
+const CLOSE: u64 = 4;
+
 struct Store {
     count: usize,
     sites: [Site; 8],
@@ -62,6 +65,20 @@ pub fn rehearse(sites: u32, script: &[u8], record: &mut [u8], answers: &mut [u8]
     (length as u64) << 8 | (store.outstanding() as u64) << 24
 }
 
+impl Site {
+    #[inline]
+    fn hold(&mut self, w: usize, put: &Event) {
+        self.clock = self.clock.max(put.order / 8);
+        self.known = union(&self.known, &put.visible);
+        add(&mut self.known, w);
+        self.held[put.order as usize % 8] += 1;
+        let cell = &mut self.cells[put.object as usize];
+        if cell.order < put.order {
+            *cell = Cell { value: put.value, order: put.order };
+        }
+    }
+}
+
 impl Store {
     fn call(&mut self, call: u64) -> u64 {
         let (kind, site, object) = (call as u8, (call >> 8) as u8 as usize, (call >> 16) as u8);
@@ -73,7 +90,7 @@ impl Store {
             _ => false,
         };
         if !formed {
-            31
+            self.close_or_refuse(call)
         } else if site >= self.count {
             32
         } else if kind == 3 {
@@ -121,15 +138,30 @@ impl Store {
         if site.held.iter().zip(&event.needs).any(|(held, need)| held < need) {
             return 36;
         }
-        site.clock = site.clock.max(event.order / 8);
-        site.known = union(&site.known, &event.visible);
-        add(&mut site.known, w);
-        site.held[event.order as usize % 8] += 1;
-        let cell = &mut site.cells[event.object as usize];
-        if cell.order < event.order {
-            *cell = Cell { value: event.value, order: event.order };
-        }
+        site.hold(w, event);
         0
+    }
+
+    /// Closes are asked for last, so that the common calls are as quick as without them.
+    #[inline(never)]
+    fn close_or_refuse(&mut self, call: u64) -> u64 {
+        match call {
+            CLOSE => self.close(),
+            _ => 31,
+        }
+    }
+
+    /// Site by site, as the sites do not touch each other and only the count is told. In the puts' order no need is
+    /// unmet, so none is asked about.
+    fn close(&mut self) -> u64 {
+        let mut copies = 0;
+        for site in &mut self.sites[..self.count] {
+            each(&minus(&self.puts, &site.known), |w| {
+                site.hold(w, &self.events[w]);
+                copies += 1;
+            });
+        }
+        1 << 8 | copies << 32
     }
 
     fn outstanding(&self) -> u32 {

@@ -62,6 +62,21 @@ pub fn highest(row: &Row) -> Option<usize> {
     Some(64 * word + 63 - row[word].leading_zeros() as usize)
 }
 
+/// Takes the events of a row one by one, lowest first.
+#[inline]
+pub fn each(row: &Row, mut take: impl FnMut(usize)) {
+    if is_empty(row) {
+        return;
+    }
+    for (at, &word) in row.iter().enumerate() {
+        let mut rest = word;
+        while rest != 0 {
+            take(64 * at + rest.trailing_zeros() as usize);
+            rest &= rest - 1;
+        }
+    }
+}
+
 /// The events 0 to n - 1.
 pub fn below(n: usize) -> Row {
     std::array::from_fn(|word| match n.saturating_sub(64 * word) {

@@ -22,6 +22,7 @@ fn main() {
         report(&format!("host call, model 4: {name}"), hosting(record));
     }
     report("rehearse 4,096 calls, 256 events, 8 sites", rehearsing(&script));
+    report("rehearse such a day with closes", rehearsing(&scripts::day_with_closes(1, 8)));
 }
 
 fn report(name: &str, best: Duration) {

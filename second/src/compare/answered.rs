@@ -4,6 +4,7 @@ use super::tally::Tally;
 use crate::models::{first_broken, MODELS};
 use crate::predicates::{Answer, PREDICATES};
 use crate::questions::Refusal;
+use crate::record::u32_at;
 use crate::store::CALL_BYTES;
 
 pub const PASSED: &str = "passed";
@@ -24,6 +25,9 @@ pub const GET_FOUND: &str = "get that found a value";
 pub const GET_NONE: &str = "get that found none";
 pub const GET_REFUSED: &str = "get refused";
 pub const DELIVERY: &str = "delivery";
+pub const CLOSE_COPIES: &str = "close that delivered copies";
+pub const CLOSE_NONE: &str = "close with none lacking";
+pub const CLOSE_REFUSED: &str = "close refused";
 pub const NO_KIND: &str = "call of no kind";
 
 /// What a reading answers.
@@ -75,6 +79,9 @@ fn sort_of_call(kind: u8, answer: &[u8]) -> &'static str {
         (2, 0, _) => GET_NONE,
         (2, ..) => GET_REFUSED,
         (3, ..) => DELIVERY,
+        (4, 0, _) if u32_at(answer, 4) > 0 => CLOSE_COPIES,
+        (4, 0, _) => CLOSE_NONE,
+        (4, ..) => CLOSE_REFUSED,
         _ => NO_KIND,
     }
 }

@@ -48,6 +48,9 @@ pub const REHEARSE: &[Row] = &[
     (GET_NONE, &[0]),
     (GET_REFUSED, &[31, 32, 33, 34]),
     (DELIVERY, &[0, 31, 32, 33, 35, 36]),
+    (CLOSE_COPIES, &[0]),
+    (CLOSE_NONE, &[0]),
+    (CLOSE_REFUSED, &[31]),
     (NO_KIND, &[31]),
 ];
 
@@ -58,5 +61,8 @@ pub const REHEARSAL: &[Row] = &[
     (GET_NONE, &[0]),
     (GET_REFUSED, &[31, 32, 33, 34]),
     (DELIVERY, &[0, 31, 32, 33, 35, 36]),
+    (CLOSE_COPIES, &[0]),
+    (CLOSE_NONE, &[0]),
+    (CLOSE_REFUSED, &[31]),
     (NO_KIND, &[31]),
 ];

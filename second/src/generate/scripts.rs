@@ -11,6 +11,8 @@ struct Mix {
     puts: u64,
     deliveries: u64,
     refused: u64,
+    /// One in so many calls is a close; 0 where none is.
+    close_in: u64,
 }
 
 /// What a rehearsal is called with.
@@ -65,15 +67,30 @@ pub fn plausible(random: &mut Random) -> (u32, Vec<u8>) {
         puts: random.pick(&[20, 50, 80]),
         deliveries: random.pick(&[0, 30, 60, 90]),
         refused: random.pick(&[0, 3, 20, 60]),
+        close_in: close_in(random, calls as u64),
     };
     (mix.sites as u32, script(random, &mix))
+}
+
+/// None in half of the scripts, as little is late or lacking after a close. Else most often about one in the whole
+/// script, which finds much lacking, but also some, one in 16 calls, or so many that they stand in a row.
+fn close_in(random: &mut Random, calls: u64) -> u64 {
+    random.pick(&[0, 0, 0, 0, 0, calls, calls, 1 + calls / 4, 16, 2])
 }
 
 /// Puts and gets in turn over the sites until the store is full, every put
 /// delivered everywhere it may go: the longest plain day.
 pub fn full_day(seed: u64, sites: usize) -> Vec<u8> {
-    let mix = Mix { calls: 4_096, sites, objects: OBJECTS, puts: 60, deliveries: 85, refused: 0 };
-    script(&mut Random::new(seed), &mix)
+    script(&mut Random::new(seed), &day(sites))
+}
+
+/// Such a day where one in 16 calls is a close, both before and after the store is full.
+pub fn day_with_closes(seed: u64, sites: usize) -> Vec<u8> {
+    script(&mut Random::new(seed), &Mix { close_in: 16, ..day(sites) })
+}
+
+fn day(sites: usize) -> Mix {
+    Mix { calls: 4_096, sites, objects: OBJECTS, puts: 60, deliveries: 85, refused: 0, close_in: 0 }
 }
 
 fn script(random: &mut Random, mix: &Mix) -> Vec<u8> {
@@ -88,6 +105,9 @@ fn script(random: &mut Random, mix: &Mix) -> Vec<u8> {
 }
 
 fn call(random: &mut Random, mix: &Mix, store: &Store) -> [u8; CALL_BYTES] {
+    if mix.close_in > 0 && random.below(mix.close_in) == 0 {
+        return Call::Close.to_bytes();
+    }
     if random.chance(mix.refused) {
         return spoilt(random, mix, store);
     }
@@ -129,8 +149,8 @@ fn spoilt(random: &mut Random, mix: &Mix, store: &Store) -> [u8; CALL_BYTES] {
         _ => event(random, mix),
     }
     .to_bytes();
-    match random.below(9) {
-        0 => call[0] = random.pick(&[0, 4, 5, 6, 255]),
+    match random.below(10) {
+        0 => call[0] = random.pick(&[0, 5, 6, 255]),
         1 => call[3] = 1 << random.below(8),
         2 => call[4 + random.index(4)] ^= 1 << random.below(8),
         3 => call[1] = random.pick(&[mix.sites as u8, 8, 255]),
@@ -138,7 +158,16 @@ fn spoilt(random: &mut Random, mix: &Mix, store: &Store) -> [u8; CALL_BYTES] {
         5 => call = Call::Deliver { site: random.index(mix.sites), event: events }.to_bytes(),
         6 => call = Call::Deliver { site: random.index(9), event: random.index(65_536) }.to_bytes(),
         7 => call.copy_from_slice(&random.noise(CALL_BYTES)),
+        8 => call = damaged_close(random),
         _ => call[0] = 3,
     }
+    call
+}
+
+/// One byte that is not zero: as if a close named a site, an object or a value, or anything.
+fn damaged_close(random: &mut Random) -> [u8; CALL_BYTES] {
+    let mut call = Call::Close.to_bytes();
+    let any = 1 + random.below(255) as u8;
+    call[1 + random.index(CALL_BYTES - 1)] = random.pick(&[1, any]);
     call
 }

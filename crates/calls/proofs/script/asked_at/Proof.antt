@@ -1,6 +1,6 @@
 -- `calls::script::asked_at` meets its contract: each return is one case of the fields of the word. Assumes nothing.
 use native.Mathlib.Omega.{arith}
-use Rattle.calls.proofs.CallLaws.{asked-put, asked-no-put, asked-get, asked-no-get, asked-deliver, asked-late, asked-gap, asked-none}
+use Rattle.calls.proofs.CallLaws.{asked-put, asked-no-put, asked-get, asked-no-get, asked-deliver, asked-late, asked-gap, asked-close, asked-none}
 use borrow.Author.Needs.{needs}
 use Rattle.calls.proofs.script.asked_at.Statement.{statement}
 use Rattle.calls.proofs.script.asked_at.Tie as tie
@@ -57,8 +57,13 @@ returns-7 c =
 
 returns-8 : tie.Need-returns-8
 returns-8 c =
-    let g = c .before .before .before .before .before .args in
-    (asked-none (g .s .now) (λ i. c .before .before .before .before .shared-slice-known .given i .fits) (g .at) _ (c .before .before .before .u64-at .ensures) (c .before .before .if1 .left) (c .before .if3 .left) (c .if5 .left), omega arith)
+    let g = c .before .before .before .before .before .before .args in
+    (asked-close (g .s .now) (λ i. c .before .before .before .before .before .shared-slice-known .given i .fits) (g .at) _ (c .before .before .before .before .u64-at .ensures) (c .if8 .taken), omega arith)
+
+returns-9 : tie.Need-returns-9
+returns-9 c =
+    let g = c .before .before .before .before .before .before .args in
+    (asked-none (g .s .now) (λ i. c .before .before .before .before .before .shared-slice-known .given i .fits) (g .at) _ (c .before .before .before .before .u64-at .ensures) (c .before .before .before .if1 .left) (c .before .before .if3 .left) (c .before .if5 .left) (c .if8 .left), omega arith)
 
 pub asked-at-spec : {M : Type 1} → statement M
 asked-at-spec =
@@ -76,4 +81,5 @@ asked-at-spec =
     returns-5
     returns-6
     returns-7
-    returns-8)
+    returns-8
+    returns-9)

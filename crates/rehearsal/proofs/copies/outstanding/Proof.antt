@@ -1,4 +1,4 @@
--- `rehearsal::copies::outstanding` meets its contract: the puts times the other sites, less the deliveries, which may be more. Assumes nothing.
+-- `rehearsal::copies::outstanding` meets its contract: the puts times the other sites, less the copies brought, which may be more. Assumes nothing.
 use Prim.Native.Nat.{_-_}
 use native.Mathlib.Nat.{mul-le-mul-right}
 use native.Mathlib.Omega.{arith}
