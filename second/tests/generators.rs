@@ -71,9 +71,11 @@ fn records_meet_what_they_are_made_for() {
 }
 
 /// Over the seeds of a CI run every listed answer occurs twenty times and more, and no other answer does.
-fn assert_all_occur(list: &[Row], seeds: u64, count: impl FnMut(u64, &mut Tally)) {
+fn assert_all_occur(lists: &[&[Row]], seeds: u64, count: impl FnMut(u64, &mut Tally)) {
     let mut tally = Tally::counting();
-    tally.occurrences.must(list);
+    for list in lists {
+        tally.occurrences.must(list);
+    }
     let listed = tally.occurrences.rarer_than(u64::MAX);
     Seeds::first(seeds).each(&mut tally, count);
     assert_eq!(tally.occurrences.rarer_than(u64::MAX), listed);
@@ -83,7 +85,7 @@ fn assert_all_occur(list: &[Row], seeds: u64, count: impl FnMut(u64, &mut Tally)
 /// The programs get the fewest seeds.
 #[test]
 fn every_answer_of_records() {
-    assert_all_occur(must_occur::VERDICT, 2_000, |seed, tally| {
+    assert_all_occur(&[must_occur::VERDICT], 2_000, |seed, tally| {
         let answers = answers(&record(seed).bytes);
         answered::reading(answers.as_ref().err().copied(), tally);
         answered::predicates(answers.as_deref().unwrap_or_default(), tally);
@@ -92,7 +94,7 @@ fn every_answer_of_records() {
 
 #[test]
 fn every_answer_of_calls_and_rehearsals() {
-    assert_all_occur(must_occur::REHEARSAL, 2_000, |seed, tally| {
+    assert_all_occur(&[must_occur::REHEARSAL, must_occur::CALLS], 2_000, |seed, tally| {
         let given = scripts::rehearsal(seed);
         let (mut record, mut answers) = (vec![0; given.record_bytes], vec![0; given.answer_bytes]);
         let outcome = rehearse(given.sites, &given.script, &mut record, &mut answers);

@@ -10,24 +10,26 @@ use second::questions::ask;
 use std::path::Path;
 use std::process::{Command, Output};
 
-const LISTS: [&[Row]; 6] = [
-    must_occur::INSPECT,
-    must_occur::VERDICT,
-    must_occur::READER,
-    must_occur::MODELS,
-    must_occur::REHEARSE,
-    must_occur::REHEARSAL,
+/// What each comparer must meet.
+const LISTS: [&[&[Row]]; 6] = [
+    &[must_occur::INSPECT],
+    &[must_occur::VERDICT],
+    &[must_occur::READER],
+    &[must_occur::MODELS],
+    &[must_occur::REHEARSE, must_occur::CALLS],
+    &[must_occur::REHEARSAL, must_occur::CALLS],
 ];
 
-fn all_of(list: &[Row]) -> Vec<(&'static str, u32)> {
-    list.iter().flat_map(|&(sort, numbers)| numbers.iter().map(move |&number| (sort, number))).collect()
+fn all_of(lists: &[&[Row]]) -> Vec<(&'static str, u32)> {
+    let rows = lists.iter().copied().flatten();
+    rows.flat_map(|&(sort, numbers)| numbers.iter().map(move |&number| (sort, number))).collect()
 }
 
-/// What is rare after every answer of a list occurred once, but for one.
-fn rare_without(list: &[Row], left_out: (&str, u32)) -> Vec<String> {
+/// What is rare after every answer of some lists occurred once, but for one.
+fn rare_without(lists: &[&[Row]], left_out: (&str, u32)) -> Vec<String> {
     let mut occurrences = Occurrences::default();
-    occurrences.must(list);
-    for (sort, number) in all_of(list).into_iter().filter(|&answer| answer != left_out) {
+    lists.iter().for_each(|list| occurrences.must(list));
+    for (sort, number) in all_of(lists).into_iter().filter(|&answer| answer != left_out) {
         occurrences.count(sort, number);
     }
     occurrences.rarer_than(1)
@@ -35,11 +37,11 @@ fn rare_without(list: &[Row], left_out: (&str, u32)) -> Vec<String> {
 
 #[test]
 fn each_answer_is_missed_alone() {
-    for list in LISTS {
-        for (sort, number) in all_of(list) {
-            assert_eq!(rare_without(list, (sort, number)), [format!("{sort}: {number}")]);
+    for lists in LISTS {
+        for (sort, number) in all_of(lists) {
+            assert_eq!(rare_without(lists, (sort, number)), [format!("{sort}: {number}")]);
         }
-        assert!(rare_without(list, ("none of them", 0)).is_empty());
+        assert!(rare_without(lists, ("none of them", 0)).is_empty());
     }
 }
 
@@ -68,8 +70,8 @@ fn without_seeds_all_is_missed() {
         missed(|tally| programs::rehearse(&rehearse, &none, tally)),
         missed(|tally| rehearsal::compare(&Itself, Outstanding::Exact, &none, tally)),
     ];
-    for (list, sentences) in LISTS.iter().zip(by_run) {
-        let every = all_of(list).into_iter().map(|(sort, number)| format!("{sort}: {number} never occurred"));
+    for (lists, sentences) in LISTS.iter().zip(by_run) {
+        let every = all_of(lists).into_iter().map(|(sort, number)| format!("{sort}: {number} never occurred"));
         assert_eq!(sentences, every.collect::<Vec<_>>());
     }
 }

@@ -40,22 +40,12 @@ pub const MODELS: &[Row] = &[
     (MODEL_BROKEN[3], &[5]),
 ];
 
-/// The program lends its own buffers, so 22 and 23 cannot occur.
-pub const REHEARSE: &[Row] = &[
-    (REHEARSED, &[0, 20, 21]),
-    (PUT, &[0, 31, 32, 33, 34]),
-    (GET_FOUND, &[0]),
-    (GET_NONE, &[0]),
-    (GET_REFUSED, &[31, 32, 33, 34]),
-    (DELIVERY, &[0, 31, 32, 33, 35, 36]),
-    (CLOSE_COPIES, &[0]),
-    (CLOSE_NONE, &[0]),
-    (CLOSE_REFUSED, &[31]),
-    (NO_KIND, &[31]),
-];
+/// What a rehearsal is refused by. The program lends its own buffers, so 22 and 23 cannot occur.
+pub const REHEARSE: &[Row] = &[(REHEARSED, &[0, 20, 21])];
+pub const REHEARSAL: &[Row] = &[(REHEARSED, &[0, 20, 21, 22, 23])];
 
-pub const REHEARSAL: &[Row] = &[
-    (REHEARSED, &[0, 20, 21, 22, 23]),
+/// What the calls of its scripts are answered.
+pub const CALLS: &[Row] = &[
     (PUT, &[0, 31, 32, 33, 34]),
     (GET_FOUND, &[0]),
     (GET_NONE, &[0]),

@@ -33,6 +33,7 @@ pub fn verdict(program: &Path, seeds: &Seeds, tally: &mut Tally) {
 
 pub fn rehearse(program: &Path, seeds: &Seeds, tally: &mut Tally) {
     tally.occurrences.must(must_occur::REHEARSE);
+    tally.occurrences.must(must_occur::CALLS);
     one(program, rehearse_due, "empty".to_string(), &[], tally);
     for sites in 0..=10 {
         one(program, rehearse_due, format!("sites-{sites}"), &[sites], tally);

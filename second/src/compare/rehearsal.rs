@@ -19,6 +19,7 @@ pub enum Outstanding {
 
 pub fn compare(subject: &dyn Rehearser, asked: Outstanding, seeds: &Seeds, tally: &mut Tally) {
     tally.occurrences.must(must_occur::REHEARSAL);
+    tally.occurrences.must(must_occur::CALLS);
     seeds.each(tally, |seed, tally| {
         let rehearsal = scripts::rehearsal(seed);
         let input = program_input(&rehearsal);
