@@ -13,7 +13,8 @@ use Rattle.rows.specs.Relation.{related}
 use Rattle.reach.specs.Walks.{twoSteps, Nested}
 use Rattle.rows.proofs.Tests.{split, tell, same-test, or-elim, or-left, or-right, and-both, and-left, and-right}
 use Rattle.rows.proofs.LowestLaws.{some-of, some-at}
-use Rattle.reach.proofs.ManyLaws.{howMany, many-less}
+use Rattle.rows.specs.Count.{howMany}
+use Rattle.rows.proofs.CountLaws.{many-less}
 use Rattle.rows.proofs.RowLaws.{has-or, has-insert, insert-words, has-minus, has-within, has-cleared}
 use Rattle.rows.proofs.TableLaws.{length-row-le, row-words, has-row-or}
 use Rattle.rows.proofs.SliceLaws.{sliceAt, slice-row}

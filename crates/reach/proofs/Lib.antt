@@ -1,5 +1,4 @@
 -- Laws of walks through a table and of tables that are closed, one file for each loop's subject.
-pub mod ManyLaws
 pub mod WalkLaws
 pub mod SettledLaws
 pub mod ClosureLaws

@@ -1,5 +1,6 @@
 -- What the contracts of this crate cite.
 pub mod Lowest
+pub mod Count
 pub mod Row
 pub mod Octets
 pub mod Relation

@@ -7,6 +7,7 @@ ghost use mathlib.Core.List.{_++_};
 ghost use Prim.Native.Nat.{ℕ, _+_, _*_, _/_, _^_, _<_, _≤_};
 ghost use lib.ListN.{length, take, drop, replicate};
 ghost use Rattle.rows.specs.Lowest.{lowest, highest, some};
+ghost use Rattle.rows.specs.Count.{howMany};
 ghost use Rattle.rows.specs.Row.{has, insert, erase, orRow, andRow, minusRow, orPart, onlyFirst, belowWord, Row};
 
 pub fn test(row: &[u64], b: usize) -> bool
@@ -192,6 +193,19 @@ pub fn lowest_difference(a: &[u64], b: &[u64]) -> usize
         }
     }
     a.len() * 64
+}
+
+// How many members of `a` there are that `b` lacks: the ones of the row difference.
+pub fn count_difference(a: &[u64], b: &[u64]) -> usize
+    requires { ⌜ 64 * length (now a) < 2 ^ 64 ⌝ }
+    requires { ⌜ length (now a) ≤ length (now b) ⌝ }
+    ensures { λ r. ⌜ r ≡ howMany (64 * length (now (a .entry))) (onlyFirst (now (a .entry)) (now (b .entry))) ⌝ }
+{
+    let mut n: usize = 0;
+    for i in 0..a.len() {
+        n += u64::count_ones(a[i] & !b[i]) as usize;
+    }
+    n
 }
 
 // Whether `b` has every member of `a`.

@@ -6,7 +6,7 @@ use native.Mathlib.Omega.{arith}
 use borrow.Author.Needs.{needs}
 use lib.ListN.{length}
 use Rattle.rows.specs.Row.{has}
-use Rattle.reach.proofs.ManyLaws.{howMany}
+use Rattle.rows.specs.Count.{howMany}
 use Rattle.rows.proofs.ReachLaws.{room-row}
 use Rattle.reach.proofs.GatherLaws.{Gathering, gather-begin, gather-turn, gather-less, gather-end}
 use Rattle.reach.proofs.closure.gather.Statement.{statement}
