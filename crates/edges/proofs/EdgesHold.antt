@@ -3,6 +3,7 @@ use mathlib.Core.Path.{_≡_, refl}
 use mathlib.Core.Bool.{Bool, true, false, _&&_}
 use mathlib.Core.List.{List, [], _∷_, _++_}
 use Rattle.rows.specs.Lowest.{searchFrom, lowest, some}
+use Rattle.rows.specs.Count.{sum}
 use Rattle.rows.specs.Row.{digit, bitOf}
 use Rattle.rows.specs.Octets.{hasByte, little}
 use Rattle.rows.specs.Relation.{via, reaches}
@@ -19,11 +20,12 @@ use Rattle.consistency.specs.Predicates.{rule, breaks, verdict, numbered}
 use Rattle.consistency.specs.Models.{firstBroken}
 use Rattle.judge.specs.Judgments.{judgedList, judged, predicateJudgment, packedJudgments}
 use Rattle.store.specs.Calls.{callAt, callsFrom, callsOf}
-use Rattle.store.specs.Rules.{reached, refusal, copiesOf, allCopies, afterCopy, afterCopies, copied, effect, afterCall, run, doneAnswer, answer, answers}
+use Rattle.store.specs.Rules.{reached, refusal, copiesOf, allCopies, afterCopy, afterCopies, copied, effect, afterCall, run, total, doneAnswer, answer, answers}
+use Rattle.store.specs.Outstanding.{outstanding, puts}
 use Rattle.store.specs.Recorded.{rank, recorded, storeRecord}
 use Rattle.store.specs.Rehearsal.{storeAfter, recordOf}
 use Rattle.edges.specs.Events.{member, historyOfEvents}
-use Rattle.edges.specs.Cases.{Case, right, allRight, ofEmpty, ofRing, ofHistories, ofListing, ofDeliveries, ofCloses, edges}
+use Rattle.edges.specs.Cases.{Case, right, allRight, ofEmpty, ofRing, ofHistories, ofListing, ofDeliveries, ofCloses, ofCopies, edges}
 
 all-append : (l m : List Case) → allRight l ≡ true → allRight m ≡ true → allRight (l ++ m) ≡ true
 unfolding allRight
@@ -36,7 +38,7 @@ all-append (c ∷ l) m e f = go (right c) (allRight l) (allRight (l ++ m)) e (λ
 
 -- the test of a part: to unfold it is to unfold all that the cases ask
 unfoldable test : List Case → Bool
-unfolding searchFrom lowest some digit bitOf hasByte little via reaches zeros same sumA sumB blockRight historyOf vis placeRight valueRight timesRight gapsRight eventRight tailRight slotRight lengthRight headerRight blocksRight wrongPosition wrongSet onRing byteQuestions setQuestions questions littleBytes bits setBytes slotBytes withSlots sealed unsealed recordBytes firstLeft first rb ss ob so ar step hb through candidate lastBelow lastWrite expected wrongRead wrong rule breaks verdict numbered firstBroken judgedList judged predicateJudgment packedJudgments callAt callsFrom callsOf reached refusal copiesOf allCopies afterCopy afterCopies copied effect afterCall run doneAnswer answer answers rank recorded storeRecord storeAfter recordOf member historyOfEvents right allRight
+unfolding searchFrom lowest some sum digit bitOf hasByte little via reaches zeros same sumA sumB blockRight historyOf vis placeRight valueRight timesRight gapsRight eventRight tailRight slotRight lengthRight headerRight blocksRight wrongPosition wrongSet onRing byteQuestions setQuestions questions littleBytes bits setBytes slotBytes withSlots sealed unsealed recordBytes firstLeft first rb ss ob so ar step hb through candidate lastBelow lastWrite expected wrongRead wrong rule breaks verdict numbered firstBroken judgedList judged predicateJudgment packedJudgments callAt callsFrom callsOf reached refusal copiesOf allCopies afterCopy afterCopies copied effect afterCall run total doneAnswer answer answers rank recorded storeRecord storeAfter recordOf outstanding puts member historyOfEvents right allRight
 test cs = allRight cs
 
 empty-hold : allRight ofEmpty ≡ true
@@ -63,9 +65,14 @@ closes-hold : allRight ofCloses ≡ true
 unfolding test
 closes-hold = refl
 
+copies-hold : allRight ofCopies ≡ true
+unfolding test
+copies-hold = refl
+
 pub edges-hold : allRight edges ≡ true
 edges-hold =
-    all-append ofEmpty (ofRing ++ (ofHistories ++ (ofListing ++ (ofDeliveries ++ ofCloses)))) empty-hold
-    (all-append ofRing (ofHistories ++ (ofListing ++ (ofDeliveries ++ ofCloses))) ring-hold
-    (all-append ofHistories (ofListing ++ (ofDeliveries ++ ofCloses)) histories-hold
-    (all-append ofListing (ofDeliveries ++ ofCloses) listing-hold (all-append ofDeliveries ofCloses deliveries-hold closes-hold))))
+    all-append ofEmpty (ofRing ++ (ofHistories ++ (ofListing ++ (ofDeliveries ++ (ofCloses ++ ofCopies))))) empty-hold
+    (all-append ofRing (ofHistories ++ (ofListing ++ (ofDeliveries ++ (ofCloses ++ ofCopies)))) ring-hold
+    (all-append ofHistories (ofListing ++ (ofDeliveries ++ (ofCloses ++ ofCopies))) histories-hold
+    (all-append ofListing (ofDeliveries ++ (ofCloses ++ ofCopies)) listing-hold
+    (all-append ofDeliveries (ofCloses ++ ofCopies) deliveries-hold (all-append ofCloses ofCopies closes-hold copies-hold)))))

@@ -14,8 +14,9 @@ use Rattle.judge.specs.Judgments.{predicateJudgment, packedJudgment, packedJudg
 use Rattle.judge.specs.Lists.{packedVerdict}
 use Rattle.store.specs.Store.{fresh}
 use Rattle.store.specs.Calls.{callsOf}
-use Rattle.store.specs.Rules.{answers}
-use Rattle.store.specs.Rehearsal.{recordOf}
+use Rattle.store.specs.Rules.{deliveries, closes, answers}
+use Rattle.store.specs.Outstanding.{puts, outstanding}
+use Rattle.store.specs.Rehearsal.{storeAfter, recordOf}
 use Rattle.edges.specs.Events.{event, aRead, aWrite, returned, pending, historyOfEvents}
 
 pub data Case : Type 0 where
@@ -28,6 +29,8 @@ pub data Case : Type 0 where
   thirteen : (s : List ℕ) (numbers : List ℕ) → Case
   -- the answer of call k of a script, all eight bytes
   answered : (sites : ℕ) (script : List ℕ) (k : ℕ) (answer : List ℕ) → Case
+  -- after a script: its puts, done deliveries, copies delivered by closes, and copies outstanding
+  counted : (sites : ℕ) (script : List ℕ) (put delivered closed left : ℕ) → Case
 
 unfoldable pub right : Case → Bool
 right (checked s a b) = eqb (little 2 s 508) a && eqb (little 2 s 510) b
@@ -35,6 +38,11 @@ right (decided h p answer) = eqb (packedVerdict (verdict (numbered p) h)) answer
 right (ruled s p answer) = eqb (packedJudgment (predicateJudgment gcr1 1024 p s)) answer
 right (thirteen s numbers) = same (packedJudgments gcr1 1024 13 s) numbers
 right (answered n script k answer) = same (take 8 (drop (8 * k) (answers n fresh (callsOf script)))) answer
+right (counted n script put delivered closed left) =
+    eqb (puts (storeAfter n script)) put
+    && (eqb (deliveries n fresh (callsOf script)) delivered
+    && (eqb (closes n fresh (callsOf script)) closed
+    && eqb (outstanding n (storeAfter n script)) left))
 
 unfoldable pub allRight : List Case → Bool
 allRight [] = true
@@ -160,6 +168,14 @@ wrongCloses =
     closeCall 1 0 0 0 0 0 0 (closeCall 0 1 0 0 0 0 0 (closeCall 0 0 1 0 0 0 0
     (closeCall 0 0 0 1 0 0 0 (closeCall 0 0 0 0 1 0 0 (closeCall 0 0 0 0 0 1 0 (closeCall 0 0 0 0 0 0 1 []))))))
 
+-- at three sites a put that one delivery and a close bring to the others; after the close a get, and a put that nobody gets
+abbrev evening : List ℕ
+evening = putCall 0 0 1 (deliverCall 0 1 (rightClose (getCall 2 0 (putCall 1 0 2 []))))
+
+-- a put, and a get that finds it
+abbrev lonePut : List ℕ
+lonePut = putCall 0 0 1 (getCall 0 0 [])
+
 -- answers: refused, a done delivery, a done put, a get that found a value, as the event that it became, and a close with the copies that it delivered
 abbrev noCall : ℕ → List ℕ
 noCall number = number ∷ 0 ∷ 0 ∷ 0 ∷ 0 ∷ 0 ∷ 0 ∷ 0 ∷ []
@@ -230,6 +246,18 @@ ofCloses =
     ∷ answered 2 wrongCloses 6 (noCall 31)
     ∷ []
 
+abbrev pub ofCopies : List Case
+ofCopies =
+    counted 2 listing 2 2 0 0
+    ∷ counted 3 outOfTurn 2 1 0 3
+    ∷ counted 2 twice 1 1 0 0
+    ∷ counted 2 closing 2 0 2 0
+    ∷ counted 3 evening 2 1 1 2
+    ∷ counted 1 lonePut 1 0 0 0
+    ∷ counted 8 lonePut 1 0 0 7
+    ∷ counted 3 (getCall 0 0 (getCall 1 0 [])) 0 0 0 0
+    ∷ []
+
 -- the table, in parts that the checker computes one by one
 abbrev pub edges : List Case
-edges = ofEmpty ++ (ofRing ++ (ofHistories ++ (ofListing ++ (ofDeliveries ++ ofCloses))))
+edges = ofEmpty ++ (ofRing ++ (ofHistories ++ (ofListing ++ (ofDeliveries ++ (ofCloses ++ ofCopies)))))

@@ -18,7 +18,7 @@ use Rattle.record.specs.Encode.{littleBytes}
 use Rattle.store.specs.Store.{upd, Cell, merge, Site, Event, Store}
 use Rattle.store.specs.Calls.{close}
 use Rattle.store.specs.Rules.{afterDelivery, withCopy, copied, closeCopies, effect, doneAnswer}
-use Rattle.store.specs.Close.{lacks}
+use Rattle.store.specs.Outstanding.{lacks}
 use Rattle.calls.specs.Mirror.{callOf, cellOf, eventOf, siteOf, lackedBySome}
 use Rattle.rehearsal.specs.Arrays.{noCell, pastEvent, pastSite, storeOf}
 use Rattle.calls.specs.declared.Kept.{Kept}
@@ -27,10 +27,11 @@ use Rattle.calls.specs.declared.KeptEvent.{KeptEvent}
 use Rattle.store.proofs.UpdateLaws.{lt-suc-elim}
 use Rattle.store.proofs.Invariant.{StoreInv}
 use Rattle.store.proofs.Sizes.{Limits}
-use Rattle.store.proofs.CloseSites.{Closing, closing-none, closing-join, closing-more, closing-store, closing-copies, closing-few}
+use Rattle.store.proofs.OutstandingLaws.{outstanding-most}
+use Rattle.store.proofs.CloseSites.{Closing, closing-none, closing-join, closing-more, closing-store, closing-copies}
 use Rattle.calls.proofs.ServeLaws.{close-call}
 use Rattle.rehearsal.proofs.ArrayLaws.{Arrays, storeIn, Sized, store-count, site-at, withSite, site-sized, done-step, copied-step}
-use Rattle.rehearsal.proofs.RunLaws.{sent, Laid, Copyable, copyable, Turned, Turn, Right, Answered, st, keeps, limits, done-answer, turned}
+use Rattle.rehearsal.proofs.RunLaws.{Laid, Copyable, copyable, Turned, Turn, Right, Answered, st, keeps, limits, done-answer, turned}
 
 -- the arrays of z with their sites changed
 abbrev pub closingArrays : Arrays → List Kept → List ℕ → List KeptCell → Arrays
@@ -58,7 +59,7 @@ module _ (z : Arrays) (laid : Laid (z .count) (z .events) (z .sees) (z .puts)) (
   unfolding storeOf
   put-told x = split (ltb x (z .count)) (λ t. rw t (sym (laid .put x ∙ rw t refl))) (λ t. rw t (sym (laid .put x ∙ rw t refl)))
 
-  lacks-told : (u x : ℕ) → u < 8 → lacks (storeIn (closingArrays z kept known cells)) (record { event = x; site = u }) ≡ lackedIn z known u x
+  lacks-told : (u x : ℕ) → u < 8 → lacks (storeIn (closingArrays z kept known cells)) u x ≡ lackedIn z known u x
   lacks-told u x l =
       ap₂ (λ (s t : Bool). s && not t) (put-told x) (ap (λ (a : Site). a .known x) (site-at (closingArrays z kept known cells) u l))
 
@@ -134,7 +135,7 @@ module _ (n : ℕ) (n≤8 : n ≤ 8) (z : Arrays) (laid : Laid (z .count) (z .ev
 
     -- few copies were delivered
     pub closing-most : ClosingIn n z kept known cells copies → copies ≤ 2048
-    closing-most h = omega (arith, h .closing .counted, closing-few n (storeIn z), mul-le-mul n≤8 (bounds .count))
+    closing-most h = omega (arith, h .closing .counted, outstanding-most n (storeIn z), mul-le-mul n≤8 (bounds .count))
 
     -- the copy of w for site t
     module _ (w before : ℕ) (isPut : has (z .puts) w ≡ true) (t : ℕ) (h : Copying n z w before kept known cells copies t) (l : t < n) where
@@ -233,7 +234,7 @@ module _ (n : ℕ) (n≤8 : n ≤ 8) (z : Arrays) (laid : Laid (z .count) (z .ev
       low : Low 256 (lackedBySome (z .puts) known n) w
       low = rw told (lowest-low 256 (lackedBySome (z .puts) known n))
 
-      none : (e u : ℕ) → e < storeIn now .count → u < n → lacks (storeIn now) (record { event = e; site = u }) ≡ false
+      none : (e u : ℕ) → e < storeIn now .count → u < n → lacks (storeIn now) u e ≡ false
       none e u k l =
           lacks-told z laid kept known cells u e (omega arith)
           ∙ by-none z known n e (low .below e (omega (arith, h .closing .count, bounds .count))) u l
@@ -254,14 +255,12 @@ module _ (t : Turn) (h : Right t) (kind : t .c .kind ≡ 4) (done : Answered t h
       → (kept : List Kept) (known : List ℕ) (cells : List KeptCell) (copies w : ℕ) → ClosingIn (t .n) (t .z) kept known cells copies
       → w ≡ lowest 256 (lackedBySome (t .z .puts) known (t .n)) → 256 ≤ w
       → bytes ≡ 0 ∷ 1 ∷ (replicate 2 0 ++ littleBytes 4 copies)
-      → Turned (t .n) (t .script) (t .out₀) out′ (closingArrays (t .z) kept known cells) (t .copies + copies) (t .k + 1)
+      → Turned (t .n) (t .script) (t .out₀) out′ (closingArrays (t .z) kept known cells) (t .k + 1)
   turned-closed out′ bytes wrote kept known cells copies w i told past b =
       let same : callOf (t .c) ≡ close = close-call (t .c) kind in
       let number : copies ≡ copied (t .n) (st t h) (closeCopies (t .n) (st t h)) =
       closed-copies (t .n) (h .sites) (t .z) (h .inv .laid) (keeps t h) (limits t h) kept known cells copies i w told past in
-      let brought : sent (t .n) (st t h) (callOf (t .c)) ≡ copies = rw same (omega (arith, number)) in
-      turned t h out′ bytes wrote (closingArrays (t .z) kept known cells) (t .copies + copies) (omega arith)
-      (omega (arith, closing-most (t .n) (h .sites) (t .z) (h .inv .laid) (keeps t h) (limits t h) kept known cells copies i))
+      turned t h out′ bytes wrote (closingArrays (t .z) kept known cells)
       (i .sized) (h .inv .laid)
       (closed-store (t .n) (h .sites) (t .z) (h .inv .laid) (keeps t h) (limits t h) kept known cells copies i w told past
       ∙ rw same (done-step (t .z) (h .inv .sized) (t .n) close (rw same at done)))

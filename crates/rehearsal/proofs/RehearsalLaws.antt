@@ -1,14 +1,17 @@
 -- A rehearsal, refused or accepted, meets the third demand. Assumes nothing.
-use mathlib.Core.Path.{_≡_, refl, sym, ap, _∙_}
-use mathlib.Core.Bool.{Bool, true, false, _&&_}
+use mathlib.Core.Path.{_≡_, refl, sym, ap, ap₂, _∙_}
+use mathlib.Core.Bool.{Bool, true, false, not, _&&_}
 use mathlib.Core.List.{List, _++_}
-use Prim.Native.Nat.{ℕ, _*_, _-_, _%_, _≤_, _<_}
-use native.Mathlib.Nat.{sub-le}
+use Prim.Native.Nat.{ℕ, _+_, _*_, _-_, _%_, _≤_, _<_}
 use native.Mathlib.Omega.{arith}
 use lib.Dec.{eqb, leb}
 use lib.ListN.{length, drop}
-use borrow.Author.Tests.{eq-eqb, ne-eqb, eqb-true, leb-true}
+use borrow.Author.Tests.{eq-eqb, ne-eqb, eqb-true, leb-true, le-ltb}
+use Rattle.rows.specs.Count.{sum, howMany}
+use Rattle.rows.specs.Row.{has, onlyFirst, rowAt}
 use Rattle.rows.proofs.Tests.{and-left, and-right}
+use Rattle.rows.proofs.RowLaws.{row-has}
+use Rattle.rows.proofs.CountLaws.{sum-same, many-same, many-past}
 use Rattle.record.specs.Layout.{gcr1}
 use Rattle.record.specs.Encode.{blocksFor}
 use Rattle.record.proofs.StoresLaws.{Bytes}
@@ -19,7 +22,8 @@ use Rattle.store.specs.Calls.{callsOf}
 use Rattle.record.specs.Questions.{ask}
 use Rattle.store.specs.Rules.{run, answers}
 use Rattle.store.specs.Recorded.{recorded, storeRecord}
-use Rattle.store.specs.Rehearsal.{rehearsalRefusal, storeAfter, recordOf, recordAfter, answersAfter, lengthAfter, puts, mostCopies}
+use Rattle.store.specs.Outstanding.{lacks, outstanding, AddsUp, ToldAddsUp}
+use Rattle.store.specs.Rehearsal.{rehearsalRefusal, storeAfter, recordOf, recordAfter, answersAfter, lengthAfter, outstandingAfter}
 use Rattle.rehearsal.specs.Arrays.{Ends, ranStore, Bounded, DistinctStamps}
 use Rattle.rehearsal.specs.declared.Ran.{Ran}
 use Rattle.store.specs.Demand.{Rehearses}
@@ -28,8 +32,8 @@ use Rattle.store.proofs.SameRecord.{record-same}
 use Rattle.store.proofs.Sizes.{every-limits, every-sizes}
 use Rattle.store.proofs.StoreIsCausal.{key-once}
 use Rattle.store.proofs.EveryClose.{every-close}
+use Rattle.store.proofs.EveryCopy.{every-copy, every-copy-told}
 use Rattle.store.proofs.ThirdDemand.{third-demand}
-use Rattle.rehearsal.proofs.EventLaws.{puts-same}
 
 -- ---- what a run leaves is small
 
@@ -103,7 +107,7 @@ accepted n script rec ans e =
 module _ (n : ℕ) (script rec ans : List ℕ) where
   pub refused-rehearses : (number : ℕ) → number ≡ rehearsalRefusal n script rec ans → (number ≡ 0 → ⊥)
       → Rehearses n script rec ans rec ans (record { number = number; length = 0; outstanding = 0 })
-  unfolding recordAfter answersAfter lengthAfter mostCopies
+  unfolding recordAfter answersAfter lengthAfter outstandingAfter
   refused-rehearses number e some =
       let refused : eqb (rehearsalRefusal n script rec ans) 0 ≡ false = ne-eqb (rehearsalRefusal n script rec ans) 0 (λ z. some (e ∙ z)) in
       record {
@@ -111,9 +115,11 @@ module _ (n : ℕ) (script rec ans : List ℕ) where
         length = rw refused;
         recorded = rw refused;
         answered = rw refused;
-        copies = omega arith;
+        copies = rw refused;
         causal = λ z. absurd (some z);
         closes = λ z before after e. absurd (some z);
+        adds-up = λ z. absurd (some z);
+        told-adds-up = λ z. absurd (some z);
       }
 
   module _ (ok : rehearsalRefusal n script rec ans ≡ 0) (bytes : Bytes script) (ran : Ran) (ends : Ends n script ran) where
@@ -121,32 +127,64 @@ module _ (n : ℕ) (script rec ans : List ℕ) where
     unfolding recordOf storeRecord recorded
     record-long = length-record gcr1 gcr1-sound (recorded (storeAfter n script)) n ∙ ap (λ (k : ℕ). 512 * blocksFor gcr1 k) (sym (ends .count))
 
-    -- the record and the puts of the store that the run's events make are those of the script's
+    -- the record of the store that the run's events make is the script's
     record-right : storeRecord gcr1 n (ranStore ran) ≡ recordOf n script
     unfolding recordOf
     record-right = record-same gcr1 (ranStore ran) (storeAfter n script) (ends .count) (ends .event) n
 
-    puts-right : puts (ranStore ran .event) (ran .count) ≡ puts (storeAfter n script .event) (storeAfter n script .count)
-    puts-right =
-        puts-same (ranStore ran .event) (storeAfter n script .event) (ran .count) (λ e l. ap (λ (x : Event). x .isPut) (ends .event e l))
-        ∙ ap (puts (storeAfter n script .event)) (ends .count)
+    n≤8 : n ≤ 8
+    n≤8 = accepted n script rec ans ok .most
+
+    -- what site t lacks, by the rows of puts and of what it knows
+    lacks-right : (t x : ℕ) → t < n → x < storeAfter n script .count → onlyFirst (ran .puts) (rowAt (ran .known) 4 t) x ≡ lacks (storeAfter n script) t x
+    lacks-right t x l m =
+        ap₂ (λ (p k : Bool). p && not k)
+        (row-has (ran .count) (λ e. storeAfter n script .event e .isPut) (ran .puts) (ends .puts) x (omega (arith, ends .count)))
+        (ap (λ (f : ℕ → Bool). f x) (ends .known t (omega (arith, n≤8))))
+
+    lacks-past : (t x : ℕ) → storeAfter n script .count ≤ x → onlyFirst (ran .puts) (rowAt (ran .known) 4 t) x ≡ false
+    lacks-past t x l =
+        ap (λ (p : Bool). p && not (has (rowAt (ran .known) 4 t) x))
+        (ends .puts x ∙ ap (λ (b : Bool). b && storeAfter n script .event x .isPut) (le-ltb x (ran .count) (omega (arith, ends .count))))
+
+    outstanding-right : sum n (λ t. howMany 256 (onlyFirst (ran .puts) (rowAt (ran .known) 4 t))) ≡ outstanding n (storeAfter n script)
+    unfolding outstanding
+    outstanding-right =
+        let k : ℕ = storeAfter n script .count in
+        let room : 256 ≡ k + (256 - k) = omega (arith, store-few n script) in
+        sum-same n (λ t. howMany 256 (onlyFirst (ran .puts) (rowAt (ran .known) 4 t))) (λ t. howMany k (lacks (storeAfter n script) t))
+        (λ t l. ap (λ (m : ℕ). howMany m (onlyFirst (ran .puts) (rowAt (ran .known) 4 t))) room
+        ∙ many-past k (256 - k) (onlyFirst (ran .puts) (rowAt (ran .known) 4 t)) (lacks-past t)
+        ∙ many-same k (onlyFirst (ran .puts) (rowAt (ran .known) 4 t)) (lacks (storeAfter n script) t) (λ x m. lacks-right t x l m))
+
+    -- and what it comes to with the copies that came
+    script-adds-up : AddsUp n (callsOf script) (outstanding n (storeAfter n script))
+    unfolding storeAfter
+    script-adds-up = every-copy n n≤8 (callsOf script)
+
+    script-told : (rest : List ℕ) → ToldAddsUp n (callsOf script) (answers n fresh (callsOf script) ++ rest) (outstanding n (storeAfter n script))
+    unfolding storeAfter
+    script-told = every-copy-told n n≤8 (callsOf script)
 
     pub accepted-rehearses : (rec′ ans′ : List ℕ) (long copies : ℕ)
         → ans′ ≡ answers n fresh (callsOf script) ++ drop (length script) ans
         → rec′ ≡ storeRecord gcr1 n (ranStore ran) ++ drop (512 * blocksFor gcr1 (ran .count)) rec
         → long ≡ 512 * blocksFor gcr1 (ran .count)
-        → copies ≡ puts (ranStore ran .event) (ran .count) * (n - 1) - ran .brought
+        → copies ≡ sum n (λ t. howMany 256 (onlyFirst (ran .puts) (rowAt (ran .known) 4 t)))
         → Rehearses n script rec ans rec′ ans′ (record { number = 0; length = long; outstanding = copies })
-    unfolding recordAfter answersAfter lengthAfter mostCopies
+    unfolding recordAfter answersAfter lengthAfter outstandingAfter
     accepted-rehearses rec′ ans′ long copies answered recorded lasts left =
         let yes : eqb (rehearsalRefusal n script rec ans) 0 ≡ true = eq-eqb (rehearsalRefusal n script rec ans) 0 ok in
         let right = accepted n script rec ans ok in
+        let counted : copies ≡ outstanding n (storeAfter n script) = left ∙ outstanding-right in
         record {
           number = sym ok;
           length = rw yes (lasts ∙ sym record-long);
           recorded = rw (yes, record-long, ← record-right) recorded;
           answered = rw yes answered;
-          copies = rw (yes, ← puts-right, left) (sub-le _ _);
-          causal = λ z. third-demand n (right .least) (right .most) script bytes;
-          closes = λ z before after e. every-close n (right .most) before;
+          copies = rw yes counted;
+          causal = λ z. third-demand n (right .least) n≤8 script bytes;
+          closes = λ z before after e. every-close n n≤8 before;
+          adds-up = λ z. rw counted script-adds-up;
+          told-adds-up = λ z. rw (answered, counted) (script-told (drop (length script) ans));
         }

@@ -11,13 +11,18 @@ use borrow.Author.Tests.{eqb-true}
 use Rattle.record.specs.Layout.{gcr1}
 use Rattle.record.proofs.SoundLayout.{gcr1-sound}
 use Rattle.record.proofs.ImageLaws.{length-record}
-use Rattle.store.specs.Store.{Store}
+use Rattle.store.specs.Store.{Store, fresh}
+use Rattle.store.specs.Calls.{callsOf}
+use Rattle.store.specs.Rules.{run}
 use Rattle.record.specs.Questions.{ask}
 use Rattle.store.specs.Recorded.{recorded, storeRecord}
-use Rattle.store.specs.Rehearsal.{rehearsalRefusal, storeAfter, recordOf, recordAfter, lengthAfter, puts, mostCopies}
+use Rattle.store.specs.Outstanding.{outstanding, puts}
+use Rattle.store.specs.Rehearsal.{rehearsalRefusal, storeAfter, recordOf, recordAfter, lengthAfter, outstandingAfter}
 use Rattle.store.specs.Demand.{Rehearses}
 use Rattle.store.specs.declared.Rehearsed.{Rehearsed}
-use Rattle.rehearsal.proofs.EventLaws.{puts-most}
+use Rattle.store.proofs.OutstandingLaws.{puts-most}
+use Rattle.store.proofs.Sizes.{every-limits}
+use Rattle.store.proofs.EveryCopy.{every-copy}
 use Rattle.rehearsal.proofs.RehearsalLaws.{store-few, accepted}
 
 ask-most : (t : Bool) (number next m : ℕ) → number ≤ m → next ≤ m → ask t number next ≤ m
@@ -52,16 +57,16 @@ module _ (n : ℕ) (script rec ans : List ℕ) where
   unfolding lengthAfter
   length-most = cond-most passed (length (recordOf n script)) 19456 (λ t. record-most)
 
-  copies-most : mostCopies n script rec ans ≤ 1792
-  unfolding mostCopies
+  copies-most : outstandingAfter n script rec ans ≤ 1792
+  unfolding outstandingAfter storeAfter
   copies-most =
-      let st : Store = storeAfter n script in
-      let k : ℕ = puts (st .event) (st .count) in
-      let few : k ≤ 256 = omega (arith, puts-most (st .event) (st .count), store-few n script) in
-      cond-most passed (k * (n - 1)) 1792
+      let st : Store = run n fresh (callsOf script) in
+      let few : puts st ≤ 256 = omega (arith, puts-most st, every-limits n (callsOf script) .count) in
+      cond-most passed (outstanding n st) 1792
       (λ t.
-      let sites : n - 1 ≤ 7 = omega (arith, accepted n script rec ans (eqb-true (rehearsalRefusal n script rec ans) 0 t) .most) in
-      mul-le-mul few sites)
+      let n≤8 : n ≤ 8 = accepted n script rec ans (eqb-true (rehearsalRefusal n script rec ans) 0 t) .most in
+      let sites : n - 1 ≤ 7 = omega arith in
+      omega (arith, every-copy n n≤8 (callsOf script), mul-le-mul few sites))
 
   -- a record is in front of the buffer that it is in
   within : lengthAfter n script rec ans ≤ length (recordAfter n script rec ans)

@@ -20,8 +20,8 @@ use Rattle.rows.proofs.TableLaws.{length-row-le, length-row, getD-row}
 use Rattle.record.proofs.StoresLaws.{zero-at}
 use Rattle.consistency.specs.Reads.{value}
 use Rattle.store.specs.Store.{upd, Cell, merge, Site, Event, Store, fresh}
-use Rattle.store.specs.Calls.{Call, put, get, deliver, close, malformed, callAt, callsOf}
-use Rattle.store.specs.Rules.{reached, refusal, afterDelivery, withCopy, effect, delivered, closed, doneAnswer, answer, afterCall, answers}
+use Rattle.store.specs.Calls.{Call, deliver, callAt, callsOf}
+use Rattle.store.specs.Rules.{reached, refusal, afterDelivery, withCopy, effect, doneAnswer, answer, afterCall, answers}
 use Rattle.store.specs.Rehearsal.{storeAfter}
 use Rattle.calls.specs.Mirror.{callOf, cellOf, shownOf, eventOf, siteOf, partOf, withCounts, Made}
 use Rattle.rehearsal.specs.Arrays.{noCell, pastEvent, pastSite, freshKept, freshEvent, Ends}
@@ -33,7 +33,7 @@ use Rattle.calls.specs.declared.Served.{Served}
 use Rattle.store.proofs.Invariant.{StoreInv}
 use Rattle.store.proofs.RunKeeps.{Doable}
 use Rattle.store.proofs.Sizes.{Limits, Sizes, sizes}
-use Rattle.store.proofs.WholeList.{storeUpTo, answersUpTo, totalUpTo, store-none, store-more, answers-none, answers-more, total-none, total-more, total-add, up-to-keeps, up-to-limits, up-to-sizes, store-whole, answers-whole, total-whole, answer-length, answers-up-to-length}
+use Rattle.store.proofs.WholeList.{storeUpTo, answersUpTo, store-none, store-more, answers-none, answers-more, up-to-keeps, up-to-limits, up-to-sizes, store-whole, answers-whole, answer-length, answers-up-to-length}
 use Rattle.calls.proofs.ServeLaws.{same-refusal, refused-before, refused-late, delivery-done, event-done, some-kind, put-fits, get-fits, deliver-fits, deliver-site, deliver-call}
 use Rattle.rehearsal.proofs.ArrayLaws.{Arrays, storeIn, Sized, fresh-store, store-count, site-at, event-at, site-found, cell-at, found, withSite, withMade, site-sized, made-sized, refused-step, done-step, copied-step, made-step}
 
@@ -83,27 +83,6 @@ delivery-answer n st w t = refl
 copy-step : (n : ℕ) (st : Store) (w t : ℕ) → withCopy st w t ≡ effect n st (deliver w t)
 unfolding effect
 copy-step n st w t = refl
-
--- ---- the copies that a call brings
-
--- as a delivery or as a close
-abbrev pub sent : ℕ → Store → Call → ℕ
-sent n st c = delivered n st c + closed n st c
-
-no-copies : (n : ℕ) (st : Store) (call : Call) → (refusal n st call ≡ 0 → ⊥) → sent n st call ≡ 0
-unfolding refusal
-no-copies n st (put s o v) d = refl
-no-copies n st (get s o) d = refl
-no-copies n st (deliver w t) d = rw (ne-eqb (refusal n st (deliver w t)) 0 d) refl
-no-copies n st close d = absurd (d refl)
-no-copies n st malformed d = refl
-
-one-copy : (n : ℕ) (st : Store) (c : Asked) → refusal n st (callOf c) ≡ 0 → c .kind ≡ 3 → sent n st (callOf c) ≡ 1
-one-copy n st c done kind = rw (eq-eqb (refusal n st (callOf c)) 0 done, deliver-call c kind) refl
-
-event-copies : (n : ℕ) (st : Store) (c : Asked) → (c .kind ≡ 3 → ⊥) → (c .kind ≡ 4 → ⊥) → sent n st (callOf c) ≡ 0
-event-copies n st c other traded = rw (ne-eqb (c .kind) 3 other, ne-eqb (c .kind) 4 traded)
-    (split (eqb (c .kind) 1) (λ t. rw t refl) (λ t. split (eqb (c .kind) 2) (λ u. rw (t, u) refl) (λ u. rw (t, u) refl)))
 
 -- ---- what a call finds
 
@@ -170,13 +149,11 @@ row-of-two false r s = refl
 
 -- ---- the loop
 
-pub record Turned (n : ℕ) (script out₀ out : List ℕ) (z : Arrays) (copies k : ℕ) : Type 0 where
+pub record Turned (n : ℕ) (script out₀ out : List ℕ) (z : Arrays) (k : ℕ) : Type 0 where
   pub within : k ≤ length script / 8
   pub sized : Sized z
   pub laid : Laid (z .count) (z .events) (z .sees) (z .puts)
   pub store : storeIn z ≡ storeUpTo k n script
-  pub sum : copies ≡ totalUpTo sent k n script
-  pub few : copies ≤ 2049 * k
   pub long : length out ≡ length out₀
   pub written : out ≡ answersUpTo k n script ++ drop (8 * k) out₀
 
@@ -191,7 +168,7 @@ pub turned-none : (n : ℕ) (script out : List ℕ) (a : Kept) (x : KeptCell) (e
       cells = replicate 256 x;
       puts = replicate 4 0;
     })
-    0 0
+    0
 turned-none n script out a x e p q r = record {
   within = omega arith;
   sized = record {
@@ -204,15 +181,13 @@ turned-none n script out a x e p q r = record {
   };
   laid = rw r laid-none;
   store = rw (p, q, r) (fresh-store ∙ sym (store-none n script));
-  sum = sym (total-none sent n script);
-  few = omega arith;
   long = refl;
   written = ap (λ (l : List ℕ). l ++ out) (sym (answers-none n script));
 }
 
 -- the number of events stays small
-pub count-few : (n : ℕ) (script out₀ out : List ℕ) (z : Arrays) (copies k : ℕ) → Turned n script out₀ out z copies k → z .count ≤ 256
-count-few n script out₀ out z copies k h =
+pub count-few : (n : ℕ) (script out₀ out : List ℕ) (z : Arrays) (k : ℕ) → Turned n script out₀ out z k → z .count ≤ 256
+count-few n script out₀ out z k h =
     let limits : Limits (storeIn z) = rw (h .store) (up-to-limits k n script) in
     rw (store-count z) at (limits .count)
 
@@ -223,7 +198,6 @@ pub record Turn : Type 0 where
   pub out₀ : List ℕ
   pub out : List ℕ
   pub z : Arrays
-  pub copies : ℕ
   pub k : ℕ
   pub c : Asked
   pub s : ℕ
@@ -240,7 +214,7 @@ keptEvent t = getD (t .z .events) (t .w) pastEvent
 -- what holds of it
 pub record Right (t : Turn) : Type 0 where
   pub sites : t .n ≤ 8
-  pub inv : Turned (t .n) (t .script) (t .out₀) (t .out) (t .z) (t .copies) (t .k)
+  pub inv : Turned (t .n) (t .script) (t .out₀) (t .out) (t .z) (t .k)
   pub asked : callOf (t .c) ≡ callAt (t .script) (8 * t .k)
   pub kind : t .c .kind ≤ 4
   pub site : t .s ≡ t .c .site % 8
@@ -311,7 +285,7 @@ module _ (t : Turn) (h : Right t) where
   keeps = rw (h .inv .store) (up-to-keeps (t .k) (t .n) (h .sites) (t .script))
 
   few : t .z .count ≤ 256
-  few = count-few (t .n) (t .script) (t .out₀) (t .out) (t .z) (t .copies) (t .k) (h .inv)
+  few = count-few (t .n) (t .script) (t .out₀) (t .out) (t .z) (t .k) (h .inv)
 
   held-few : (i : ℕ) → getD (a .counts) i 0 ≤ 256
   held-few i = omega (arith, small .held (t .s) i, ap (λ (x : Site). x .held i) (site-at (t .z) (t .s) (omega (arith, h .site))), limits .count)
@@ -375,11 +349,11 @@ module _ (t : Turn) (h : Right t) where
 
   module _ (out′ bytes : List ℕ) (wrote : out′ ≡ sets (t .out) (8 * t .k) bytes) where
     -- one call more, whichever way it went
-    pub turned : (z′ : Arrays) (copies′ : ℕ) → copies′ ≡ t .copies + sent (t .n) st call → sent (t .n) st call ≤ 2048 → Sized z′
+    pub turned : (z′ : Arrays) → Sized z′
         → Laid (z′ .count) (z′ .events) (z′ .sees) (z′ .puts)
         → storeIn z′ ≡ afterCall (t .n) st call → bytes ≡ answer (t .n) st call
-        → Turned (t .n) (t .script) (t .out₀) out′ z′ copies′ (t .k + 1)
-    turned z′ copies′ counted most sized laid stepped answered =
+        → Turned (t .n) (t .script) (t .out₀) out′ z′ (t .k + 1)
+    turned z′ sized laid stepped answered =
         let n : ℕ = t .n in
         let k : ℕ = t .k in
         let script : List ℕ = t .script in
@@ -392,8 +366,6 @@ module _ (t : Turn) (h : Right t) where
           sized = sized;
           laid = laid;
           store = rw (add-one, store-more, ← (h .inv .store), ← (h .asked)) stepped;
-          sum = rw (add-one, total-more, ← (h .inv .store), ← (h .asked), ← (h .inv .sum)) counted;
-          few = omega (arith, h .inv .few);
           long = ap length wrote ∙ length-sets (t .out) (8 * k) bytes ∙ h .inv .long;
           written =
               wrote
@@ -404,11 +376,10 @@ module _ (t : Turn) (h : Right t) where
         }
 
     pub turned-refused : (i : ℕ) → Answered i → (i ≡ 0 → ⊥) → bytes ≡ i ∷ replicate 7 0
-        → Turned (t .n) (t .script) (t .out₀) out′ (t .z) (t .copies) (t .k + 1)
+        → Turned (t .n) (t .script) (t .out₀) out′ (t .z) (t .k + 1)
     turned-refused i is d b =
         let r : refusal (t .n) st call ≡ 0 → ⊥ = λ q. d (sym is ∙ q) in
-        let none : sent (t .n) st call ≡ 0 = no-copies (t .n) st call r in
-        turned (t .z) (t .copies) (omega arith) (omega arith) (h .inv .sized) (h .inv .laid) (refused-step (t .z) (h .inv .sized) (t .n) call r)
+        turned (t .z) (h .inv .sized) (h .inv .laid) (refused-step (t .z) (h .inv .sized) (t .n) call r)
         (b ∙ ap (λ (j : ℕ). j ∷ replicate 7 0) (sym is) ∙ sym (refused-answer (t .n) st call r))
 
     module _ (done : Answered 0) where
@@ -421,15 +392,14 @@ module _ (t : Turn) (h : Right t) where
           → ((i : ℕ) → i < 8 → has (rowAt known′ 4 i)
           ≡ cond (eqb i (t .s)) (λ x. eqb x (t .w) || (has (rowAt (t .z .sees) 4 (t .w)) x || has (rowAt (t .z .known) 4 (t .s)) x)) (has (rowAt (t .z .known) 4 i)))
           → bytes ≡ replicate 8 0
-          → Turned (t .n) (t .script) (t .out₀) out′ (withSite (t .z) (t .s) b known′ (32 * t .s + o) y) (t .copies + 1) (t .k + 1)
+          → Turned (t .n) (t .script) (t .out₀) out′ (withSite (t .z) (t .s) b known′ (32 * t .s + o) y) (t .k + 1)
       turned-delivered kind b y known′ o at f merged long rows zeros =
           let d = delivers done kind in
           let object : o ≡ e .object = omega (arith, d .copy .object) in
           let site : t .s ≡ t .c .site = omega (arith, d .site, h .site, h .sites) in
           let event : t .w ≡ t .c .event = omega (arith, d .event, few, h .event) in
           let same : call ≡ deliver (t .w) (t .s) = deliver-call (t .c) kind ∙ ap₂ deliver (sym event) (sym site) in
-          let one : sent (t .n) st call ≡ 1 = one-copy (t .n) st (t .c) done kind in
-          turned (withSite (t .z) (t .s) b known′ (32 * t .s + o) y) (t .copies + 1) (omega arith) (omega arith)
+          turned (withSite (t .z) (t .s) b known′ (32 * t .s + o) y)
           (site-sized (t .z) (h .inv .sized) (t .s) b known′ (32 * t .s + o) y long)
           (h .inv .laid)
           (rw object
@@ -450,7 +420,7 @@ module _ (t : Turn) (h : Right t) where
           → PutRow (t .z .count) (r .event .put) (t .z .puts) puts′
           → bytes ≡ r .answer
           → Turned (t .n) (t .script) (t .out₀) out′ (withMade (withSite (t .z) (t .s) (r .site) known′ (32 * t .s + o) (r .cell)) (r .event) sees′ puts′)
-          (t .copies) (t .k + 1)
+          (t .k + 1)
       turned-made other traded r known′ sees′ puts′ o at least made long wide four rows seen rowed b =
           let z : Arrays = t .z in
           let s : ℕ = t .s in
@@ -464,8 +434,7 @@ module _ (t : Turn) (h : Right t) where
           (made st (has (rowAt (z .known) 4 (t .c .site))) (store-count z) (rw (← site) (site-found z s low-site))
           (rw (← site, ← object) (cell-at z s o low-site low))) in
           let with-site : Arrays = withSite z s (r .site) known′ (32 * s + o) (r .cell) in
-          let none : sent (t .n) st call ≡ 0 = event-copies (t .n) st (t .c) other traded in
-          turned (withMade with-site (r .event) sees′ puts′) (t .copies) (omega arith) (omega arith)
+          turned (withMade with-site (r .event) sees′ puts′)
           (made-sized with-site (site-sized z (h .inv .sized) s (r .site) known′ (32 * s + o) (r .cell) long) (r .event) sees′ puts′ wide four)
           (laid-more (z .count) (z .events) (z .sees) sees′ (rowAt (z .known) 4 s) (z .puts) puts′ (r .event) (h .inv .laid) (omega (arith, d .room, h .inv .sized .events)) least seen rowed)
           (made-step z (h .inv .sized) (t .n) call s o r sees′ known′ puts′ low-site low (d .room) done m rows
@@ -474,15 +443,15 @@ module _ (t : Turn) (h : Right t) where
 
 -- the loop's variables may be given by equations
 pub carried : {n : ℕ} {script out₀ out out′ : List ℕ} {kept kept′ : List Kept} {known known′ : List ℕ} {cells cells′ : List KeptCell}
-    {events events′ : List KeptEvent} {sees sees′ puts puts′ : List ℕ} {count count′ copies copies′ k : ℕ}
-    → out ≡ out′ → kept ≡ kept′ → known ≡ known′ → cells ≡ cells′ → events ≡ events′ → sees ≡ sees′ → puts ≡ puts′ → count ≡ count′ → copies ≡ copies′
+    {events events′ : List KeptEvent} {sees sees′ puts puts′ : List ℕ} {count count′ k : ℕ}
+    → out ≡ out′ → kept ≡ kept′ → known ≡ known′ → cells ≡ cells′ → events ≡ events′ → sees ≡ sees′ → puts ≡ puts′ → count ≡ count′
     → Turned n script out₀ out′
     (record { count = count′; events = events′; sees = sees′; kept = kept′; known = known′; cells = cells′; puts = puts′ })
-    copies′ k
-    → Turned n script out₀ out (record { count = count; events = events; sees = sees; kept = kept; known = known; cells = cells; puts = puts }) copies k
-carried p q r s t u v w x h = rw (p, q, r, s, t, u, v, w, x) h
+    k
+    → Turned n script out₀ out (record { count = count; events = events; sees = sees; kept = kept; known = known; cells = cells; puts = puts }) k
+carried p q r s t u v w h = rw (p, q, r, s, t, u, v, w) h
 
-module _ (n : ℕ) (script out₀ out : List ℕ) (z : Arrays) (copies k : ℕ) (h : Turned n script out₀ out z copies k)
+module _ (n : ℕ) (script out₀ out : List ℕ) (z : Arrays) (k : ℕ) (h : Turned n script out₀ out z k)
     (all : k ≡ length script / 8) where
   whole : storeIn z ≡ storeAfter n script
   whole = h .store ∙ ap (λ (i : ℕ). storeUpTo i n script) all ∙ store-whole n script
@@ -494,11 +463,15 @@ module _ (n : ℕ) (script out₀ out : List ℕ) (z : Arrays) (copies k : ℕ) 
       ∙ ap (λ (l : List ℕ). l ++ drop (8 * k) out₀) (ap (λ (i : ℕ). answersUpTo i n script) all ∙ answers-whole n script)
       ∙ ap (λ (i : ℕ). answers n fresh (callsOf script) ++ drop i out₀) end
 
-  pub whole-ends : Ends n script (record { count = z .count; events = z .events; sees = z .sees; brought = copies })
+  whole-put : (e : ℕ) → e < z .count → getD (z .events) e pastEvent .put ≡ storeAfter n script .event e .isPut
+  whole-put e l = sym (ap (λ (x : Event). x .isPut) (event-at z e l)) ∙ ap (λ (st : Store). st .event e .isPut) whole
+
+  pub whole-ends : Ends n script (record { count = z .count; events = z .events; sees = z .sees; puts = z .puts; known = z .known })
   whole-ends = record {
     count = sym (store-count z) ∙ ap (λ (st : Store). st .count) whole;
     event = λ e l. sym (event-at z e l) ∙ ap (λ (st : Store). st .event e) whole;
     unmade = h .laid .unmade;
     unseen = h .laid .unseen;
-    brought = h .sum ∙ ap (λ (i : ℕ). totalUpTo sent i n script) all ∙ total-whole sent n script ∙ total-add delivered closed n fresh (callsOf script);
+    puts = row-same (z .count) (λ e. getD (z .events) e pastEvent .put) (z .puts) (h .laid .put) (λ e. storeAfter n script .event e .isPut) whole-put;
+    known = λ s l. sym (ap (λ (x : Site). x .known) (site-at z s l)) ∙ ap (λ (st : Store). st .site s .known) whole;
   }

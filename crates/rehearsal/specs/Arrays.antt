@@ -5,11 +5,10 @@ use mathlib.Core.List.{List, []}
 use Prim.Native.Nat.{ℕ, zero, suc, _+_, _*_, _%_, _≤_, _<_}
 use lib.Dec.{eqb, ltb}
 use lib.ListN.{getD, replicate}
-use Rattle.rows.specs.Row.{has, rowAt}
+use Rattle.rows.specs.Row.{has, rowAt, Row}
 use Rattle.record.specs.declared.Slot.{Slot}
-use Rattle.store.specs.Store.{Cell, empty, Event, Store, freshSite, noEvent, fresh}
-use Rattle.store.specs.Calls.{callsOf}
-use Rattle.store.specs.Rules.{valueOr0, deliveries, closes}
+use Rattle.store.specs.Store.{Cell, empty, Event, Store, freshSite, noEvent}
+use Rattle.store.specs.Rules.{valueOr0}
 use Rattle.store.specs.Recorded.{rank}
 use Rattle.store.specs.Rehearsal.{storeAfter}
 use Rattle.calls.specs.declared.Kept.{Kept}
@@ -51,13 +50,14 @@ storeOf count events sees kept known cells = record {
   site = λ s. cond (ltb s 8) (siteOf (getD kept s pastSite) (has (rowAt known 4 s)) (cellsOf cells s)) freshSite;
 }
 
--- what a script comes to at n sites: the events of its store, behind them what the arrays start with, and the copies that its deliveries and closes brought
+-- what a script comes to at n sites: the events of its store, behind them what the arrays start with, the puts among them, and what each site knows
 pub record Ends (n : ℕ) (script : List ℕ) (ran : Ran) : Type 0 where
   pub count : ran .count ≡ storeAfter n script .count
   pub event : (e : ℕ) → e < ran .count → eventIn (ran .events) (ran .sees) e ≡ storeAfter n script .event e
   pub unmade : (e : ℕ) → ran .count ≤ e → e < 256 → getD (ran .events) e pastEvent ≡ freshEvent
   pub unseen : (e : ℕ) → ran .count ≤ e → e < 256 → rowAt (ran .sees) 4 e ≡ replicate 4 0
-  pub brought : ran .brought ≡ deliveries n fresh (callsOf script) + closes n fresh (callsOf script)
+  pub puts : Row (ran .count) (λ e. storeAfter n script .event e .isPut) (ran .puts)
+  pub known : (s : ℕ) → s < 8 → has (rowAt (ran .known) 4 s) ≡ storeAfter n script .site s .known
 
 -- ---- what is made of a run's events
 

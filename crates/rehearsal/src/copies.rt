@@ -1,38 +1,20 @@
 // The copies outstanding: pairs of a put and a site that lacks it.
-use super::Ran;
 ghost use mathlib.Core.Path.{_≡_};
-ghost use Prim.Native.Nat.{_*_, _-_, _≤_};
-ghost use Rattle.store.specs.Rehearsal.{puts};
-ghost use Rattle.rehearsal.specs.Arrays.{ranStore};
+ghost use Prim.Native.Nat.{_≤_};
+ghost use lib.ListN.{length};
+ghost use Rattle.rows.specs.Count.{sum, howMany};
+ghost use Rattle.rows.specs.Row.{onlyFirst, rowAt};
 
-fn puts(ran: Ran) -> usize
-    requires { ⌜ ran .count ≤ 256 ⌝ }
-    ensures { λ r. ⌜ r ≤ 256 ⌝ }
-    ensures { λ r. ⌜ r ≡ puts (ranStore ran .event) (ran .count) ⌝ }
+// Row s of `known` has what site s knows, and `puts` the events that are puts.
+pub fn outstanding(n: usize, puts: &[u64], known: &[u64]) -> usize
+    requires { ⌜ (length (now puts) ≡ 4) × (length (now known) ≡ 32) × (n ≤ 8) ⌝ }
+    ensures { λ r. ⌜ r ≡ sum n (λ s. howMany 256 (onlyFirst (now (puts .entry)) (rowAt (now (known .entry)) 4 s))) ⌝ }
 {
-    let events = ran.events;
-    let count = ran.count;
-    let mut n: usize = 0;
-    for i in 0..count {
-        let e = events[i];
-        if e.put {
-            n += 1;
-        }
+    let mut all: usize = 0;
+    for s in 0..n {
+        let at = s * 4;
+        let end = at + 4;
+        all += rows::count_difference(puts, &known[at..end]);
     }
-    n
-}
-
-// A put lacks at every site but its own, and each copy brings one put to one site that lacked it.
-pub fn outstanding(n: usize, ran: Ran) -> usize
-    requires { ⌜ 1 ≤ n ⌝ }
-    requires { ⌜ n ≤ 8 ⌝ }
-    requires { ⌜ ran .count ≤ 256 ⌝ }
-    ensures { λ r. ⌜ r ≡ puts (ranStore ran .event) (ran .count) * (n - 1) - ran .brought ⌝ }
-{
-    let all = puts(ran) * (n - 1);
-    let done = ran.brought;
-    if all < done {
-        return 0;
-    }
-    all - done
+    all
 }

@@ -17,12 +17,13 @@ ghost use Rattle.judge.specs.declared.Judgment.the-variants.{Judged};
 ghost use Rattle.store.specs.Rehearsal.{rehearsalRefusal, recordOf};
 ghost use Rattle.store.specs.Demand.{Rehearses};
 
-// What a script came to: the events done, what each sees, and how many copies deliveries and closes brought.
+// What a script came to: the events done, what each sees, which of them are puts, and what each site knows.
 pub struct Ran {
     pub count: usize,
     pub events: [KeptEvent; 256],
     pub sees: [u64; 1024],
-    pub brought: usize,
+    pub puts: [u64; 4],
+    pub known: [u64; 32],
 }
 
 // A rehearsal that questions 20 to 23 let pass: the whole script, and then its record.
@@ -32,10 +33,12 @@ fn accepted(sites: usize, script: &[u8], rec: &mut [u8], answers: &mut [u8]) -> 
 {
     let ran = run::run(sites, script, answers);
     let length = image::write(sites as u8, ran, rec);
+    let puts = ran.puts;
+    let known = ran.known;
     Rehearsed {
         number: 0,
         length: length,
-        outstanding: copies::outstanding(sites, ran),
+        outstanding: copies::outstanding(sites, &puts, &known),
     }
 }
 

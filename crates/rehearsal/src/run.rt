@@ -71,7 +71,6 @@ pub fn run(n: usize, script: &[u8], out: &mut [u8]) -> Ran
     let mut sees = [0u64; 1024];
     let mut puts = [0u64; 4];
     let mut count: usize = 0;
-    let mut brought: usize = 0;
     let mut k: usize = 0;
     while k < script.len() / 8 {
         let c = script::asked_at(script, 8 * k);
@@ -94,7 +93,6 @@ pub fn run(n: usize, script: &[u8], out: &mut [u8]) -> Ran
                 kept[s] = sites::after_delivery(site, put);
                 cells[at] = sites::merged(x, put);
                 sites::learn(&mut known, s, &sees, w);
-                brought += 1;
                 write(out, 8 * k, [0; 8]);
             }
         } else if c.kind == 4 {
@@ -115,7 +113,6 @@ pub fn run(n: usize, script: &[u8], out: &mut [u8]) -> Ran
                 }
                 lacked = sites::first_lacked(n, &puts, &known);
             }
-            brought += copies;
             let bytes = serve::closed(copies as u32);
             write(out, 8 * k, bytes);
         } else {
@@ -141,6 +138,7 @@ pub fn run(n: usize, script: &[u8], out: &mut [u8]) -> Ran
         count: count,
         events: events,
         sees: sees,
-        brought: brought,
+        puts: puts,
+        known: known,
     }
 }

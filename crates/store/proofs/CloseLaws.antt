@@ -12,12 +12,12 @@ use Rattle.record.specs.Questions.{ask}
 use Rattle.store.specs.Store.{upd, Site, Store}
 use Rattle.store.specs.Calls.{close}
 use Rattle.store.specs.Rules.{reached, refusal, afterDelivery, withCopy, Copy, copiesOf, allCopies, copyRefusal, afterCopy, afterCopies, copied, closeCopies, effect}
-use Rattle.store.specs.Close.{lacks, lacking}
+use Rattle.store.specs.Outstanding.{lacks, outstanding}
 use Rattle.store.proofs.UpdateLaws.{upd-elim, upd-there, lt-suc-elim}
 use Rattle.store.proofs.Invariant.{Table, CountedPut, StoreInv}
 use Rattle.store.proofs.DeliverKeeps.{still-known, put-known}
 use Rattle.store.proofs.RunKeeps.{reached-true, copies-inv}
-use Rattle.store.proofs.LackingLaws.{lacking-none, not-lacking, copies-lacking}
+use Rattle.store.proofs.OutstandingLaws.{outstanding-none, not-lacking, copies-outstanding}
 
 -- ---- needs are met in event order
 
@@ -178,19 +178,19 @@ module _ (n : ℕ) (n≤8 : n ≤ 8) (st : Store) (ok : StoreInv n (st .event) s
       (λ q. then-keeps (st .event) (closedSite (st .event) (st .site t) k) k e (has e q put))
       (λ q. rw q (then-knows (st .event) (closedSite (st .event) (st .site t) k) k (rw q at put) (closed-met t k l m has)))
 
-  close-none : (w t : ℕ) → w < st .count → t < n → lacks (closedStore n st (st .count)) (record { event = w; site = t }) ≡ false
+  close-none : (w t : ℕ) → w < st .count → t < n → lacks (closedStore n st (st .count)) t w ≡ false
   close-none w t below l =
       not-lacking (st .event w .isPut) (closedStore n st (st .count) .site t .known w)
       (λ put. rw (lt-ltb t n l) (closed-knows t (st .count) l (le-refl _) w below put))
 
   -- after a close no site lacks a put
-  pub close-none-lacking : (w t : ℕ) → w < st .count → t < n → lacks (effect n st close) (record { event = w; site = t }) ≡ false
+  pub close-none-lacking : (w t : ℕ) → w < st .count → t < n → lacks (effect n st close) t w ≡ false
   unfolding effect
   close-none-lacking = rw (all-closed n st (st .count) (le-refl _)) close-none
 
   -- it delivers as many copies as were lacking
-  pub copied-lacking : copied n st (closeCopies n st) ≡ lacking n st
-  copied-lacking =
-      let none : lacking n (afterCopies n st (closeCopies n st)) ≡ 0 =
-      rw (all-closed n st (st .count) (le-refl _)) (lacking-none n (closedStore n st (st .count)) close-none) in
-      omega (arith, copies-lacking n n≤8 (closeCopies n st) st ok)
+  pub copied-outstanding : copied n st (closeCopies n st) ≡ outstanding n st
+  copied-outstanding =
+      let none : outstanding n (afterCopies n st (closeCopies n st)) ≡ 0 =
+      rw (all-closed n st (st .count) (le-refl _)) (outstanding-none n (closedStore n st (st .count)) close-none) in
+      omega (arith, copies-outstanding n n≤8 (closeCopies n st) st ok)

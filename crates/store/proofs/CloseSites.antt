@@ -6,17 +6,16 @@ use native.Mathlib.Omega.{arith}
 use native.Mathlib.Nat.{le-refl}
 use borrow.Author.Tests.{eqb-true}
 use Rattle.rows.proofs.Tests.{and-left, and-right}
-use Rattle.record.proofs.NumberBytes.{bit-le}
 use Rattle.store.specs.Store.{Site, Store}
 use Rattle.store.specs.Calls.{deliver, close}
 use Rattle.store.specs.Rules.{reached, refusal, afterDelivery, withCopy, copied, closeCopies, effect}
-use Rattle.store.specs.Close.{lacks, lacking}
+use Rattle.store.specs.Outstanding.{lacks, outstanding}
 use Rattle.store.proofs.UpdateLaws.{upd-elim, lt-suc-elim}
 use Rattle.store.proofs.Invariant.{Table, StoreInv}
 use Rattle.store.proofs.DeliverKeeps.{still-known, put-known}
 use Rattle.store.proofs.RunKeeps.{reached-true, copy-inv}
-use Rattle.store.proofs.LackingLaws.{lacking-most, lacking-none, known-put, not-lacking, lacking-less}
-use Rattle.store.proofs.CloseLaws.{needs-reached, due, siteThen, closedSite, copy-due, each-elim, closedStore, all-closed, copied-lacking}
+use Rattle.store.proofs.OutstandingLaws.{outstanding-none, known-put, not-lacking, outstanding-less}
+use Rattle.store.proofs.CloseLaws.{needs-reached, due, siteThen, closedSite, copy-due, each-elim, closedStore, all-closed, copied-outstanding}
 
 -- ---- the lowest put that a site lacks may come first
 
@@ -61,7 +60,7 @@ pub record Closing (n : ℕ) (st₀ st : Store) (copies : ℕ) : Type 0 where
   pub keeps : StoreInv n (st .event) st
   pub sites : (u : ℕ) → u < n → closedSite (st .event) (st .site u) (st .count) ≡ closedSite (st .event) (st₀ .site u) (st .count)
   pub others : (u : ℕ) → n ≤ u → st .site u ≡ st₀ .site u
-  pub counted : copies + lacking n st ≡ lacking n st₀
+  pub counted : copies + outstanding n st ≡ outstanding n st₀
 
 pub closing-none : (n : ℕ) (st : Store) → StoreInv n (st .event) st → Closing n st st 0
 closing-none n st ok = record {
@@ -86,8 +85,8 @@ closing-join n st₀ st₁ st a b h k = record {
 }
 
 module _ (n : ℕ) (n≤8 : n ≤ 8) (st₀ st : Store) (copies : ℕ) (h : Closing n st₀ st copies) (t : ℕ) (l : t < n) where
-  closing-due : (w : ℕ) → w < st .count → lacks st (record { event = w; site = t }) ≡ true
-      → ((e : ℕ) → e < w → lacks st (record { event = e; site = t }) ≡ false) → due (st .event) (st .site t) w ≡ true
+  closing-due : (w : ℕ) → w < st .count → lacks st t w ≡ true
+      → ((e : ℕ) → e < w → lacks st t e ≡ false) → due (st .event) (st .site t) w ≡ true
   closing-due w below lacked none =
       let put : st .event w .isPut ≡ true = and-left (st .event w .isPut) (not (st .site t .known w)) lacked in
       let new : not (st .site t .known w) ≡ true = and-right (st .event w .isPut) (not (st .site t .known w)) lacked in
@@ -97,13 +96,13 @@ module _ (n : ℕ) (n≤8 : n ≤ 8) (st₀ st : Store) (copies : ℕ) (h : Clos
       rw (put, new, met)
 
   -- w is the lowest put that site t lacks: it is not refused
-  closing-doable : (w : ℕ) → w < st .count → lacks st (record { event = w; site = t }) ≡ true
-      → ((e : ℕ) → e < w → lacks st (record { event = e; site = t }) ≡ false) → refusal n st (deliver w t) ≡ 0
+  closing-doable : (w : ℕ) → w < st .count → lacks st t w ≡ true
+      → ((e : ℕ) → e < w → lacks st t e ≡ false) → refusal n st (deliver w t) ≡ 0
   closing-doable w below lacked none = eqb-true (refusal n st (deliver w t)) 0 (copy-due n st w t below l ∙ closing-due w below lacked none)
 
   -- and it is delivered
-  pub closing-more : (w : ℕ) → w < st .count → lacks st (record { event = w; site = t }) ≡ true
-      → ((e : ℕ) → e < w → lacks st (record { event = e; site = t }) ≡ false) → Closing n st₀ (withCopy st w t) (copies + 1)
+  pub closing-more : (w : ℕ) → w < st .count → lacks st t w ≡ true
+      → ((e : ℕ) → e < w → lacks st t e ≡ false) → Closing n st₀ (withCopy st w t) (copies + 1)
   closing-more w below lacked none =
       let doable : refusal n st (deliver w t) ≡ 0 = closing-doable w below lacked none in
       let there : Site = afterDelivery (st .site t) w (st .event w) in
@@ -116,12 +115,12 @@ module _ (n : ℕ) (n≤8 : n ≤ 8) (st₀ st : Store) (copies : ℕ) (h : Clos
             (λ q. rw q (closed-first (st .event) (st .site t) w (st .count) below (closing-due w below lacked none) none ∙ h .sites t l))
             (λ q. h .sites u m);
         others = λ u m. upd-elim (λ (a : Site). a ≡ st₀ .site u) (st .site) t there u (λ q. absurd (omega arith)) (λ q. h .others u m);
-        counted = omega (arith, lacking-less n n≤8 st (h .keeps) w t doable, h .counted);
+        counted = omega (arith, outstanding-less n n≤8 st (h .keeps) w t doable, h .counted);
       }
 
 -- no site lacks a put: the close is done
 module _ (n : ℕ) (n≤8 : n ≤ 8) (st₀ st : Store) (copies : ℕ) (h : Closing n st₀ st copies)
-    (none : (e u : ℕ) → e < st .count → u < n → lacks st (record { event = e; site = u }) ≡ false) where
+    (none : (e u : ℕ) → e < st .count → u < n → lacks st u e ≡ false) where
   pub closing-store : st ≡ effect n st₀ close
   unfolding effect
   closing-store =
@@ -135,8 +134,4 @@ module _ (n : ℕ) (n≤8 : n ≤ 8) (st₀ st : Store) (copies : ℕ) (h : Clos
       same ∙ sym (all-closed n st₀ (st₀ .count) (le-refl _))
 
   pub closing-copies : StoreInv n (st₀ .event) st₀ → copies ≡ copied n st₀ (closeCopies n st₀)
-  closing-copies ok = omega (arith, copied-lacking n n≤8 st₀ ok, h .counted, lacking-none n st none)
-
--- no more copies than sites have events
-pub closing-few : (n : ℕ) (st : Store) → lacking n st ≤ n * st .count
-closing-few n st = omega (arith, lacking-most n st 1 (λ w t l m. bit-le (lacks st (record { event = w; site = t }))))
+  closing-copies ok = omega (arith, copied-outstanding n n≤8 st₀ ok, h .counted, outstanding-none n st none)

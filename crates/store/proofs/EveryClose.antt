@@ -11,19 +11,19 @@ use Rattle.record.specs.Encode.{littleBytes}
 use Rattle.store.specs.Store.{Store, fresh}
 use Rattle.store.specs.Calls.{Call, close}
 use Rattle.store.specs.Rules.{refusal, closeCopies, effect, afterCall, run, doneAnswer, answer}
-use Rattle.store.specs.Close.{lacks, lacking, AllAgree, Closes}
+use Rattle.store.specs.Outstanding.{lacks, outstanding}
+use Rattle.store.specs.Close.{AllAgree, Closes}
 use Rattle.store.proofs.Invariant.{StoreInv}
 use Rattle.store.proofs.RunKeeps.{copies-keep, copies-inv, every-run}
-use Rattle.store.proofs.LackingLaws.{known-put}
-use Rattle.store.proofs.CloseLaws.{close-none-lacking, copied-lacking}
-use Rattle.store.proofs.CloseSites.{closing-few}
+use Rattle.store.proofs.OutstandingLaws.{outstanding-most, known-put}
+use Rattle.store.proofs.CloseLaws.{close-none-lacking, copied-outstanding}
 use Rattle.store.proofs.Sizes.{Limits, every-limits}
 use Rattle.store.proofs.NeedsMet.{needs-met}
 use Rattle.store.proofs.CellsAgree.{KnowsAll, cells-agree, gets-agree}
 
 -- where no site lacks a put, all agree
 all-agree : (n : ℕ) → n ≤ 8 → (st : Store) → StoreInv n (st .event) st
-    → ((w t : ℕ) → w < st .count → t < n → lacks st (record { event = w; site = t }) ≡ false) → AllAgree n st
+    → ((w t : ℕ) → w < st .count → t < n → lacks st t w ≡ false) → AllAgree n st
 all-agree n n≤8 st ok none = record {
   none-lacking = none;
   cells = agree;
@@ -49,15 +49,15 @@ module _ (n : ℕ) (n≤8 : n ≤ 8) (st : Store) (ok : StoreInv n (st .event) s
       all-agree n n≤8 (effect n st close) (copies-inv n n≤8 (closeCopies n st) st ok)
       (λ w t l t<n. close-none-lacking n n≤8 st ok w t (omega (arith, count-stays)) t<n)
 
-  answered : answer n st close ≡ 0 ∷ 1 ∷ (replicate 2 0 ++ littleBytes 4 (lacking n st))
+  answered : answer n st close ≡ 0 ∷ 1 ∷ (replicate 2 0 ++ littleBytes 4 (outstanding n st))
   unfolding answer refusal doneAnswer
-  answered = ap (λ (copies : ℕ). 0 ∷ 1 ∷ (replicate 2 0 ++ littleBytes 4 copies)) (copied-lacking n n≤8 st ok)
+  answered = ap (λ (copies : ℕ). 0 ∷ 1 ∷ (replicate 2 0 ++ littleBytes 4 copies)) (copied-outstanding n n≤8 st ok)
 
   store-close : Limits st → Closes n st
   store-close limits = record {
     leaves = leaves;
     answered = answered;
-    few = omega (arith, closing-few n st, mul-le-mul n≤8 (limits .count));
+    few = omega (arith, outstanding-most n st, mul-le-mul n≤8 (limits .count));
     needs-met = needs-met n n≤8 st ok;
   }
 

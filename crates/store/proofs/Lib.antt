@@ -1,10 +1,10 @@
--- What is proved of the store's rules. What users should know: StoreIsCausal, EveryClose, ThirdDemand.
+-- What is proved of the store's rules. What users should know: StoreIsCausal, EveryClose, EveryCopy, ThirdDemand.
 pub mod UpdateLaws
 pub mod Invariant
 pub mod DeliverKeeps
 pub mod PutGetKeeps
 pub mod RunKeeps
-pub mod LackingLaws
+pub mod OutstandingLaws
 pub mod CloseLaws
 pub mod NeedsMet
 pub mod CloseSites
@@ -15,4 +15,5 @@ pub mod StoreIsCausal
 pub mod CellsAgree
 pub mod EveryClose
 pub mod WholeList
+pub mod EveryCopy
 pub mod ThirdDemand

@@ -9,7 +9,7 @@ use lib.ListN.{length, length-append, replicate, length-replicate}
 use Rattle.record.proofs.NumberBytes.{length-little}
 use Rattle.store.specs.Store.{Store, fresh}
 use Rattle.store.specs.Calls.{Call, put, get, deliver, close, malformed, callAt, callsFrom, callsOf}
-use Rattle.store.specs.Rules.{refusal, afterCall, run, total, doneAnswer, answer, answers}
+use Rattle.store.specs.Rules.{refusal, afterCall, run, doneAnswer, answer, answers}
 use Rattle.store.specs.Rehearsal.{storeAfter}
 use Rattle.store.proofs.Invariant.{StoreInv}
 use Rattle.store.proofs.RunKeeps.{every-run}
@@ -35,18 +35,9 @@ pub no-answers-left : (n : ℕ) (st : Store) (s : List ℕ) (at : ℕ) → answe
 unfolding answers callsFrom
 no-answers-left n st s at = refl
 
-pub total-left : (f : ℕ → Store → Call → ℕ) (n : ℕ) (st : Store) (k : ℕ) (s : List ℕ) (at : ℕ)
-    → total f n st (callsFrom (suc k) s at) ≡ f n st (callAt s at) + total f n (afterCall n st (callAt s at)) (callsFrom k s (at + 8))
-unfolding total callsFrom
-total-left f n st k s at = refl
-
-pub no-total-left : (f : ℕ → Store → Call → ℕ) (n : ℕ) (st : Store) (s : List ℕ) (at : ℕ) → total f n st (callsFrom zero s at) ≡ 0
-unfolding total callsFrom
-no-total-left f n st s at = refl
-
 -- ---- counted up
 
--- the store after the first k calls of a script, their answers, and a number of each added up
+-- the store after the first k calls of a script, and their answers
 unfoldable pub storeUpTo : ℕ → ℕ → List ℕ → Store
 storeUpTo zero n s = fresh
 storeUpTo (suc k) n s = afterCall n (storeUpTo k n s) (callAt s (8 * k))
@@ -54,10 +45,6 @@ storeUpTo (suc k) n s = afterCall n (storeUpTo k n s) (callAt s (8 * k))
 unfoldable pub answersUpTo : ℕ → ℕ → List ℕ → List ℕ
 answersUpTo zero n s = []
 answersUpTo (suc k) n s = answersUpTo k n s ++ answer n (storeUpTo k n s) (callAt s (8 * k))
-
-unfoldable pub totalUpTo : (ℕ → Store → Call → ℕ) → ℕ → ℕ → List ℕ → ℕ
-totalUpTo f zero n s = 0
-totalUpTo f (suc k) n s = totalUpTo f k n s + f n (storeUpTo k n s) (callAt s (8 * k))
 
 pub store-none : (n : ℕ) (s : List ℕ) → storeUpTo 0 n s ≡ fresh
 unfolding storeUpTo
@@ -74,20 +61,6 @@ answers-none n s = refl
 pub answers-more : (k n : ℕ) (s : List ℕ) → answersUpTo (suc k) n s ≡ answersUpTo k n s ++ answer n (storeUpTo k n s) (callAt s (8 * k))
 unfolding answersUpTo
 answers-more k n s = refl
-
-pub total-none : (f : ℕ → Store → Call → ℕ) (n : ℕ) (s : List ℕ) → totalUpTo f 0 n s ≡ 0
-unfolding totalUpTo
-total-none f n s = refl
-
-pub total-more : (f : ℕ → Store → Call → ℕ) (k n : ℕ) (s : List ℕ) → totalUpTo f (suc k) n s ≡ totalUpTo f k n s + f n (storeUpTo k n s) (callAt s (8 * k))
-unfolding totalUpTo
-total-more f k n s = refl
-
--- two numbers of each call
-pub total-add : (f g : ℕ → Store → Call → ℕ) (n : ℕ) (st : Store) (cs : List Call) → total (λ m x c. f m x c + g m x c) n st cs ≡ total f n st cs + total g n st cs
-unfolding total
-total-add f g n st [] = refl
-total-add f g n st (c ∷ cs) = omega (arith, total-add f g n (afterCall n st c) cs)
 
 -- after k calls, j more make what k + j make
 run-on : (j k n : ℕ) (s : List ℕ) → run n (storeUpTo k n s) (callsFrom j s (8 * k)) ≡ storeUpTo (k + j) n s
@@ -116,24 +89,6 @@ answers-on (suc j) k n s =
     ∙ answers-on j (suc k) n s
     ∙ ap (λ (i : ℕ). answersUpTo i n s) (omega arith)
 
-total-on : (f : ℕ → Store → Call → ℕ) (j k n : ℕ) (s : List ℕ) → totalUpTo f k n s + total f n (storeUpTo k n s) (callsFrom j s (8 * k)) ≡ totalUpTo f (k + j) n s
-total-on f zero k n s =
-    let same : k ≡ k + 0 = omega arith in
-    omega (arith, no-total-left f n (storeUpTo k n s) s (8 * k), ap (λ (i : ℕ). totalUpTo f i n s) same)
-total-on f (suc j) k n s =
-    let now : Store = storeUpTo k n s in
-    let next : 8 * k + 8 ≡ 8 * suc k = omega arith in
-    let same : suc k + j ≡ k + suc j = omega arith in
-    let left : total f n (afterCall n now (callAt s (8 * k))) (callsFrom j s (8 * k + 8)) ≡ total f n (storeUpTo (suc k) n s) (callsFrom j s (8 * suc k)) =
-    rw (store-more k n s, next) refl in omega (
-      arith,
-      total-left f n now j s (8 * k),
-      left,
-      total-more f k n s,
-      total-on f j (suc k) n s,
-      ap (λ (i : ℕ). totalUpTo f i n s) same,
-    )
-
 -- the first k calls are a list of calls, so what every list has, they have
 pub store-up-to : (k n : ℕ) (s : List ℕ) → storeUpTo k n s ≡ run n fresh (callsFrom k s 0)
 unfolding storeUpTo
@@ -142,10 +97,6 @@ store-up-to k n s = let z : k ≡ 0 + k = omega arith in ap (λ (i : ℕ). store
 pub answers-up-to : (k n : ℕ) (s : List ℕ) → answersUpTo k n s ≡ answers n fresh (callsFrom k s 0)
 unfolding storeUpTo answersUpTo
 answers-up-to k n s = let z : k ≡ 0 + k = omega arith in ap (λ (i : ℕ). answersUpTo i n s) z ∙ sym (answers-on k 0 n s)
-
-pub total-up-to : (f : ℕ → Store → Call → ℕ) (k n : ℕ) (s : List ℕ) → totalUpTo f k n s ≡ total f n fresh (callsFrom k s 0)
-unfolding storeUpTo totalUpTo
-total-up-to f k n s = let z : k ≡ 0 + k = omega arith in omega (arith, ap (λ (i : ℕ). totalUpTo f i n s) z, total-on f k 0 n s)
 
 pub up-to-keeps : (k n : ℕ) → n ≤ 8 → (s : List ℕ) → StoreInv n (storeUpTo k n s .event) (storeUpTo k n s)
 up-to-keeps k n n≤8 s = rw store-up-to (every-run n n≤8 (callsFrom k s 0))
@@ -164,10 +115,6 @@ store-whole n s = store-up-to (length s / 8) n s
 pub answers-whole : (n : ℕ) (s : List ℕ) → answersUpTo (length s / 8) n s ≡ answers n fresh (callsOf s)
 unfolding callsOf
 answers-whole n s = answers-up-to (length s / 8) n s
-
-pub total-whole : (f : ℕ → Store → Call → ℕ) (n : ℕ) (s : List ℕ) → totalUpTo f (length s / 8) n s ≡ total f n fresh (callsOf s)
-unfolding callsOf
-total-whole f n s = total-up-to f (length s / 8) n s
 
 -- ---- lengths
 

@@ -1,31 +1,18 @@
 -- What close of trading brings about: no site lacks a put, and the cells of all sites agree.
 use mathlib.Core.Path.{_≡_}
-use mathlib.Core.Bool.{Bool, false, not, _&&_}
-use mathlib.Core.List.{List, [], _∷_, _++_}
-use Prim.Native.Nat.{ℕ, _+_, _≤_, _<_}
+use mathlib.Core.Bool.{false}
+use mathlib.Core.List.{List, _∷_, _++_}
+use Prim.Native.Nat.{ℕ, _≤_, _<_}
 use lib.ListN.{replicate}
-use Rattle.record.specs.Encode.{bit, littleBytes}
+use Rattle.record.specs.Encode.{littleBytes}
 use Rattle.store.specs.Store.{Store}
 use Rattle.store.specs.Calls.{get, close}
-use Rattle.store.specs.Rules.{Copy, allCopies, copyRefusal, afterCopies, closeCopies, afterCall, answer}
-
--- the event is a put, and the site lacks it
-abbrev pub lacks : Store → Copy → Bool
-lacks st c = st .event (c .event) .isPut && not (st .site (c .site) .known (c .event))
-
--- how many of these copies are lacking
-unfoldable pub lackingOf : Store → List Copy → ℕ
-lackingOf st [] = 0
-lackingOf st (c ∷ cs) = bit (lacks st c) + lackingOf st cs
-
--- the pairs of a put and a site below n that lacks it
-unfoldable pub lacking : ℕ → Store → ℕ
-unfolding lackingOf
-lacking n st = lackingOf st (allCopies n (st .count))
+use Rattle.store.specs.Rules.{Copy, copyRefusal, afterCopies, closeCopies, afterCall, answer}
+use Rattle.store.specs.Outstanding.{lacks, outstanding}
 
 -- no site below n lacks a put; their cells agree in value, stamp and site; so a get of one object is answered the same at any two of them
 pub record AllAgree (n : ℕ) (st : Store) : Type 0 where
-  pub none-lacking : (w t : ℕ) → w < st .count → t < n → lacks st (record { event = w; site = t }) ≡ false
+  pub none-lacking : (w t : ℕ) → w < st .count → t < n → lacks st t w ≡ false
   pub cells : (s t o : ℕ) → s < n → t < n → st .site s .cell o ≡ st .site t .cell o
   pub gets : (s t o : ℕ) → s < n → t < n → answer n st (get s o) ≡ answer n st (get t o)
 
@@ -33,6 +20,6 @@ pub record AllAgree (n : ℕ) (st : Store) : Type 0 where
 -- bytes hold it; and that none of its deliveries meets an unmet need (36)
 pub record Closes (n : ℕ) (st : Store) : Type 0 where
   pub leaves : AllAgree n (afterCall n st close)
-  pub answered : answer n st close ≡ 0 ∷ 1 ∷ (replicate 2 0 ++ littleBytes 4 (lacking n st))
-  pub few : lacking n st ≤ 2048
+  pub answered : answer n st close ≡ 0 ∷ 1 ∷ (replicate 2 0 ++ littleBytes 4 (outstanding n st))
+  pub few : outstanding n st ≤ 2048
   pub needs-met : (front rest : List Copy) (c : Copy) → closeCopies n st ≡ front ++ (c ∷ rest) → copyRefusal n (afterCopies n st front) c ≡ 36 → ⊥

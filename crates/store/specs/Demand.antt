@@ -1,7 +1,7 @@
 -- The third demand, in one place: what a rehearsal promises of its result and of both buffers, for every input.
 use mathlib.Core.Path.{_≡_}
 use mathlib.Core.List.{List, _∷_, _++_}
-use Prim.Native.Nat.{ℕ, _≤_}
+use Prim.Native.Nat.{ℕ}
 use Rattle.record.specs.Layout.{gcr1}
 use Rattle.record.specs.History.{historyOf}
 use Rattle.record.specs.Answers.{Passes}
@@ -11,7 +11,8 @@ use Rattle.store.specs.Store.{fresh}
 use Rattle.store.specs.Calls.{Call, close, callsOf}
 use Rattle.store.specs.Rules.{run}
 use Rattle.store.specs.Close.{Closes}
-use Rattle.store.specs.Rehearsal.{rehearsalRefusal, recordOf, recordAfter, answersAfter, lengthAfter, mostCopies}
+use Rattle.store.specs.Outstanding.{AddsUp, ToldAddsUp}
+use Rattle.store.specs.Rehearsal.{rehearsalRefusal, recordOf, recordAfter, answersAfter, lengthAfter, outstandingAfter}
 use Rattle.store.specs.declared.Rehearsed.{Rehearsed}
 
 -- a record passes every check, and is causal: predicates 10, 11 and 1 hold of it
@@ -27,6 +28,8 @@ pub record Rehearses (n : ℕ) (script rec ans rec′ ans′ : List ℕ) (r : Re
   pub length : r .length ≡ lengthAfter n script rec ans
   pub recorded : rec′ ≡ recordAfter n script rec ans
   pub answered : ans′ ≡ answersAfter n script rec ans
-  pub copies : r .outstanding ≤ mostCopies n script rec ans
+  pub copies : r .outstanding ≡ outstandingAfter n script rec ans
   pub causal : r .number ≡ 0 → CausalRecord (recordOf n script)
   pub closes : r .number ≡ 0 → (before after : List Call) → callsOf script ≡ before ++ (close ∷ after) → Closes n (run n fresh before)
+  pub adds-up : r .number ≡ 0 → AddsUp n (callsOf script) (r .outstanding)
+  pub told-adds-up : r .number ≡ 0 → ToldAddsUp n (callsOf script) ans′ (r .outstanding)

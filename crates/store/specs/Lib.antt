@@ -2,6 +2,7 @@
 pub mod Store
 pub mod Calls
 pub mod Rules
+pub mod Outstanding
 pub mod Close
 pub mod Recorded
 pub mod Rehearsal

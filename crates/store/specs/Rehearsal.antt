@@ -1,16 +1,16 @@
--- A rehearsal: 20 to 23, then the whole list of calls from fresh sites; its number, record and answers.
+-- A rehearsal: 20 to 23, then the whole list of calls from fresh sites; its number, record, answers and copies outstanding.
 use mathlib.Core.Bool.{cond, _&&_}
 use mathlib.Core.List.{List, _++_}
-use Prim.Native.Nat.{ℕ, zero, suc, _+_, _*_, _-_, _%_}
+use Prim.Native.Nat.{ℕ, _%_}
 use lib.Dec.{eqb, leb}
 use lib.ListN.{length, drop}
 use Rattle.record.specs.Layout.{gcr1}
-use Rattle.record.specs.Encode.{bit}
-use Rattle.store.specs.Store.{Event, Store, fresh}
+use Rattle.store.specs.Store.{Store, fresh}
 use Rattle.store.specs.Calls.{callsOf}
 use Rattle.record.specs.Questions.{ask}
 use Rattle.store.specs.Rules.{run, answers}
 use Rattle.store.specs.Recorded.{storeRecord}
+use Rattle.store.specs.Outstanding.{outstanding}
 
 -- 20 sites, 21 script, 22 record buffer, 23 answer buffer; 0 where all are right
 unfoldable pub rehearsalRefusal : ℕ → List ℕ → List ℕ → List ℕ → ℕ
@@ -39,14 +39,6 @@ answersAfter n script rec ans =
 unfoldable pub lengthAfter : ℕ → List ℕ → List ℕ → List ℕ → ℕ
 lengthAfter n script rec ans = cond (eqb (rehearsalRefusal n script rec ans) 0) (length (recordOf n script)) 0
 
--- how many of the first k events are puts
-unfoldable pub puts : (ℕ → Event) → ℕ → ℕ
-puts events zero = 0
-puts events (suc k) = puts events k + bit (events k .isPut)
-
--- the copies outstanding are at most puts × (sites − 1), and 0 where the rehearsal was refused
-unfoldable pub mostCopies : ℕ → List ℕ → List ℕ → List ℕ → ℕ
-mostCopies n script rec ans =
-    cond (eqb (rehearsalRefusal n script rec ans) 0)
-    (puts (storeAfter n script .event) (storeAfter n script .count) * (n - 1))
-    0
+-- the copies outstanding; 0 where the rehearsal was refused
+unfoldable pub outstandingAfter : ℕ → List ℕ → List ℕ → List ℕ → ℕ
+outstandingAfter n script rec ans = cond (eqb (rehearsalRefusal n script rec ans) 0) (outstanding n (storeAfter n script)) 0

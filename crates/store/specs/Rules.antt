@@ -136,25 +136,23 @@ unfoldable pub run : ℕ → Store → List Call → Store
 run n st [] = st
 run n st (c ∷ cs) = run n (afterCall n st c) cs
 
--- a call of kind 3
-abbrev pub isDelivery : Call → Bool
-isDelivery (put s o v) = false
-isDelivery (get s o) = false
-isDelivery (deliver w t) = true
-isDelivery close = false
-isDelivery malformed = false
+-- ---- what a list of calls comes to
 
--- 1 for a done delivery: a call of kind 3 that no question refused
-abbrev pub delivered : ℕ → Store → Call → ℕ
-delivered n st c = bit (isDelivery c && eqb (refusal n st c) 0)
+-- a call's kind, and 0 of a malformed one
+abbrev pub kindOf : Call → ℕ
+kindOf (put s o v) = 1
+kindOf (get s o) = 2
+kindOf (deliver w t) = 3
+kindOf close = 4
+kindOf malformed = 0
+
+-- 1 for a done call of a kind: one that no question refused
+abbrev pub done : ℕ → ℕ → Store → Call → ℕ
+done kind n st c = bit (eqb (kindOf c) kind && eqb (refusal n st c) 0)
 
 -- the copies that a call delivers as a close
 abbrev pub closed : ℕ → Store → Call → ℕ
-closed n st (put s o v) = 0
-closed n st (get s o) = 0
-closed n st (deliver w t) = 0
-closed n st close = copied n st (closeCopies n st)
-closed n st malformed = 0
+closed n st c = cond (eqb (kindOf c) 4) (copied n st (closeCopies n st)) 0
 
 -- a number of each call, added up over the list
 unfoldable pub total : (ℕ → Store → Call → ℕ) → ℕ → Store → List Call → ℕ
@@ -163,7 +161,7 @@ total f n st (c ∷ cs) = f n st c + total f n (afterCall n st c) cs
 
 -- done deliveries
 abbrev pub deliveries : ℕ → Store → List Call → ℕ
-deliveries = total delivered
+deliveries = total (done 3)
 
 -- copies delivered by closes
 abbrev pub closes : ℕ → Store → List Call → ℕ

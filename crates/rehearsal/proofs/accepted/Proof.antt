@@ -1,4 +1,5 @@
 -- `rehearsal::accepted` meets its contract: the answers of the run, and the record of the store that the run stands for. Assumes nothing.
+use mathlib.Core.Path.{sym}
 use native.Mathlib.Omega.{arith}
 use borrow.Author.Needs.{needs}
 use Rattle.rehearsal.specs.Arrays.{ranStore, Bounded, DistinctStamps}
@@ -32,11 +33,16 @@ write-requires c κs =
     let run = c .before .before .before in
     (small run, (distinct run, right (entry run) .room))
 
+slice-aggregate-outstanding : tie.Need-slice-aggregate-outstanding
+slice-aggregate-outstanding c = search needs
+
+slice-aggregate-outstanding-2 : tie.Need-slice-aggregate-outstanding-2
+slice-aggregate-outstanding-2 c = search needs
+
 outstanding-requires : tie.Need-outstanding-requires
 outstanding-requires c κs =
-    let run = c .before .before .before .before .before .before in
-    let a = right (entry run) in
-    (a .least, (a .most, small run .count))
+    let run = c .before .before .before .before .before .before .before .before .before .before in
+    (sym (slice-aggregate-outstanding (c .before)), sym (slice-aggregate-outstanding-2 c), right (entry run) .most)
 
 same-length : tie.Need-same-length
 same-length c = search needs
@@ -46,7 +52,7 @@ same-length-2 c = search needs
 
 returns : tie.Need-returns
 returns c =
-    let write = c .before .before .before in
+    let write = c .before .before .before .before .before .before .before in
     let run = write .before .before .before .before in
     let g = entry run .args in
     accepted-rehearses (g .sites) (g .script .now) (g .rec .now) (g .answers .now) (entry run .pre)
@@ -60,6 +66,8 @@ accepted-spec =
     run-requires
     cast-write
     write-requires
+    slice-aggregate-outstanding
+    slice-aggregate-outstanding-2
     outstanding-requires
     same-length
     same-length-2

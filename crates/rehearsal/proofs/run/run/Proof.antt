@@ -20,34 +20,34 @@ use Rattle.rehearsal.proofs.run.run.Statement.{statement}
 use Rattle.rehearsal.proofs.run.run.Tie as tie
 
 abbrev Inv-loop3 : tie.InvT-loop3
-Inv-loop3 n script out kept₀ known₀ cells₀ events sees puts count brought k s w number copies₀ lacked copy t₀ kept known cells copies t =
+Inv-loop3 n script out kept₀ known₀ cells₀ events sees puts count k s w number copies₀ lacked copy t₀ kept known cells copies t =
     Copying n
     (record { count = count; events = events; sees = sees; kept = kept₀; known = known₀; cells = cells₀; puts = puts })
     lacked copies₀ kept known cells copies t
 
 abbrev μ-loop3 : tie.MeasureT-loop3
-μ-loop3 n script out kept₀ known₀ cells₀ events sees puts count brought k s w number copies₀ lacked copy t₀ kept known cells copies t =
+μ-loop3 n script out kept₀ known₀ cells₀ events sees puts count k s w number copies₀ lacked copy t₀ kept known cells copies t =
     n - t
 
 abbrev Inv-loop2 : tie.InvT-loop2
-Inv-loop2 n script out kept₀ known₀ cells₀ events sees puts count brought k s w number copies₀ lacked₀ kept known cells copies lacked =
+Inv-loop2 n script out kept₀ known₀ cells₀ events sees puts count k s w number copies₀ lacked₀ kept known cells copies lacked =
     ClosingIn n
     (record { count = count; events = events; sees = sees; kept = kept₀; known = known₀; cells = cells₀; puts = puts })
     kept known cells copies
     × (lacked ≡ lowest 256 (lackedBySome puts known n))
 
 abbrev μ-loop2 : tie.MeasureT-loop2
-μ-loop2 n script out kept₀ known₀ cells₀ events sees puts count brought k s w number copies₀ lacked₀ kept known cells copies lacked =
+μ-loop2 n script out kept₀ known₀ cells₀ events sees puts count k s w number copies₀ lacked₀ kept known cells copies lacked =
     256 - lacked
 
 abbrev Inv-loop : tie.InvT-loop
-Inv-loop n script out₀ kept₀ known₀ cells₀ events₀ sees₀ puts₀ count₀ brought₀ k₀ out kept known cells events sees puts count brought k =
+Inv-loop n script out₀ kept₀ known₀ cells₀ events₀ sees₀ puts₀ count₀ k₀ out kept known cells events sees puts count k =
     Turned n script out₀ out
     (record { count = count; events = events; sees = sees; kept = kept; known = known; cells = cells; puts = puts })
-    brought k
+    k
 
 abbrev μ-loop : tie.MeasureT-loop
-μ-loop n script out₀ kept₀ known₀ cells₀ events₀ sees₀ puts₀ count₀ brought₀ k₀ out kept known cells events sees puts count brought k =
+μ-loop n script out₀ kept₀ known₀ cells₀ events₀ sees₀ puts₀ count₀ k₀ out kept known cells events sees puts count k =
     length script / 8 - k
 
 -- where it is told whether a call is refused: the function's entry, the loop's turn, and what holds of it
@@ -71,7 +71,6 @@ here c =
       out₀ = g .out .now;
       out = l .out;
       z = record { count = l .count; events = l .events; sees = l .sees; kept = l .kept; known = l .known; cells = l .cells; puts = l .puts };
-      copies = l .brought;
       k = l .k;
       c = a;
       s = a .site % 8;
@@ -207,7 +206,7 @@ refused-requires c κs =
     let g = c .before .before .before .before .before .before .before .before .before .before .before .before .args in
     let l = c .before .before .before .before .before .before .loop in (
       c .before .before .before .before .before .before .before .before .before .before .before .before .pre .0,
-      count-few (g .n) (g .script .now) (g .out .now) (l .out) _ (l .brought) (l .k) (l .inv),
+      count-few (g .n) (g .script .now) (g .out .now) (l .out) _ (l .k) (l .inv),
       l .inv .sized .known,
       c .before .before .before .before .asked-at .ensures .1,
     )
@@ -282,11 +281,6 @@ learn-requires : tie.Need-learn-requires Inv-loop3 μ-loop3 Inv-loop2 μ-loop2 I
 learn-requires c κs =
     let l = turn (c .before .before .before .before .before .before .before .before .before .before .before .before .before .before .before) .loop in
     (l .inv .sized .known, l .inv .sized .sees, omega arith, omega arith)
-
-add-brought : tie.Need-add-brought Inv-loop3 μ-loop3 Inv-loop2 μ-loop2 Inv-loop μ-loop
-add-brought c =
-    let h = c .before .before .before .before .before .before .before .before .before .before .before .before .before .before .before .before .before in
-    omega (arith, few h, turn h .loop .inv .few)
 
 mul-write-3 : tie.Need-mul-write-3 Inv-loop3 μ-loop3 Inv-loop2 μ-loop2 Inv-loop μ-loop
 mul-write-3 c = omega (arith, few (c .before .before .before .before .before .before .before .before .before .before .before .before .before .before .before .before .before .before))
@@ -435,19 +429,12 @@ loop2-less c =
 loop2-again : tie.Need-loop2-again Inv-loop3 μ-loop3 Inv-loop2 μ-loop2 Inv-loop μ-loop
 loop2-again c = (joined (c .before .before .before .before), c .first-lacked2 .ensures)
 
-add-brought-2 : tie.Need-add-brought-2 Inv-loop3 μ-loop3 Inv-loop2 μ-loop2 Inv-loop μ-loop
-add-brought-2 c =
-    let o = c .before .before .before .before .before .before .before .before .before .before in
-    let h = right o in
-    let l = c .before .loop2 in
-    omega (arith, few o, h .inv .few, closing-most (entry o .args .n) (h .sites) (here o .z) (h .inv .laid) (keeps (here o) h) (limits (here o) h) (l .kept) (l .known) (l .cells) (l .copies) (l .inv .0))
-
 cast-closed : tie.Need-cast-closed Inv-loop3 μ-loop3 Inv-loop2 μ-loop2 Inv-loop μ-loop
 cast-closed c =
     let o = c .before .before .before .before .before .before .before .before .before .before in
     let h = right o in
     let l = c .before .loop2 in
-    omega (arith, few o, h .inv .few, closing-most (entry o .args .n) (h .sites) (here o .z) (h .inv .laid) (keeps (here o) h) (limits (here o) h) (l .kept) (l .known) (l .cells) (l .copies) (l .inv .0))
+    omega (arith, closing-most (entry o .args .n) (h .sites) (here o .z) (h .inv .laid) (keeps (here o) h) (limits (here o) h) (l .kept) (l .known) (l .cells) (l .copies) (l .inv .0))
 
 closed-requires : tie.Need-closed-requires Inv-loop3 μ-loop3 Inv-loop2 μ-loop2 Inv-loop μ-loop
 closed-requires c κs = search needs
@@ -548,23 +535,23 @@ loop-again c =
     let h = c .before in
     elim (c .if1 .came) [
       | inl w ↦
-          carried (w .5) (w .6) (w .7) (w .8) (w .9) (w .10) (w .11) (w .12) (w .13)
+          carried (w .5) (w .6) (w .7) (w .8) (w .9) (w .10) (w .11) (w .12)
           (turned-refused (here h) (right h) _ _ (w .2 .ensures) _ (is-refused (here h) (right h) (w .0 .taken)) (w .0 .taken) refl)
       | inr (inl w) ↦
-          carried (w .13) (w .14) (w .15) (w .16) (w .17) (w .18) (w .19) (w .20) (w .21)
+          carried (w .13) (w .14) (w .15) (w .16) (w .17) (w .18) (w .19) (w .20)
           (turned-refused (here h) (right h) _ _ (w .10 .ensures) _ (is-early (here h) (right h) (w .0 .left) (w .2 .taken) (sym (w .7 .ensures) ∙ not-true _ (w .8 .taken))) (λ e. omega arith) refl)
       | inr (inr (inl w)) ↦
-          carried (w .21) (w .22) (w .23) (w .24) (w .25) (w .26) (w .27) (w .28) (w .29)
+          carried (w .21) (w .22) (w .23) (w .24) (w .25) (w .26) (w .27) (w .28)
           (turned-delivered (here h) (right h) _ _ (w .18 .ensures) (is-delivered (here h) (right h) (w .0 .left) (w .2 .taken) (sym (w .7 .ensures) ∙ not-false _ (w .8 .left))) (w .2 .taken) (w .11 .result) (w .12 .result) _ _ refl
           (w .11 .ensures) (w .12 .ensures) (w .15 .ensures .0) (w .15 .ensures .1) refl)
       | inr (inr (inr (inl w))) ↦
           let g = w .8 in
-          carried (w .15) (w .16) (w .17) (w .18) (w .19) (w .20) (w .21) (w .22) (w .23)
+          carried (w .15) (w .16) (w .17) (w .18) (w .19) (w .20) (w .21) (w .22)
           (turned-closed (here h) (right h) (w .4 .taken) (is-done (here h) (right h) (w .0 .left) (w .2 .left)) _ _ (w .12 .ensures) (g .kept) (g .known) (g .cells) (g .copies) (g .lacked) (g .inv .0) (g .inv .1) (w .9 .left)
           (w .10 .ensures))
       | inr (inr (inr (inr w))) ↦
           let done = is-done (here h) (right h) (w .0 .left) (w .2 .left) in
-          carried (w .23) (w .24) (w .25) (w .26) (w .27) (w .28) (w .29) (w .30) (w .31)
+          carried (w .23) (w .24) (w .25) (w .26) (w .27) (w .28) (w .29) (w .30)
           (turned-made (here h) (right h) _ _ (w .20 .ensures) done (w .2 .left) (w .4 .left) (w .8 .result) _ _ _ _ refl
           (w .8 .ensures .0) (w .8 .ensures .1) (w .15 .ensures .0 .0) (w .15 .ensures .0 .1) (length-set (here h .z .puts) _ _ ∙ right h .inv .sized .puts) (w .15 .ensures .1 .0) (w .15 .ensures .1 .1) (put-row (here h .z .count) (here h .z .puts) (w .8 .result .event .put) (makes (here h) (right h) done (w .2 .left) (w .4 .left) .room) (right h .inv .sized .puts)) refl)
     ]
@@ -577,8 +564,8 @@ returns c =
     let g = c .before .before .before .before .before .before .before .args in
     let l = c .before .loop in
     let all : l .k ≡ length (g .script .now) / 8 = omega (arith, l .inv .within) in (
-      whole-answers (g .n) (g .script .now) (g .out .now) (l .out) _ (l .brought) (l .k) (l .inv) all (c .before .before .before .before .before .before .before .pre .1 .0),
-      whole-ends (g .n) (g .script .now) (g .out .now) (l .out) _ (l .brought) (l .k) (l .inv) all,
+      whole-answers (g .n) (g .script .now) (g .out .now) (l .out) _ (l .k) (l .inv) all (c .before .before .before .before .before .before .before .pre .1 .0),
+      whole-ends (g .n) (g .script .now) (g .out .now) (l .out) _ (l .k) (l .inv) all,
     )
 
 pub run-spec : {M : Type 1} → statement M
@@ -626,7 +613,6 @@ run-spec =
     slice-aggregate-learn
     slice-aggregate-learn-2
     learn-requires
-    add-brought
     mul-write-3
     write-requires-3
     slice-aggregate-first-lacked
@@ -665,7 +651,6 @@ run-spec =
     first-lacked-requires-2
     loop2-less
     loop2-again
-    add-brought-2
     cast-closed
     closed-requires
     mul-write-4
