@@ -52,8 +52,18 @@ pub struct Outcome {
 }
 
 impl Outcome {
+    pub fn refused(number: u32) -> Outcome {
+        Outcome { number, length: 0, outstanding: 0 }
+    }
+
     pub fn packed(&self) -> u64 {
         self.number as u64 + 256 * self.length as u64 + 16_777_216 * self.outstanding as u64
+    }
+
+    /// Of any number, so that nothing of a wrong one is lost.
+    pub fn unpacked(result: u64) -> Outcome {
+        let (number, length) = (result % 256, result / 256 % 65_536);
+        Outcome { number: number as u32, length: length as usize, outstanding: (result / 16_777_216) as usize }
     }
 }
 
@@ -148,8 +158,12 @@ impl Store {
         self.done.get(event).is_some_and(|done| done.event.is_write())
     }
 
-    fn lacks(&self, site: &Site, event: usize) -> bool {
-        self.is_put(event) && !site.known[event]
+    pub fn knows(&self, site: usize, event: usize) -> bool {
+        self.sites[site].known[event]
+    }
+
+    fn lacks(&self, site: usize, event: usize) -> bool {
+        self.is_put(event) && !self.knows(site, event)
     }
 
     fn run(&mut self, call: Call) -> [u8; 8] {
@@ -210,7 +224,7 @@ impl Store {
         let mut copies = 0;
         for event in 0..self.done.len() {
             for site in 0..self.sites.len() {
-                if self.lacks(&self.sites[site], event) {
+                if self.lacks(site, event) {
                     let refused = self.first_no(Call::Deliver { site, event });
                     assert_eq!(refused, None, "put {event} comes to site {site} after all that it needs");
                     self.deliver(site, event);
@@ -240,10 +254,10 @@ impl Store {
         self.done.len()
     }
 
-    /// Pairs of a put and a site that lacks it.
+    /// Pairs of a put and a site that lacks it, every pair looked up in the site's known set.
     pub fn outstanding(&self) -> usize {
-        let lacked_by = |site: &Site| (0..self.done.len()).filter(|&event| self.lacks(site, event)).count();
-        self.sites.iter().map(lacked_by).sum()
+        let lacked_by = |site| (0..self.done.len()).filter(|&event| self.lacks(site, event)).count();
+        (0..self.sites.len()).map(lacked_by).sum()
     }
 
     /// Whether every object's cell is the same at all sites.
@@ -288,7 +302,7 @@ fn first_no(sites: u32, script: usize, record: usize, answers: usize) -> Option<
 
 pub fn rehearse(sites: u32, script: &[u8], record: &mut [u8], answers: &mut [u8]) -> Outcome {
     if let Some(number) = first_no(sites, script.len(), record.len(), answers.len()) {
-        return Outcome { number, length: 0, outstanding: 0 };
+        return Outcome::refused(number);
     }
     let store = run_script(sites as usize, script, answers);
     let bytes = store.record().to_bytes();

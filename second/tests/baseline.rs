@@ -2,7 +2,6 @@
 
 use second::baseline::columns::Columns;
 use second::baseline::judging::{judge_all, judge_predicate, prepare};
-use second::compare::rehearsal::Outstanding;
 use second::compare::subject::{Baseline, Itself, Rehearser};
 use second::compare::tally::Tally;
 use second::compare::{models, reader, rehearsal, Seeds};
@@ -65,7 +64,7 @@ fn judges_alone_and_all_at_once() {
 #[test]
 fn rehearses_alike() {
     let mut tally = Tally::counting();
-    rehearsal::compare(&Baseline, Outstanding::Exact, &Seeds::first(800), &mut tally);
+    rehearsal::compare(&Baseline, &Seeds::first(800), &mut tally);
     all_passed(tally, 4_000);
 }
 

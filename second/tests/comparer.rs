@@ -1,6 +1,5 @@
 //! The comparers find deliberate faults, and none where there is none.
 
-use second::compare::rehearsal::Outstanding;
 use second::compare::subject::{Baseline, Itself, Judge, Reader, Rehearser};
 use second::compare::tally::Tally;
 use second::compare::{models, programs, reader, rehearsal, Seeds};
@@ -143,7 +142,7 @@ fn words_failures(fault: fn(u64, &mut [u64])) -> u64 {
 
 fn rehearsal_failures(subject: &dyn Rehearser) -> u64 {
     let mut tally = Tally::counting();
-    rehearsal::compare(subject, Outstanding::Bounded, &Seeds::first(100), &mut tally);
+    rehearsal::compare(subject, &Seeds::first(100), &mut tally);
     tally.failed
 }
 

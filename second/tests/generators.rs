@@ -2,7 +2,7 @@
 
 use second::compare::occurrences::Row;
 use second::compare::tally::Tally;
-use second::compare::{answered, must_occur, Seeds};
+use second::compare::{answered, must_occur, rehearsal, Seeds};
 use second::generate::random::Random;
 use second::generate::{meeting, record, scripts};
 use second::models::{answers, MODELS};
@@ -98,7 +98,7 @@ fn every_answer_of_calls_and_rehearsals() {
         let given = scripts::rehearsal(seed);
         let (mut record, mut answers) = (vec![0; given.record_bytes], vec![0; given.answer_bytes]);
         let outcome = rehearse(given.sites, &given.script, &mut record, &mut answers);
-        answered::rehearsal(outcome.number, &given.script, &answers, tally);
+        rehearsal::count_occurrences(&given, &outcome, &answers, tally);
     });
 }
 

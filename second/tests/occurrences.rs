@@ -1,7 +1,6 @@
 //! A run fails where an answer that it must meet never occurs, and says which.
 
 use second::compare::occurrences::{Occurrences, Row};
-use second::compare::rehearsal::Outstanding;
 use second::compare::subject::{Baseline, Itself};
 use second::compare::tally::Tally;
 use second::compare::{models, must_occur, programs, reader, rehearsal, Seeds};
@@ -68,7 +67,7 @@ fn without_seeds_all_is_missed() {
         missed(|tally| reader::compare(&Itself, &none, tally)),
         missed(|tally| models::compare(&Baseline, &none, tally)),
         missed(|tally| programs::rehearse(&rehearse, &none, tally)),
-        missed(|tally| rehearsal::compare(&Itself, Outstanding::Exact, &none, tally)),
+        missed(|tally| rehearsal::compare(&Itself, &none, tally)),
     ];
     for (lists, sentences) in LISTS.iter().zip(by_run) {
         let every = all_of(lists).into_iter().map(|(sort, number)| format!("{sort}: {number} never occurred"));

@@ -1,6 +1,5 @@
 //! Runs one comparer over a range of seeds; see README.md.
 
-use second::compare::rehearsal::Outstanding;
 use second::compare::subject::{Baseline, Itself, Judge, Reader, Rehearser};
 use second::compare::tally::Tally;
 use second::compare::{models, programs, reader, rehearsal, Seeds};
@@ -10,7 +9,6 @@ use std::process::ExitCode;
 const USAGE: &str = "compare WHAT [--seeds N] [--from K] [--seconds T] [--keep FOLDER]
   programs:  inspect | verdict | rehearse   [--bin FOLDER, by default ../target/bin]
   libraries: reader | models | rehearsal    [--against linked | baseline | itself]
-             [--exact-outstanding]
   --few      for some seeds by hand: an answer that never occurred is no failure
   linked needs a build with --features linked";
 
@@ -19,7 +17,6 @@ struct Options {
     keep: PathBuf,
     programs: PathBuf,
     against: String,
-    outstanding: Outstanding,
     few: bool,
 }
 
@@ -61,12 +58,10 @@ fn options(mut arguments: impl Iterator<Item = String>) -> Result<Options, Strin
         keep: root().join("target/second-failures"),
         programs: root().join("target/bin"),
         against: "linked".to_string(),
-        outstanding: Outstanding::Bounded,
         few: false,
     };
     while let Some(name) = arguments.next() {
         match name.as_str() {
-            "--exact-outstanding" => options.outstanding = Outstanding::Exact,
             "--few" => options.few = true,
             _ => {
                 let value = arguments.next().ok_or(format!("{name} needs a value"))?;
@@ -103,7 +98,7 @@ fn compare(what: &str, options: &Options, tally: &mut Tally) -> Result<(), Strin
         "rehearse" => programs::rehearse(&program, seeds, tally),
         "reader" => reader::compare(&*reading(against)?, seeds, tally),
         "models" => models::compare(&*judging(against)?, seeds, tally),
-        "rehearsal" => rehearsal::compare(&*rehearsing(against)?, options.outstanding, seeds, tally),
+        "rehearsal" => rehearsal::compare(&*rehearsing(against)?, seeds, tally),
         _ => return Err(format!("nothing to compare is called {what:?}")),
     }
     Ok(())

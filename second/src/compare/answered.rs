@@ -1,11 +1,11 @@
 //! The sorts of answers that an input can get, and counting those that it gets.
 
+use super::copies::{calls_answered, Copies};
 use super::tally::Tally;
 use crate::models::{first_broken, MODELS};
 use crate::predicates::{Answer, PREDICATES};
 use crate::questions::Refusal;
-use crate::record::u32_at;
-use crate::store::CALL_BYTES;
+use crate::record::{u32_at, MOST_EVENTS, MOST_SITES};
 
 pub const PASSED: &str = "passed";
 pub const NO_WORK: &str = "work slice too short";
@@ -29,6 +29,20 @@ pub const CLOSE_COPIES: &str = "close that delivered copies";
 pub const CLOSE_NONE: &str = "close with none lacking";
 pub const CLOSE_REFUSED: &str = "close refused";
 pub const NO_KIND: &str = "call of no kind";
+/// By what became of the copies of a script's puts.
+pub const NO_EVENT: &str = "no put or get";
+pub const GETS_ALONE: &str = "gets alone";
+pub const ONE_SITE: &str = "puts at one site";
+pub const NONE_BY_DELIVERIES: &str = "none outstanding, by deliveries";
+pub const NONE_BY_CLOSES: &str = "none outstanding, by closes too";
+pub const ALL_OUTSTANDING: &str = "all copies outstanding";
+pub const MOST_OUTSTANDING: &str = "all 1,792 copies outstanding";
+pub const AFTER_DELIVERIES: &str = "outstanding after deliveries";
+pub const AFTER_CLOSES: &str = "outstanding after closes";
+pub const AFTER_BOTH: &str = "outstanding after both";
+
+/// A full store of as many sites as there can be, all of it puts.
+const MOST_COPIES: u64 = (MOST_EVENTS * (MOST_SITES - 1)) as u64;
 
 /// What a reading answers.
 pub fn reading(refusal: Option<Refusal>, tally: &mut Tally) {
@@ -65,7 +79,7 @@ pub fn models(answers: &[Answer], tally: &mut Tally) {
 pub fn rehearsal(number: u32, script: &[u8], answers: &[u8], tally: &mut Tally) {
     tally.occurred(REHEARSED, number);
     if number == 0 {
-        for (call, answer) in script.chunks_exact(CALL_BYTES).zip(answers.chunks_exact(CALL_BYTES)) {
+        for (call, answer) in calls_answered(script, answers) {
             let sort = sort_of_call(call[0], answer);
             tally.occurred(sort, answer[0] as u32);
         }
@@ -83,5 +97,25 @@ fn sort_of_call(kind: u8, answer: &[u8]) -> &'static str {
         (4, 0, _) => CLOSE_NONE,
         (4, ..) => CLOSE_REFUSED,
         _ => NO_KIND,
+    }
+}
+
+/// The copies of a script that was rehearsed.
+pub fn copies(copies: &Copies, tally: &mut Tally) {
+    tally.occurred(sort_of_copies(copies), 0);
+}
+
+fn sort_of_copies(copies: &Copies) -> &'static str {
+    match *copies {
+        Copies { puts: 0, gets: 0, .. } => NO_EVENT,
+        Copies { puts: 0, .. } => GETS_ALONE,
+        Copies { other_sites: 0, .. } => ONE_SITE,
+        Copies { outstanding: MOST_COPIES, .. } => MOST_OUTSTANDING,
+        Copies { outstanding: 0, by_closes: 0, .. } => NONE_BY_DELIVERIES,
+        Copies { outstanding: 0, .. } => NONE_BY_CLOSES,
+        Copies { by_deliveries: 0, by_closes: 0, .. } => ALL_OUTSTANDING,
+        Copies { by_closes: 0, .. } => AFTER_DELIVERIES,
+        Copies { by_deliveries: 0, .. } => AFTER_CLOSES,
+        _ => AFTER_BOTH,
     }
 }

@@ -1,6 +1,7 @@
 //! Holds another implementation against the second checker.
 
 pub mod answered;
+pub mod copies;
 #[cfg(feature = "linked")]
 pub mod linked;
 pub mod models;

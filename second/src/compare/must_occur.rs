@@ -42,7 +42,21 @@ pub const MODELS: &[Row] = &[
 
 /// What a rehearsal is refused by. The program lends its own buffers, so 22 and 23 cannot occur.
 pub const REHEARSE: &[Row] = &[(REHEARSED, &[0, 20, 21])];
-pub const REHEARSAL: &[Row] = &[(REHEARSED, &[0, 20, 21, 22, 23])];
+
+/// The call also tells the copies outstanding, which the program does not.
+pub const REHEARSAL: &[Row] = &[
+    (REHEARSED, &[0, 20, 21, 22, 23]),
+    (NO_EVENT, &[0]),
+    (GETS_ALONE, &[0]),
+    (ONE_SITE, &[0]),
+    (NONE_BY_DELIVERIES, &[0]),
+    (NONE_BY_CLOSES, &[0]),
+    (ALL_OUTSTANDING, &[0]),
+    (MOST_OUTSTANDING, &[0]),
+    (AFTER_DELIVERIES, &[0]),
+    (AFTER_CLOSES, &[0]),
+    (AFTER_BOTH, &[0]),
+];
 
 /// What the calls of its scripts are answered.
 pub const CALLS: &[Row] = &[

@@ -1,6 +1,7 @@
-//! The rehearsal call: result, both buffers to the last byte, and the record
-//! judged causal.
+//! The rehearsal call: result, both buffers to the last byte, the equation of its copies, and the record judged
+//! causal.
 
+use super::copies::Copies;
 use super::subject::Rehearser;
 use super::tally::{Case, Tally};
 use super::{answered, must_occur, Seeds};
@@ -10,21 +11,14 @@ use crate::predicates::{Answer, Judged};
 use crate::questions::ask;
 use crate::store::{rehearse, Outcome};
 
-/// Whether the outstanding count must be exact, or only keep its bound.
-#[derive(Clone, Copy, PartialEq, Eq)]
-pub enum Outstanding {
-    Bounded,
-    Exact,
-}
-
-pub fn compare(subject: &dyn Rehearser, asked: Outstanding, seeds: &Seeds, tally: &mut Tally) {
+pub fn compare(subject: &dyn Rehearser, seeds: &Seeds, tally: &mut Tally) {
     tally.occurrences.must(must_occur::REHEARSAL);
     tally.occurrences.must(must_occur::CALLS);
     seeds.each(tally, |seed, tally| {
         let rehearsal = scripts::rehearsal(seed);
         let input = program_input(&rehearsal);
         let case = Case { name: format!("rehearsal-{seed}"), input: &input };
-        one(subject, asked, seed, &rehearsal, &case, tally);
+        one(subject, seed, &rehearsal, &case, tally);
     });
 }
 
@@ -35,48 +29,41 @@ pub fn program_input(rehearsal: &Rehearsal) -> Vec<u8> {
     input
 }
 
-fn one(subject: &dyn Rehearser, asked: Outstanding, seed: u64, given: &Rehearsal, case: &Case, tally: &mut Tally) {
+fn one(subject: &dyn Rehearser, seed: u64, given: &Rehearsal, case: &Case, tally: &mut Tally) {
     let mut random = Random::new(seed);
     let mut record = random.noise(given.record_bytes);
     let mut answers = random.noise(given.answer_bytes);
     let (mut due_record, mut due_answers) = (record.clone(), answers.clone());
     let due = rehearse(given.sites, &given.script, &mut due_record, &mut due_answers);
-    answered::rehearsal(due.number, &given.script, &due_answers, tally);
+    count_occurrences(given, &due, &due_answers, tally);
     let script = given.script.clone();
-    let result = subject.rehearse(given.sites, &script, &mut record, &mut answers);
+    let result = Outcome::unpacked(subject.rehearse(given.sites, &script, &mut record, &mut answers));
     tally.same_bytes(case, "record buffer", &due_record, &record);
     tally.same_bytes(case, "answer buffer", &due_answers, &answers);
     tally.same_bytes(case, "script afterwards", &given.script, &script);
-    result_right(asked, given, &due, result, &due_record, case, tally);
+    tally.equal(case, "result", &due, &result);
+    copies_add_up(given, &result, &answers, case, tally);
     if due.number == 0 {
         causal(&record[..due.length], case, tally);
     }
 }
 
-fn result_right(
-    asked: Outstanding,
-    given: &Rehearsal,
-    due: &Outcome,
-    result: u64,
-    record: &[u8],
-    case: &Case,
-    tally: &mut Tally,
-) {
-    let (low, outstanding) = (result % 16_777_216, (result / 16_777_216) as usize);
-    tally.equal(case, "number and length", &(due.packed() % 16_777_216), &low);
-    let most = match due.number {
-        0 => puts(&record[..due.length]) * (given.sites as usize - 1),
-        _ => 0,
-    };
-    let kept = match asked {
-        Outstanding::Bounded => outstanding <= most,
-        Outstanding::Exact => outstanding == due.outstanding,
-    };
-    tally.check(case, kept, || format!("outstanding: exact {}, bound {most}, other {outstanding}", due.outstanding));
+/// What the second checker answers.
+pub fn count_occurrences(given: &Rehearsal, due: &Outcome, answers: &[u8], tally: &mut Tally) {
+    answered::rehearsal(due.number, &given.script, answers, tally);
+    if due.number == 0 {
+        answered::copies(&Copies::of(given.sites, &given.script, answers, due.outstanding), tally);
+    }
 }
 
-fn puts(record: &[u8]) -> usize {
-    ask(record).map_or(0, |record| record.events.iter().filter(|event| event.is_write()).count())
+/// By the subject's own words alone: the equation where it ran the script, and nothing told where it refused.
+fn copies_add_up(given: &Rehearsal, result: &Outcome, answers: &[u8], case: &Case, tally: &mut Tally) {
+    if result.number == 0 {
+        let copies = Copies::of(given.sites, &given.script, answers, result.outstanding);
+        tally.check(case, copies.add_up(), || format!("the copies do not add up: {copies:?}"));
+    } else {
+        tally.equal(case, "refused result", &Outcome::refused(result.number), result);
+    }
 }
 
 /// Questions 3 to 10 pass, and predicates 10, 11 and 1 are met.
