@@ -6,9 +6,9 @@ use second::compare::{models, programs, reader, rehearsal, Seeds};
 use second::models::{packed, packed_all, packed_predicate, Answers};
 use second::predicates::Judged;
 use second::questions::ask;
-use second::record::Record;
+use second::record::{Event, Record};
 use second::relations::{Pairs, Relations};
-use second::store::Call;
+use second::store::{rehearse, run_script, Call, Outcome};
 use std::cell::RefCell;
 use std::path::Path;
 
@@ -118,6 +118,24 @@ impl Rehearser for IdleClose {
         let calls = script.chunks_exact(8).zip(answers.chunks_exact_mut(8).zip(right.chunks_exact(8)));
         calls.filter(|(call, _)| **call == close).for_each(|(_, (answer, right))| answer.copy_from_slice(right));
         result
+    }
+}
+
+/// The right store, but for which events count as outstanding at a site; it tells whether the site knows the event.
+struct WrongCount(fn(&Event, bool, usize) -> bool);
+
+impl Rehearser for WrongCount {
+    fn rehearse(&self, sites: u32, script: &[u8], record: &mut [u8], answers: &mut [u8]) -> u64 {
+        let right = rehearse(sites, script, record, answers);
+        if right.number != 0 {
+            return right.packed();
+        }
+        let store = run_script(sites as usize, script, answers);
+        let at_sites = |(number, event): (usize, &Event)| {
+            (0..sites as usize).filter(|&site| self.0(event, store.knows(site, number), site)).count()
+        };
+        let outstanding = store.record().events.iter().enumerate().map(at_sites).sum();
+        Outcome { outstanding, ..right }.packed()
     }
 }
 
@@ -321,6 +339,23 @@ fn faults_of_a_close() {
 }
 
 #[test]
+fn faults_of_the_outstanding_count() {
+    let failures = |counts| rehearsal_failures(&WrongCount(counts));
+    assert_eq!(failures(|event, known, _| event.is_write() && !known), 0);
+    let gets_with_the_puts = |_: &Event, known: bool, _| !known;
+    assert!(failures(gets_with_the_puts) > 0);
+    let own_site_lacking =
+        |event: &Event, known: bool, site| event.is_write() && (!known || event.site as usize == site);
+    assert!(failures(own_site_lacking) > 0);
+    let whatever_was_delivered = |event: &Event, _, site| event.is_write() && event.site as usize != site;
+    assert!(failures(whatever_was_delivered) > 0);
+    assert!(failures(|_, _, _| false) > 0);
+    assert!(store_failures(|right, _, _| right % (1 << 32)) > 0, "the count in a byte");
+    let beside_a_refusal = |right, _: &mut [u8], _: &mut [u8]| if right % 256 > 0 { right + (1 << 24) } else { right };
+    assert!(store_failures(beside_a_refusal) > 0);
+}
+
+#[test]
 fn programs_are_run() {
     let seeds = Seeds::first(25);
     let (inspect, verdict) = (Path::new(env!("CARGO_BIN_EXE_inspect")), Path::new(env!("CARGO_BIN_EXE_verdict")));
@@ -336,15 +371,31 @@ fn programs_are_run() {
     assert!(wrong.failed > 30, "{}", wrong.summary());
 }
 
-#[test]
-fn failing_input_is_kept() {
-    let folder = Path::new(env!("CARGO_TARGET_TMPDIR")).join("kept");
+/// The files of one ending that a run with failures kept.
+fn kept(ending: &str, run: impl FnOnce(&mut Tally)) -> Vec<Vec<u8>> {
+    let folder = Path::new(env!("CARGO_TARGET_TMPDIR")).join(format!("kept-{ending}"));
     let _ = std::fs::remove_dir_all(&folder);
     let mut tally = Tally::keeping(folder.clone());
-    let fault = |right: u64, _: &[u8], _: &mut [u64]| if right == 0 { 1 } else { right };
-    reader::compare(&Wrong(fault), &Seeds { from: 2, ..Seeds::first(6) }, &mut tally);
+    run(&mut tally);
     assert!(tally.failed > 0);
-    let mut files = std::fs::read_dir(&folder).expect("made").map(|entry| entry.expect("read").path());
-    let kept = files.find(|path| path.extension().is_some_and(|end| end == "bin")).expect("one kept");
-    ask(&std::fs::read(kept).expect("readable")).expect("a passing record was answered wrongly");
+    let files = std::fs::read_dir(&folder).expect("made").map(|entry| entry.expect("read").path());
+    let kept = files.filter(|path| path.extension().is_some_and(|end| end == ending));
+    kept.map(|path| std::fs::read(path).expect("readable")).collect()
+}
+
+#[test]
+fn failing_input_is_kept() {
+    let fault = |right: u64, _: &[u8], _: &mut [u64]| if right == 0 { 1 } else { right };
+    let inputs = kept("bin", |tally| reader::compare(&Wrong(fault), &Seeds { from: 2, ..Seeds::first(6) }, tally));
+    ask(&inputs[0]).expect("a passing record was answered wrongly");
+}
+
+/// Once against the second checker's count, and once by the subject's own answers.
+#[test]
+fn wrong_count_is_told_twice() {
+    let one_more = WrongStore(|right, _, _| right + (1 << 24));
+    let texts = kept("txt", |tally| rehearsal::compare(&one_more, &Seeds::first(3), tally));
+    for due in ["result: ", "the copies do not add up: "] {
+        assert!(texts.iter().any(|text| text.starts_with(due.as_bytes())), "{due}");
+    }
 }

@@ -1,5 +1,6 @@
 //! The generators reach what they are for.
 
+use second::compare::copies::{calls_answered, Copies};
 use second::compare::occurrences::Row;
 use second::compare::tally::Tally;
 use second::compare::{answered, must_occur, rehearsal, Seeds};
@@ -11,7 +12,7 @@ use second::predicates::{Judged, PREDICATES};
 use second::questions::ask;
 use second::record::u32_at;
 use second::store::{rehearse, run_script, Call, Store, CALL_BYTES};
-use std::collections::BTreeMap;
+use std::collections::{BTreeMap, BTreeSet};
 
 #[test]
 fn every_refusal_at_many_places() {
@@ -161,6 +162,40 @@ fn closes_damaged_in_every_byte() {
         }
     }
     assert!(damaged[1..].iter().all(|&count| count >= 20), "{damaged:?}");
+}
+
+/// A seed's script, its answers, and what became of its copies.
+fn copies_of(seed: u64) -> (Vec<u8>, Vec<u8>, Copies) {
+    let (sites, script) = scripts::plausible(&mut Random::new(seed));
+    let mut answers = vec![0; script.len()];
+    let outstanding = run_script(sites as usize, &script, &mut answers).outstanding();
+    let copies = Copies::of(sites, &script, &answers, outstanding);
+    (script, answers, copies)
+}
+
+/// Each kind of call and each of its answers, so that whoever counts one of them wrongly is found.
+#[test]
+fn every_answer_beside_outstanding_copies() {
+    let mut scripts_with: BTreeMap<(u8, u8), u32> = BTreeMap::new();
+    for (script, answers, _) in (0..2_000).map(copies_of).filter(|(_, _, copies)| copies.outstanding > 0) {
+        let kinds = calls_answered(&script, &answers).map(|(call, answer)| (call[0], answer[0]));
+        kinds.collect::<BTreeSet<_>>().into_iter().for_each(|kind| *scripts_with.entry(kind).or_default() += 1);
+    }
+    let put = [(1, 0), (1, 31), (1, 32), (1, 33), (1, 34)];
+    let get = [(2, 0), (2, 31), (2, 32), (2, 33), (2, 34)];
+    let delivery_or_close = [(3, 0), (3, 31), (3, 32), (3, 33), (3, 35), (3, 36), (4, 0), (4, 31)];
+    let mut due = put.iter().chain(&get).chain(&delivery_or_close);
+    assert!(due.all(|kind| scripts_with.get(kind).is_some_and(|&count| count >= 20)), "{scripts_with:?}");
+}
+
+#[test]
+fn many_puts_delivered_everywhere_at_any_sites() {
+    let mut by_other_sites = [0; 8];
+    for (_, _, copies) in (0..2_000).map(copies_of) {
+        let everywhere = copies.puts >= 8 && copies.by_closes == 0 && copies.outstanding == 0;
+        by_other_sites[copies.other_sites as usize] += everywhere as u32;
+    }
+    assert!(by_other_sites.iter().all(|&count| count >= 5), "{by_other_sites:?}");
 }
 
 #[test]

@@ -1,7 +1,7 @@
 //! Scripts for the store, with refused calls of every number among them.
 
 use super::random::Random;
-use crate::store::{Call, Store, CALL_BYTES, OBJECTS};
+use crate::store::{Call, Store, CALL_BYTES, MOST_SCRIPT_BYTES, OBJECTS};
 
 /// How a script is mixed, in shares of a hundred calls.
 struct Mix {
@@ -13,6 +13,16 @@ struct Mix {
     refused: u64,
     /// One in so many calls is a close; 0 where none is.
     close_in: u64,
+    end: End,
+}
+
+/// What comes after a script's calls.
+#[derive(Clone, Copy)]
+enum End {
+    Nothing,
+    /// Every copy that is still lacking, by a call of its own.
+    Deliveries,
+    Close,
 }
 
 /// What a rehearsal is called with.
@@ -54,13 +64,24 @@ fn spoil(random: &mut Random, rehearsal: &mut Rehearsal) {
 
 /// A site count and a script that the rehearsal runs.
 pub fn plausible(random: &mut Random) -> (u32, Vec<u8>) {
+    let mix = if random.chance(5) { puts_alone(random) } else { any_mix(random) };
+    (mix.sites as u32, script(random, &mix))
+}
+
+/// Puts fill the store of eight sites, so that as many copies are outstanding as can be; 34 refuses those after them.
+fn puts_alone(random: &mut Random) -> Mix {
+    let end = random.pick(&[End::Nothing, End::Nothing, End::Deliveries, End::Close]);
+    Mix { calls: 256 + random.index(40), puts: 100, deliveries: 0, end, ..day(8) }
+}
+
+fn any_mix(random: &mut Random) -> Mix {
     let calls = match random.below(20) {
         0 => 4_096,
         1..=3 => random.index(4_097),
         4..=8 => random.index(300),
         _ => random.index(40),
     };
-    let mix = Mix {
+    Mix {
         calls,
         sites: 1 + random.index(8),
         objects: random.pick(&[1, 2, OBJECTS]),
@@ -68,8 +89,8 @@ pub fn plausible(random: &mut Random) -> (u32, Vec<u8>) {
         deliveries: random.pick(&[0, 30, 60, 90]),
         refused: random.pick(&[0, 3, 20, 60]),
         close_in: close_in(random, calls as u64),
-    };
-    (mix.sites as u32, script(random, &mix))
+        end: if random.chance(8) { End::Deliveries } else { End::Nothing },
+    }
 }
 
 /// None in half of the scripts, as little is late or lacking after a close. Else most often about one in the whole
@@ -90,7 +111,7 @@ pub fn day_with_closes(seed: u64, sites: usize) -> Vec<u8> {
 }
 
 fn day(sites: usize) -> Mix {
-    Mix { calls: 4_096, sites, objects: OBJECTS, puts: 60, deliveries: 85, refused: 0, close_in: 0 }
+    Mix { calls: 4_096, sites, objects: OBJECTS, puts: 60, deliveries: 85, refused: 0, close_in: 0, end: End::Nothing }
 }
 
 fn script(random: &mut Random, mix: &Mix) -> Vec<u8> {
@@ -101,7 +122,25 @@ fn script(random: &mut Random, mix: &Mix) -> Vec<u8> {
         store.call(&call);
         script.extend(call);
     }
+    match mix.end {
+        End::Nothing => (),
+        End::Deliveries => deliver_all_lacking(mix, &mut store, &mut script),
+        End::Close => script.extend(Call::Close.to_bytes()),
+    }
     script
+}
+
+/// Puts by event number, so that none comes before what it needs.
+fn deliver_all_lacking(mix: &Mix, store: &mut Store, script: &mut Vec<u8>) {
+    for event in 0..store.events() {
+        for site in 0..mix.sites {
+            let call = Call::Deliver { site, event };
+            if script.len() < MOST_SCRIPT_BYTES && store.first_no(call).is_none() {
+                store.call(&call.to_bytes());
+                script.extend(call.to_bytes());
+            }
+        }
+    }
 }
 
 fn call(random: &mut Random, mix: &Mix, store: &Store) -> [u8; CALL_BYTES] {
