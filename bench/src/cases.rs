@@ -68,7 +68,7 @@ fn records() -> Vec<Rc<Input>> {
 fn scripts() -> Vec<Rc<Input>> {
     let sparse = SIZES.map(inputs::sparse_script);
     let day = SIZES.map(inputs::day_script);
-    let whole = [inputs::full_day_script(), inputs::closes_script()];
+    let whole = [inputs::full_day_script(), inputs::closes_script(), inputs::puts_script()];
     sparse.into_iter().chain(SIZES.map(inputs::dense_script)).chain(day).chain(whole).collect()
 }
 

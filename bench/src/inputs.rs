@@ -1,7 +1,7 @@
 //! Records and scripts, always the same.
 
 use second::generate::scripts::{day_with_closes, full_day};
-use second::record::{Event, Record};
+use second::record::{Event, Record, MOST_EVENTS};
 use second::samples::in_turn;
 use second::store::{run_script, Call, Store, CALL_BYTES};
 use std::rc::Rc;
@@ -138,6 +138,12 @@ pub fn closes_script() -> Rc<Input> {
     Input::new("day with closes", 256, day_with_closes(1, SITES))
 }
 
+/// As many puts as the store takes, in turn over the sites, and no delivery: every copy is outstanding.
+pub fn puts_script() -> Rc<Input> {
+    let put = |k: usize| Call::Put { site: k % SITES, object: k / SITES, value: k as u32 };
+    Input::new("puts alone", MOST_EVENTS, script((0..MOST_EVENTS).map(put)))
+}
+
 fn is_put(k: usize) -> bool {
     (k / SITES).is_multiple_of(2)
 }
@@ -187,7 +193,7 @@ mod tests {
 
     #[test]
     fn scripts_do_all_their_calls_and_come_to_their_events() {
-        for input in [sparse_script(64), dense_script(64), dense_script(256)] {
+        for input in [sparse_script(64), dense_script(64), dense_script(256), puts_script()] {
             let mut answers = vec![7; input.bytes.len()];
             let store = run_script(SITES, &input.bytes, &mut answers);
             assert!(answers.chunks(CALL_BYTES).all(|answer| answer[0] == 0));
@@ -196,6 +202,12 @@ mod tests {
         for input in [day_script(16), day_script(256), full_day_script(), closes_script()] {
             assert_eq!(run_script(SITES, &input.bytes, &mut vec![0; input.bytes.len()]).events(), input.n);
         }
+    }
+
+    #[test]
+    fn puts_alone_leave_every_copy_outstanding() {
+        let script = &puts_script().bytes;
+        assert_eq!(run_script(SITES, script, &mut vec![0; script.len()]).outstanding(), 1_792);
     }
 
     /// The numbers that the page of results tells of this input.
