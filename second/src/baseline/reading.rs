@@ -73,28 +73,35 @@ fn wrong_check(record: &[u8]) -> Option<usize> {
 
 /// Eight sums side by side, put together at the end with one remainder each.
 /// Of the first 248 words, word 8r + l weighs 248 - 8r - l in B then; it enters
-/// `later` once for each of the 30 - r rows after its own.
-/// By itself it compiles to vectors, whatever becomes of its callers.
+/// `later` once for each of the 30 - r rows after its own, and A has it 8 - l times.
 #[inline(never)]
 pub fn check(number: u32, block: &[u8; BLOCK]) -> u32 {
     let (words, _) = block[..508].as_chunks::<2>();
     let (rows, rest) = words.as_chunks::<8>();
-    let (mut sums, mut later) = ([0u32; 8], [0u32; 8]);
-    for row in rows {
-        let row: [u32; 8] = std::array::from_fn(|lane| u16::from_le_bytes(row[lane]) as u32);
-        later = std::array::from_fn(|lane| later[lane] + sums[lane]);
-        sums = std::array::from_fn(|lane| sums[lane] + row[lane]);
-    }
-    let (mut a, mut b) = (number + 1, 248 * (number + 1));
+    let [sums, later] = sums_of_rows(rows.first_chunk().expect("31 rows"));
+    let (mut a, mut b) = (number + 1, 240 * (number + 1));
     for lane in 0..8 {
         a += sums[lane];
-        b += 8 * later[lane] + (8 - lane as u32) * sums[lane];
+        b += a + 8 * later[lane];
     }
     for word in rest {
         a += u16::from_le_bytes(*word) as u32;
         b += a;
     }
     (a % 65_521) | ((b % 65_521) << 16)
+}
+
+/// By itself it compiles to vectors, whatever becomes of its callers: the lanes end side by side in memory.
+#[inline(never)]
+fn sums_of_rows(rows: &[[[u8; 2]; 8]; 31]) -> [[u32; 8]; 2] {
+    let (mut sums, mut later) = ([0u32; 8], [0u32; 8]);
+    for row in rows {
+        for lane in 0..8 {
+            later[lane] += sums[lane];
+            sums[lane] += u16::from_le_bytes(row[lane]) as u32;
+        }
+    }
+    [sums, later]
 }
 
 #[inline]
