@@ -121,7 +121,7 @@ impl Rehearser for IdleClose {
     }
 }
 
-/// The right store, but for which events count as outstanding at a site; it tells whether the site knows the event.
+/// The right store, but for which events count as outstanding at a site, by whether the site knows them.
 struct WrongCount(fn(&Event, bool, usize) -> bool);
 
 impl Rehearser for WrongCount {

@@ -72,8 +72,9 @@ fn wrong_check(record: &[u8]) -> Option<usize> {
 }
 
 /// Eight sums side by side, put together at the end with one remainder each.
-/// Of the first 248 words, word 8r + l weighs 248 - 8r - l in B then; it enters
-/// `later` once for each of the 30 - r rows after its own, and A has it 8 - l times.
+/// Of the first 248 words, word 8r + l weighs 248 - 8r - l in B then: 8 for each of
+/// the 30 - r rows after its own, by `later`, and 8 - l by the lanes of A.
+/// Within a caller, what follows the rows takes nearly twice the instructions.
 #[inline(never)]
 pub fn check(number: u32, block: &[u8; BLOCK]) -> u32 {
     let (words, _) = block[..508].as_chunks::<2>();

@@ -48,7 +48,7 @@ fn one(subject: &dyn Rehearser, seed: u64, given: &Rehearsal, case: &Case, tally
     }
 }
 
-/// What the second checker answers.
+/// Counts what the second checker answers, and what became of the copies.
 pub fn count_occurrences(given: &Rehearsal, due: &Outcome, answers: &[u8], tally: &mut Tally) {
     answered::rehearsal(due.number, &given.script, answers, tally);
     if due.number == 0 {
