@@ -59,7 +59,10 @@ uint64_t gcr_judge_all(const uint8_t *record, size_t len, uint64_t *out, size_t 
 
 /* Runs a script over a store of `sites` sites and writes the record of what happened.
  * Answer: number + 256 * length + 16,777,216 * outstanding, where number is 0 or what refused the rehearsal, length
- * the record's bytes and outstanding the copies of puts that sites lack; both are 0 where it was refused.
+ * the record's bytes and outstanding the copies still on the lines when the script has ended: exactly the pairs of a
+ * put and a site that lacks it. Both are 0 where it was refused; with one site outstanding is 0.
+ * Where it was not refused, puts * (sites - 1) = done deliveries + copies delivered by closes + outstanding: these are
+ * the calls of GCR_PUT and of GCR_DELIVER whose gcr_answer_number is 0, and gcr_answer_copies of all calls added up.
  * Buffers afterwards: unchanged where 20 to 23 refused; else `record` holds the record in its first length bytes and
  * `answers` an answer for each call in its first script_len bytes, and the bytes beyond stay. A call that is refused
  * changes only its own answer, and the script goes on. */
@@ -77,7 +80,7 @@ static inline uint32_t gcr_broken_b(uint64_t answer) { return (uint32_t)(answer 
 /* Of what gcr_judge_all answers: whether the record was judged; else it was refused. */
 static inline int gcr_is_judged(uint64_t answer) { return answer == 0; }
 
-/* Of what gcr_rehearse answers. */
+/* Of what gcr_rehearse answers: what refused it, or 0; the record's bytes; the copies outstanding, at most 1,792. */
 static inline uint32_t gcr_rehearsed_number(uint64_t answer) { return (uint32_t)(answer & 255); }
 static inline size_t gcr_rehearsed_length(uint64_t answer) { return (size_t)(answer >> 8 & 65535); }
 static inline uint64_t gcr_rehearsed_outstanding(uint64_t answer) { return answer >> 24; }

@@ -3,7 +3,7 @@
 #include "gcr.h"
 #include <stdio.h>
 
-#define CALLS 8     /* of the rehearsal's script */
+#define CALLS 9     /* of the rehearsal's script */
 #define LENGTH 1024 /* bytes of the rehearsal's record */
 #define ROOM 15     /* words lent to gcr_judge_all: two more than it writes */
 #define STAYS 7     /* what they hold before */
@@ -20,6 +20,7 @@ static const uint8_t script[CALLS * GCR_CALL_BYTES] = {
     GCR_CLOSE,   0, 0, 0, 0,    0,    0, 0, /* where nothing is lacking any more */
     GCR_CLOSE,   1, 0, 0, 0,    0,    0, 0, /* of site 1 alone, which is no call */
     GCR_GET,     1, 5, 0, 0,    0,    0, 0, /* at site 1 again */
+    GCR_PUT,     1, 5, 0, 1,    0,    0, 0, /* which site 0 lacks in the end */
 };
 
 /* What the accessors give for a call's answer. */
@@ -38,6 +39,7 @@ static const struct parts parts[CALLS] = {
     {.copies = 0},                            /* the second close */
     {.number = 31},                           /* the refused close */
     {.event = 3, .found = 1, .value = 70000}, /* the get at site 1 */
+    {.event = 4},                             /* the last put */
 };
 
 static int answer_is_right(const uint8_t *answers, size_t k) {
@@ -54,11 +56,23 @@ static int answers_are_right(const uint8_t *answers) {
     return right;
 }
 
+/* puts * (sites - 1) = done deliveries + copies delivered by closes + outstanding, with one other site. */
+static int copies_add_up(const uint8_t *answers, uint64_t outstanding) {
+    uint64_t puts = 0, came = 0;
+    for (size_t k = 0; k < CALLS; k++) {
+        int done = gcr_answer_number(answers, k) == 0;
+        puts += done && script[GCR_CALL_BYTES * k] == GCR_PUT;
+        came += done && script[GCR_CALL_BYTES * k] == GCR_DELIVER;
+        came += gcr_answer_copies(script, answers, k);
+    }
+    return puts == came + outstanding;
+}
+
 static int rehearsal_is_right(void) {
     uint8_t answers[sizeof script];
     uint64_t done = gcr_rehearse(2, script, sizeof script, record, sizeof record, answers, sizeof answers);
     return gcr_rehearsed_number(done) == 0 && gcr_rehearsed_length(done) == LENGTH &&
-           gcr_rehearsed_outstanding(done) == 0 && answers_are_right(answers);
+           gcr_rehearsed_outstanding(done) == 1 && answers_are_right(answers) && copies_add_up(answers, 1);
 }
 
 static int reading_is_right(void) {

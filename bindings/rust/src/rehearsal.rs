@@ -10,7 +10,8 @@ pub const SCRIPT_MOST: usize = 32_768;
 pub struct Rehearsed {
     /// The bytes of the record, from the start of its buffer.
     pub length: usize,
-    /// The pairs of a put and a site that lacks it.
+    /// The copies still on the lines when the script has ended: exactly the pairs of a put and a site that lacks it, so
+    /// 0 with one site. See [`rehearse`] for what they add up to with the copies that came.
     pub outstanding: u64,
 }
 
@@ -18,6 +19,33 @@ pub struct Rehearsed {
 /// [`RECORD_MOST`](crate::RECORD_MOST) bytes or more, and an answer for each call to `answers`, which is at least as
 /// long as the script; bytes beyond what is written stay. A refusal leaves both as they were. A call that is refused
 /// changes only its own answer.
+///
+/// Whatever the script, puts × (sites − 1) = done deliveries + copies delivered by closes + outstanding. Here two sites
+/// get the first put, one by a delivery and one by a close, and none gets the second:
+///
+/// ```
+/// use gcr::{answers, rehearse, script, Answer, Call, RECORD_MOST};
+///
+/// let put = |site| Call::Put { site, object: 5, value: 100 };
+/// let script = script(&[put(0), Call::Deliver { site: 1, event: 0 }, Call::Close, put(1)]);
+/// let mut buffer = vec![0; script.len()];
+/// let done = rehearse(3, &script, &mut [0; RECORD_MOST], &mut buffer)?;
+///
+/// let (mut puts, mut came) = (0, 0);
+/// for answer in answers(&script, &buffer) {
+///     match answer {
+///         Answer::Put { .. } => puts += 1,
+///         Answer::Delivered => came += 1,
+///         Answer::Closed { copies } => came += u64::from(copies),
+///         _ => (),
+///     }
+/// }
+/// assert_eq!((puts, came, done.outstanding), (2, 2, 2));
+/// assert_eq!(puts * (3 - 1), came + done.outstanding);
+/// # Ok::<(), gcr::Refusal>(())
+/// ```
+///
+/// An empty script, and what is refused:
 ///
 /// ```
 /// use gcr::{rehearse, RECORD_MOST};

@@ -5,6 +5,12 @@ use gcr::{answers, judge_model, rehearse, script, Answer, Call, Model, Refusal, 
 const LISTING: &[u8] = include_bytes!("../../../records/listing.gcr");
 const LISTING_SCRIPT: &[u8] = include_bytes!("../../../records/listing.script");
 
+/// The copies outstanding after these calls at so many sites.
+fn outstanding(sites: u32, calls: &[Call]) -> u64 {
+    let script = script(calls);
+    rehearse(sites, &script, &mut [0; RECORD_MOST], &mut vec![0; script.len()]).unwrap().outstanding
+}
+
 /// The answers of a script at so many sites, and its record.
 fn rehearsed(sites: u32, script: &[u8]) -> (Vec<Answer>, Vec<u8>) {
     let mut record = vec![0; RECORD_MOST];
@@ -118,6 +124,25 @@ fn a_close_delivers_what_is_lacking_and_no_more() {
     let half_delivered = [put(0, 1), Call::Deliver { site: 1, event: 0 }, Call::Close];
     assert_eq!(answered(3, &half_delivered)[2], Answer::Closed { copies: 1 });
     assert_eq!(answered(8, &[Call::Close]), [Answer::Closed { copies: 0 }]);
+}
+
+#[test]
+fn each_put_is_outstanding_at_the_sites_that_lack_it() {
+    let deliver = |site| Call::Deliver { site, event: 0 };
+    assert_eq!(outstanding(3, &[get(0), get(1)]), 0);
+    assert_eq!(outstanding(3, &[get(0), put(0, 1), get(1)]), 2);
+    assert_eq!(outstanding(3, &[put(0, 1), deliver(1)]), 1);
+    assert_eq!(outstanding(3, &[put(0, 1), deliver(1), deliver(1), put(3, 1)]), 1);
+    assert_eq!(outstanding(3, &[put(0, 1), deliver(1), deliver(2)]), 0);
+    assert_eq!(outstanding(3, &[put(0, 1), Call::Close]), 0);
+    assert_eq!(outstanding(3, &[put(0, 1), Call::Close, put(2, 2)]), 2);
+    assert_eq!(outstanding(1, &[put(0, 1), put(0, 2)]), 0);
+}
+
+#[test]
+fn a_full_store_of_puts_is_outstanding_at_seven_sites() {
+    let calls: Vec<_> = (0..=255).map(|k| put(k % 8, u32::from(k))).collect();
+    assert_eq!(outstanding(8, &calls), 256 * 7);
 }
 
 #[test]
