@@ -61,6 +61,14 @@ fn the_listings_script_gives_its_record_and_answers() {
 }
 
 #[test]
+fn after_three_calls_of_the_listing_one_copy_is_outstanding() {
+    let (sites, script) = (u32::from(LISTING_SCRIPT[0]), &LISTING_SCRIPT[1..]);
+    let left = |bytes| rehearse(sites, &script[..bytes], &mut [0; RECORD_MOST], &mut [0; 56]).unwrap();
+    assert_eq!((left(24).length, left(24).outstanding), (1_024, 1));
+    assert_eq!((left(56).length, left(56).outstanding), (1_024, 0));
+}
+
+#[test]
 fn refused_rehearsals_leave_both_buffers() {
     let mut record = [7; RECORD_MOST];
     let mut buffer = [7; 8];

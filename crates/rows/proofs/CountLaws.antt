@@ -1,5 +1,5 @@
 -- Laws of sums and of how many numbers pass a test; the ones of a word, and the members of a row that another lacks. Assumes nothing.
-use mathlib.Core.Path.{_≡_, refl, sym, ap, _∙_}
+use mathlib.Core.Path.{_≡_, refl, ap, _∙_}
 use mathlib.Core.Bool.{Bool, true, false, not, cond}
 use mathlib.Core.List.{List}
 use Prim.Native.Nat.{ℕ, zero, suc, _+_, _-_, _*_, _/_, _%_, _^_, _≤_, _<_}
@@ -10,7 +10,7 @@ use lib.Dec.{eqb}
 use lib.ListN.{getD}
 use native.Mathlib.Nat.{le-refl, pow-succ'}
 use Rattle.rows.specs.Count.{sum, howMany}
-use Rattle.rows.specs.Row.{digit, bitOf, onlyFirst}
+use Rattle.rows.specs.Row.{bitOf, onlyFirst}
 use Rattle.rows.proofs.Tests.{split}
 use Rattle.rows.proofs.Digits.{digit-zero, digit-suc}
 use Rattle.rows.proofs.RowLaws.{lacking, lacking-lt, only-word}

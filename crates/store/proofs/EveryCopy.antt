@@ -1,15 +1,15 @@
 -- Every copy is accounted for: after each list of calls, puts × (sites − 1) = done deliveries + copies delivered by closes + copies outstanding.
 -- So it is in the store, and so it is by the answers. Assumes nothing.
 use mathlib.Core.Path.{_≡_, refl, sym, ap, ap₂, _∙_}
-use mathlib.Core.Bool.{Bool, true, false, cond, _&&_, and-true, and-false, true≢false}
+use mathlib.Core.Bool.{true, false, cond, _&&_, and-true, and-false, true≢false}
 use mathlib.Core.List.{List, [], _∷_, _++_, append-assoc}
-use Prim.Native.Nat.{ℕ, suc, _+_, _-_, _*_, _^_, _≤_}
+use Prim.Native.Nat.{ℕ, _+_, _-_, _*_, _≤_}
 use native.Mathlib.Nat.{mul-zero, add-mul}
 use native.Mathlib.Omega.{arith}
 use lib.Dec.{eqb}
-use lib.ListN.{drop, replicate, List·getD-append}
+use lib.ListN.{replicate, List·getD-append}
 use lib.Seq.{drop-at, getD-append-add}
-use borrow.Author.Tests.{eq-eqb, eqb-true, eqb-false}
+use borrow.Author.Tests.{eqb-true}
 use Rattle.rows.specs.Octets.{little}
 use Rattle.rows.proofs.Tests.{split}
 use Rattle.rows.proofs.CountLaws.{sum-none}
@@ -18,10 +18,13 @@ use Rattle.record.specs.Encode.{bit, littleBytes}
 use Rattle.record.proofs.NumberBytes.{little-stands}
 use Rattle.consistency.specs.Reads.{value}
 use Rattle.store.specs.Store.{cellValue, Store, fresh}
-use Rattle.store.specs.Calls.{Call, put, get, deliver, close, malformed}
+use Rattle.store.specs.Calls.{Call, put, get, deliver, close, malformed, callsOf}
 use Rattle.store.specs.Rules.{refusal, made, withCopy, afterPut, afterGet, closeCopies, copied, effect, afterCall, run, kindOf, done, closed, total, deliveries, closes, doneAnswer, answer, answers}
 use Rattle.store.specs.Outstanding.{outstanding, puts, AddsUp, tally, toldDone, toldCopies, ToldAddsUp}
-use Rattle.store.specs.Close.{Closes}
+use Rattle.store.specs.Close.{AllAgree, Closes}
+use Rattle.store.specs.Rehearsal.{storeAfter, outstandingAfter}
+use Rattle.store.specs.Demand.{Rehearses}
+use Rattle.store.specs.declared.Rehearsed.{Rehearsed}
 use Rattle.store.proofs.Invariant.{StoreInv}
 use Rattle.store.proofs.RunKeeps.{put-doable, get-doable, copies-keep, every-run}
 use Rattle.store.proofs.OutstandingLaws.{outstanding-none, outstanding-less, outstanding-new, puts-new, copies-outstanding}
@@ -196,8 +199,27 @@ module _ (n : ℕ) (n≤8 : n ≤ 8) where
       λ kind. tally-total (toldDone kind) (done kind) (λ st r. told-done kind n st) cs fresh (begun n n≤8) rest in
       rw (told 1, told 3, tally-total toldCopies closed told-copies cs fresh (begun n n≤8) rest) (done-add-up n n≤8 cs)
 
--- ---- what follows
+-- ---- what follows, of a rehearsal's own number
 
--- with one site nothing is outstanding
-pub one-site-none : (cs : List Call) (left : ℕ) → AddsUp 1 cs left → left ≡ 0
-one-site-none cs left h = omega (arith, h, mul-zero (puts (run 1 fresh cs)))
+module _ (n : ℕ) (script rec ans rec′ ans′ : List ℕ) (r : Rehearsed) (h : Rehearses n script rec ans rec′ ans′ r) where
+  -- where it was refused the number is 0, whatever else
+  none-or : (r .number ≡ 0 → r .outstanding ≡ 0) → r .outstanding ≡ 0
+  unfolding outstandingAfter
+  none-or done = split (eqb (r .number) 0) (λ t. done (eqb-true (r .number) 0 t)) (λ t. h .copies ∙ rw (← (h .number), t) refl)
+
+  -- with one site nothing is outstanding
+  pub one-site-none : n ≡ 1 → r .outstanding ≡ 0
+  one-site-none one = none-or (λ z.
+      let none : n - 1 ≡ 0 = omega arith in
+      let k : ℕ = puts (run n fresh (callsOf script)) in
+      omega (arith, h .adds-up z, ap (λ (m : ℕ). k * m) none, mul-zero k))
+
+  -- nor after a script whose last call is a close
+  pub none-after-close : (before : List Call) → callsOf script ≡ before ++ (close ∷ []) → r .outstanding ≡ 0
+  unfolding outstandingAfter storeAfter
+  none-after-close before e = none-or (λ z.
+      let st : Store = run n fresh before in
+      let closed : AllAgree n (afterCall n st close) = h .closes z before [] e .leaves in
+      h .copies
+      ∙ rw (← (h .number), z, e, run-more n fresh before close)
+      (outstanding-none n (afterCall n st close) (closed .none-lacking)))

@@ -22,7 +22,8 @@ pub record CausalRecord (s : List ℕ) : Type 0 where
   pub arbitration : Holds CausalArbitration (historyOf gcr1 s)
   pub rVal : Holds RVal (historyOf gcr1 s)
 
--- n sites, a script, and the record and answer buffers, as lent and as left. Each close in the script's list finds the store of the calls before it
+-- n sites, a script, and the record and answer buffers, as lent and as left. Each close in the script's list finds the store of the calls before it.
+-- The copies outstanding are told exactly, and add up with those that came, by the store's rules and by the answers as left
 pub record Rehearses (n : ℕ) (script rec ans rec′ ans′ : List ℕ) (r : Rehearsed) : Type 0 where
   pub number : r .number ≡ rehearsalRefusal n script rec ans
   pub length : r .length ≡ lengthAfter n script rec ans

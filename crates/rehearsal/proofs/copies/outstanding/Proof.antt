@@ -1,11 +1,10 @@
 -- `rehearsal::copies::outstanding` meets its contract: the loop has counted what the sites passed lack. Assumes nothing.
 use mathlib.Core.Path.{_≡_, sym, ap, _∙_}
 use mathlib.Core.List.{List}
-use Prim.Native.Nat.{ℕ, _+_, _*_, _-_, _≤_}
+use Prim.Native.Nat.{ℕ, _*_, _-_, _≤_}
 use native.Mathlib.Numerals.{add-one}
 use native.Mathlib.Omega.{arith}
 use borrow.Author.Needs.{needs}
-use lib.ListN.{length}
 use Rattle.rows.specs.Count.{sum, howMany}
 use Rattle.rows.specs.Row.{onlyFirst, rowAt}
 use Rattle.rows.proofs.CountLaws.{sum-none, sum-more, many-most}
