@@ -135,18 +135,6 @@ answer-length n st c = go (eqb (refusal n st c) 0)
     go true = done-length n st c
     go false = refl
 
-pub answers-length : (n : ℕ) (st : Store) (cs : List Call) → length (answers n st cs) ≡ 8 * length cs
-unfolding answers
-answers-length n st [] = refl
-answers-length n st (c ∷ cs) =
-    length-append (answer n st c) (answers n (afterCall n st c) cs)
-    ∙ omega (arith, answer-length n st c, answers-length n (afterCall n st c) cs)
-
-pub calls-length : (k : ℕ) (s : List ℕ) (at : ℕ) → length (callsFrom k s at) ≡ k
-unfolding callsFrom
-calls-length zero s at = refl
-calls-length (suc k) s at = ap suc (calls-length k s (at + 8))
-
 pub answers-up-to-length : (k n : ℕ) (s : List ℕ) → length (answersUpTo k n s) ≡ 8 * k
 unfolding answersUpTo
 answers-up-to-length zero n s = refl
