@@ -31,7 +31,7 @@ AddsUp n cs left = puts (run n fresh cs) * (n - 1) ≡ (deliveries n fresh cs + 
 
 -- ---- the same, of what calls are answered: 8 bytes each, one after the other
 
--- a number of each call and its answer, added up over the list
+-- a number of each call and its answer, which stands before those of later calls, added up over the list
 unfoldable pub tally : (Call → List ℕ → ℕ) → List Call → List ℕ → ℕ
 tally f [] answers = 0
 tally f (c ∷ cs) answers = f c answers + tally f cs (drop 8 answers)
@@ -44,6 +44,7 @@ toldDone kind c answer = bit (eqb (kindOf c) kind && eqb (byte answer 0) 0)
 abbrev pub toldCopies : Call → List ℕ → ℕ
 toldCopies c answer = cond (eqb (kindOf c) 4) (little 4 answer 4) 0
 
+-- puts × (sites − 1) = done deliveries + copies delivered by closes + `left`, by these answers
 abbrev pub ToldAddsUp : ℕ → List Call → List ℕ → ℕ → Type 0
 ToldAddsUp n cs answers left =
     tally (toldDone 1) cs answers * (n - 1) ≡ (tally (toldDone 3) cs answers + tally toldCopies cs answers) + left
