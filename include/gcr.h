@@ -61,8 +61,8 @@ uint64_t gcr_judge_all(const uint8_t *record, size_t len, uint64_t *out, size_t 
  * Answer: number + 256 * length + 16,777,216 * outstanding, where number is 0 or what refused the rehearsal, length
  * the record's bytes and outstanding the copies still on the lines when the script has ended: exactly the pairs of a
  * put and a site that lacks it. Both are 0 where it was refused; with one site outstanding is 0.
- * Where it was not refused, puts * (sites - 1) = done deliveries + copies delivered by closes + outstanding: these are
- * the calls of GCR_PUT and of GCR_DELIVER whose gcr_answer_number is 0, and gcr_answer_copies of all calls added up.
+ * Where it was not refused, done puts * (sites - 1) = done deliveries + copies delivered by closes + outstanding: the
+ * calls of GCR_PUT and of GCR_DELIVER whose gcr_answer_number is 0, and gcr_answer_copies of all calls added up.
  * Buffers afterwards: unchanged where 20 to 23 refused; else `record` holds the record in its first length bytes and
  * `answers` an answer for each call in its first script_len bytes, and the bytes beyond stay. A call that is refused
  * changes only its own answer, and the script goes on. */

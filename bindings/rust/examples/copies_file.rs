@@ -12,6 +12,8 @@ struct Copies {
     puts: u64,
     by_deliveries: u64,
     by_closes: u64,
+    /// No term. They are told so that a script of which little was done does not look like one with little to deliver.
+    refused_calls: u64,
 }
 
 impl Copies {
@@ -20,7 +22,8 @@ impl Copies {
             Answer::Put { .. } => self.puts += 1,
             Answer::Delivered => self.by_deliveries += 1,
             Answer::Closed { copies } => self.by_closes += u64::from(copies),
-            Answer::Get { .. } | Answer::Refused(_) => (),
+            Answer::Get { .. } => (),
+            Answer::Refused(_) => self.refused_calls += 1,
         }
     }
 }
@@ -35,10 +38,11 @@ fn told(input: &[u8]) -> (String, u8) {
     };
     let mut copies = Copies::default();
     answers(script, &buffer).for_each(|answer| copies.count(answer));
-    let Copies { puts, by_deliveries, by_closes } = copies;
+    let Copies { puts, by_deliveries, by_closes, refused_calls } = copies;
     let (others, outstanding) = (sites - 1, done.outstanding);
     let came = format!("{by_deliveries} by deliveries + {by_closes} by closes");
-    (format!("{puts} puts x {others} other sites = {came} + {outstanding} outstanding"), 0)
+    let refused = if refused_calls == 0 { String::new() } else { format!("; {refused_calls} calls refused") };
+    (format!("{puts} puts x {others} other sites = {came} + {outstanding} outstanding{refused}"), 0)
 }
 
 fn main() -> ExitCode {

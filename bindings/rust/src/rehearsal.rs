@@ -20,8 +20,8 @@ pub struct Rehearsed {
 /// long as the script; bytes beyond what is written stay. A refusal leaves both as they were. A call that is refused
 /// changes only its own answer.
 ///
-/// Whatever the script, puts × (sites − 1) = done deliveries + copies delivered by closes + outstanding. Here two sites
-/// get the first put, one by a delivery and one by a close, and none gets the second:
+/// Whatever its calls, done puts × (sites − 1) = done deliveries + copies delivered by closes + outstanding. Here the
+/// first put comes to two sites, to one by a delivery and to one by a close, and the second put to none:
 ///
 /// ```
 /// use gcr::{answers, rehearse, script, Answer, Call, RECORD_MOST};

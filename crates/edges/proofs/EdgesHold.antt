@@ -21,7 +21,7 @@ use Rattle.consistency.specs.Models.{firstBroken}
 use Rattle.judge.specs.Judgments.{judgedList, judged, predicateJudgment, packedJudgments}
 use Rattle.store.specs.Calls.{callAt, callsFrom, callsOf}
 use Rattle.store.specs.Rules.{reached, refusal, copiesOf, allCopies, afterCopy, afterCopies, copied, effect, afterCall, run, total, doneAnswer, answer, answers}
-use Rattle.store.specs.Outstanding.{outstanding, puts}
+use Rattle.store.specs.Outstanding.{outstanding, puts, toldDone, toldCopies}
 use Rattle.store.specs.Recorded.{rank, recorded, storeRecord}
 use Rattle.store.specs.Rehearsal.{storeAfter, recordOf}
 use Rattle.edges.specs.Events.{member, historyOfEvents}
@@ -38,7 +38,7 @@ all-append (c ∷ l) m e f = go (right c) (allRight l) (allRight (l ++ m)) e (λ
 
 -- the test of a part: to unfold it is to unfold all that the cases ask
 unfoldable test : List Case → Bool
-unfolding searchFrom lowest some sum digit bitOf hasByte little via reaches zeros same sumA sumB blockRight historyOf vis placeRight valueRight timesRight gapsRight eventRight tailRight slotRight lengthRight headerRight blocksRight wrongPosition wrongSet onRing byteQuestions setQuestions questions littleBytes bits setBytes slotBytes withSlots sealed unsealed recordBytes firstLeft first rb ss ob so ar step hb through candidate lastBelow lastWrite expected wrongRead wrong rule breaks verdict numbered firstBroken judgedList judged predicateJudgment packedJudgments callAt callsFrom callsOf reached refusal copiesOf allCopies afterCopy afterCopies copied effect afterCall run total doneAnswer answer answers rank recorded storeRecord storeAfter recordOf outstanding puts member historyOfEvents right allRight
+unfolding searchFrom lowest some sum digit bitOf hasByte little via reaches zeros same sumA sumB blockRight historyOf vis placeRight valueRight timesRight gapsRight eventRight tailRight slotRight lengthRight headerRight blocksRight wrongPosition wrongSet onRing byteQuestions setQuestions questions littleBytes bits setBytes slotBytes withSlots sealed unsealed recordBytes firstLeft first rb ss ob so ar step hb through candidate lastBelow lastWrite expected wrongRead wrong rule breaks verdict numbered firstBroken judgedList judged predicateJudgment packedJudgments callAt callsFrom callsOf reached refusal copiesOf allCopies afterCopy afterCopies copied effect afterCall run total doneAnswer answer answers rank recorded storeRecord storeAfter recordOf outstanding puts toldDone toldCopies member historyOfEvents right allRight
 test cs = allRight cs
 
 empty-hold : allRight ofEmpty ≡ true

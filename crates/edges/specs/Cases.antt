@@ -14,8 +14,8 @@ use Rattle.judge.specs.Judgments.{predicateJudgment, packedJudgment, packedJudg
 use Rattle.judge.specs.Lists.{packedVerdict}
 use Rattle.store.specs.Store.{fresh}
 use Rattle.store.specs.Calls.{callsOf}
-use Rattle.store.specs.Rules.{deliveries, closes, answers}
-use Rattle.store.specs.Outstanding.{puts, outstanding}
+use Rattle.store.specs.Rules.{deliveries, copiesByCloses, answers}
+use Rattle.store.specs.Outstanding.{puts, outstanding, toldDone, toldCopies}
 use Rattle.store.specs.Rehearsal.{storeAfter, recordOf}
 use Rattle.edges.specs.Events.{event, aRead, aWrite, returned, pending, historyOfEvents}
 
@@ -29,7 +29,7 @@ pub data Case : Type 0 where
   thirteen : (s : List ℕ) (numbers : List ℕ) → Case
   -- the answer of call k of a script, all eight bytes
   answered : (sites : ℕ) (script : List ℕ) (k : ℕ) (answer : List ℕ) → Case
-  -- after a script: its puts, done deliveries, copies delivered by closes, and copies outstanding
+  -- after a script: its puts, done deliveries, copies delivered by closes, by the rules and by the answers, and copies outstanding
   counted : (sites : ℕ) (script : List ℕ) (put delivered closed left : ℕ) → Case
 
 unfoldable pub right : Case → Bool
@@ -39,10 +39,12 @@ right (ruled s p answer) = eqb (packedJudgment (predicateJudgment gcr1 1024 p s)
 right (thirteen s numbers) = same (packedJudgments gcr1 1024 13 s) numbers
 right (answered n script k answer) = same (take 8 (drop (8 * k) (answers n fresh (callsOf script)))) answer
 right (counted n script put delivered closed left) =
-    eqb (puts (storeAfter n script)) put
-    && (eqb (deliveries n fresh (callsOf script)) delivered
-    && (eqb (closes n fresh (callsOf script)) closed
-    && eqb (outstanding n (storeAfter n script)) left))
+    same (puts (storeAfter n script) ∷ deliveries n fresh (callsOf script) ∷ copiesByCloses n fresh (callsOf script) ∷ []) (put ∷ delivered ∷ closed ∷ [])
+    && (same (told 1 ∷ told 3 ∷ toldCopies script (answers n fresh (callsOf script)) ∷ []) (put ∷ delivered ∷ closed ∷ [])
+    && eqb (outstanding n (storeAfter n script)) left)
+  where
+    told : ℕ → ℕ
+    told kind = toldDone kind script (answers n fresh (callsOf script))
 
 unfoldable pub allRight : List Case → Bool
 allRight [] = true
@@ -168,7 +170,7 @@ wrongCloses =
     closeCall 1 0 0 0 0 0 0 (closeCall 0 1 0 0 0 0 0 (closeCall 0 0 1 0 0 0 0
     (closeCall 0 0 0 1 0 0 0 (closeCall 0 0 0 0 1 0 0 (closeCall 0 0 0 0 0 1 0 (closeCall 0 0 0 0 0 0 1 []))))))
 
--- at three sites a put that one delivery and a close bring to the others; after the close a get, and a put that nobody gets
+-- at three sites a put that one delivery and a close bring to the others; after the close a get, and a put that is not delivered
 abbrev evening : List ℕ
 evening = putCall 0 0 1 (deliverCall 0 1 (rightClose (getCall 2 0 (putCall 1 0 2 []))))
 
@@ -256,6 +258,7 @@ ofCopies =
     ∷ counted 1 lonePut 1 0 0 0
     ∷ counted 8 lonePut 1 0 0 7
     ∷ counted 3 (getCall 0 0 (getCall 1 0 [])) 0 0 0 0
+    ∷ counted 2 wrongCloses 0 0 0 0
     ∷ []
 
 -- the table, in parts that the checker computes one by one

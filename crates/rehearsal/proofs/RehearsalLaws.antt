@@ -162,9 +162,9 @@ module _ (n : ℕ) (script rec ans : List ℕ) where
     unfolding storeAfter
     script-adds-up = every-copy n n≤8 (callsOf script)
 
-    script-told : (rest : List ℕ) → ToldAddsUp n (callsOf script) (answers n fresh (callsOf script) ++ rest) (outstanding n (storeAfter n script))
+    script-told : (rest : List ℕ) → ToldAddsUp n script (answers n fresh (callsOf script) ++ rest) (outstanding n (storeAfter n script))
     unfolding storeAfter
-    script-told = every-copy-told n n≤8 (callsOf script)
+    script-told = every-copy-told n n≤8 script
 
     pub accepted-rehearses : (rec′ ans′ : List ℕ) (long copies : ℕ)
         → ans′ ≡ answers n fresh (callsOf script) ++ drop (length script) ans

@@ -2,15 +2,19 @@
 use mathlib.Core.Path.{_≡_, refl, sym, ap, _∙_}
 use mathlib.Core.Bool.{Bool, true, false, cond}
 use mathlib.Core.List.{List, [], _∷_, _++_, append-assoc, append-nil}
-use Prim.Native.Nat.{ℕ, zero, suc, _+_, _*_, _/_, _≤_}
+use Prim.Native.Nat.{ℕ, zero, suc, _+_, _*_, _/_, _≤_, _<_}
 use native.Mathlib.Omega.{arith}
 use lib.Dec.{eqb}
-use lib.ListN.{length, length-append, replicate, length-replicate}
+use lib.ListN.{length, getD, length-append, replicate, length-replicate, List·getD-append}
+use lib.Seq.{getD-append-add}
+use Rattle.rows.specs.Count.{sum}
+use Rattle.rows.proofs.CountLaws.{sum-none, sum-more}
 use Rattle.record.proofs.NumberBytes.{length-little}
 use Rattle.store.specs.Store.{Store, fresh}
 use Rattle.store.specs.Calls.{Call, put, get, deliver, close, malformed, callAt, callsFrom, callsOf}
-use Rattle.store.specs.Rules.{refusal, afterCall, run, doneAnswer, answer, answers}
+use Rattle.store.specs.Rules.{refusal, afterCall, run, total, doneAnswer, answer, answers}
 use Rattle.store.specs.Rehearsal.{storeAfter}
+use Rattle.store.proofs.UpdateLaws.{lt-suc-elim}
 use Rattle.store.proofs.Invariant.{StoreInv}
 use Rattle.store.proofs.RunKeeps.{every-run}
 use Rattle.store.proofs.Sizes.{Limits, every-limits, Sizes, every-sizes}
@@ -89,6 +93,21 @@ answers-on (suc j) k n s =
     ∙ answers-on j (suc k) n s
     ∙ ap (λ (i : ℕ). answersUpTo i n s) (omega arith)
 
+-- a number of each of the first k calls, added up, and then of j more
+abbrev ofCall : (ℕ → Store → Call → ℕ) → ℕ → List ℕ → ℕ → ℕ
+ofCall f n s k = f n (storeUpTo k n s) (callAt s (8 * k))
+
+total-on : (f : ℕ → Store → Call → ℕ) (j k n : ℕ) (s : List ℕ)
+    → sum k (ofCall f n s) + total f n (storeUpTo k n s) (callsFrom j s (8 * k)) ≡ sum (k + j) (ofCall f n s)
+unfolding total callsFrom
+total-on f zero k n s = let same : k ≡ k + 0 = omega arith in omega (arith, ap (λ (i : ℕ). sum i (ofCall f n s)) same)
+total-on f (suc j) k n s =
+    let next : 8 * k + 8 ≡ 8 * suc k = omega arith in
+    let same : suc k + j ≡ k + suc j = omega arith in
+    let left : total f n (afterCall n (storeUpTo k n s) (callAt s (8 * k))) (callsFrom j s (8 * k + 8)) ≡ total f n (storeUpTo (suc k) n s) (callsFrom j s (8 * suc k)) =
+    rw (store-more k n s, next) refl in
+    omega (arith, left, sum-more k (ofCall f n s), total-on f j (suc k) n s, ap (λ (i : ℕ). sum i (ofCall f n s)) same)
+
 -- the first k calls are a list of calls, so what every list has, they have
 pub store-up-to : (k n : ℕ) (s : List ℕ) → storeUpTo k n s ≡ run n fresh (callsFrom k s 0)
 unfolding storeUpTo
@@ -116,6 +135,14 @@ pub answers-whole : (n : ℕ) (s : List ℕ) → answersUpTo (length s / 8) n s 
 unfolding callsOf
 answers-whole n s = answers-up-to (length s / 8) n s
 
+pub total-whole : (f : ℕ → Store → Call → ℕ) (n : ℕ) (s : List ℕ)
+    → sum (length s / 8) (λ k. f n (storeUpTo k n s) (callAt s (8 * k))) ≡ total f n fresh (callsOf s)
+unfolding callsOf storeUpTo
+total-whole f n s =
+    let z : length s / 8 ≡ 0 + length s / 8 = omega arith in
+    ap (λ (i : ℕ). sum i (ofCall f n s)) z ∙ sym (total-on f (length s / 8) 0 n s)
+    ∙ omega (arith, sum-none (ofCall f n s))
+
 -- ---- lengths
 
 done-length : (n : ℕ) (st : Store) (c : Call) → length (doneAnswer n st c) ≡ 8
@@ -141,3 +168,18 @@ answers-up-to-length zero n s = refl
 answers-up-to-length (suc k) n s =
     length-append (answersUpTo k n s) (answer n (storeUpTo k n s) (callAt s (8 * k)))
     ∙ omega (arith, answer-length n (storeUpTo k n s) (callAt s (8 * k)), answers-up-to-length k n s)
+
+-- byte j of the answer of call k, whatever stands behind the answers
+pub answer-at : (m n : ℕ) (s rest : List ℕ) (k : ℕ) → k < m → (j : ℕ) → j < 8
+    → getD (answersUpTo m n s ++ rest) (8 * k + j) 0 ≡ getD (answer n (storeUpTo k n s) (callAt s (8 * k))) j 0
+unfolding answersUpTo
+answer-at zero n s rest k l j h = absurd (omega arith)
+answer-at (suc m) n s rest k l j h =
+    let a : List ℕ = answer n (storeUpTo m n s) (callAt s (8 * m)) in
+    ap (λ (x : List ℕ). getD x (8 * k + j) 0) (append-assoc (answersUpTo m n s) a rest)
+    ∙ lt-suc-elim k m l
+    (λ q. answer-at m n s (a ++ rest) k q j h)
+    (λ q. rw q
+    (ap (λ (i : ℕ). getD (answersUpTo m n s ++ (a ++ rest)) (i + j) 0) (sym (answers-up-to-length m n s))
+    ∙ getD-append-add (answersUpTo m n s) (a ++ rest) j 0
+    ∙ List·getD-append a rest 0 j (omega (arith, answer-length n (storeUpTo m n s) (callAt s (8 * m))))))

@@ -33,4 +33,4 @@ pub record Rehearses (n : ℕ) (script rec ans rec′ ans′ : List ℕ) (r : Re
   pub causal : r .number ≡ 0 → CausalRecord (recordOf n script)
   pub closes : r .number ≡ 0 → (before after : List Call) → callsOf script ≡ before ++ (close ∷ after) → Closes n (run n fresh before)
   pub adds-up : r .number ≡ 0 → AddsUp n (callsOf script) (r .outstanding)
-  pub told-adds-up : r .number ≡ 0 → ToldAddsUp n (callsOf script) ans′ (r .outstanding)
+  pub told-adds-up : r .number ≡ 0 → ToldAddsUp n script ans′ (r .outstanding)

@@ -1,17 +1,16 @@
 -- Copies still on the lines: the pairs of a put and a site that lacks it, and what they add up to with the copies that came.
 use mathlib.Core.Path.{_≡_}
 use mathlib.Core.Bool.{Bool, not, cond, _&&_}
-use mathlib.Core.List.{List, [], _∷_}
-use Prim.Native.Nat.{ℕ, _+_, _-_, _*_}
+use mathlib.Core.List.{List}
+use Prim.Native.Nat.{ℕ, _+_, _-_, _*_, _/_}
 use lib.Dec.{eqb}
-use lib.ListN.{drop}
+use lib.ListN.{length}
 use Rattle.rows.specs.Count.{sum, howMany}
 use Rattle.rows.specs.Octets.{little}
 use Rattle.record.specs.Layout.{byte}
-use Rattle.record.specs.Encode.{bit}
 use Rattle.store.specs.Store.{Store, fresh}
 use Rattle.store.specs.Calls.{Call}
-use Rattle.store.specs.Rules.{kindOf, run, deliveries, closes}
+use Rattle.store.specs.Rules.{run, deliveries, copiesByCloses}
 
 -- event w is a put, and site t lacks it: it is not in t's known set
 abbrev pub lacks : Store → ℕ → ℕ → Bool
@@ -27,24 +26,18 @@ puts st = howMany (st .count) (λ e. st .event e .isPut)
 
 -- the store after these calls at n fresh sites: puts × (sites − 1) = done deliveries + copies delivered by closes + `left`
 abbrev pub AddsUp : ℕ → List Call → ℕ → Type 0
-AddsUp n cs left = puts (run n fresh cs) * (n - 1) ≡ (deliveries n fresh cs + closes n fresh cs) + left
+AddsUp n cs left = puts (run n fresh cs) * (n - 1) ≡ (deliveries n fresh cs + copiesByCloses n fresh cs) + left
 
--- ---- the same, of what calls are answered: 8 bytes each, one after the other
+-- ---- the same, by the bytes of a script and of its answers, 8 for each call
 
--- a number of each call and its answer, which stands before those of later calls, added up over the list
-unfoldable pub tally : (Call → List ℕ → ℕ) → List Call → List ℕ → ℕ
-tally f [] answers = 0
-tally f (c ∷ cs) answers = f c answers + tally f cs (drop 8 answers)
+-- the calls of a kind that are done: byte 0 of the call is the kind, and byte 0 of its answer is 0
+unfoldable pub toldDone : ℕ → List ℕ → List ℕ → ℕ
+toldDone kind script answers = howMany (length script / 8) (λ k. eqb (byte script (8 * k)) kind && eqb (byte answers (8 * k)) 0)
 
--- 1 for a call of a kind whose answer's number is 0
-abbrev pub toldDone : ℕ → Call → List ℕ → ℕ
-toldDone kind c answer = bit (eqb (kindOf c) kind && eqb (byte answer 0) 0)
+-- the values in the answers of closes, bytes 4 to 7
+unfoldable pub toldCopies : List ℕ → List ℕ → ℕ
+toldCopies script answers = sum (length script / 8) (λ k. cond (eqb (byte script (8 * k)) 4) (little 4 answers (8 * k + 4)) 0)
 
--- the value in the answer of a close
-abbrev pub toldCopies : Call → List ℕ → ℕ
-toldCopies c answer = cond (eqb (kindOf c) 4) (little 4 answer 4) 0
-
--- puts × (sites − 1) = done deliveries + copies delivered by closes + `left`, by these answers
-abbrev pub ToldAddsUp : ℕ → List Call → List ℕ → ℕ → Type 0
-ToldAddsUp n cs answers left =
-    tally (toldDone 1) cs answers * (n - 1) ≡ (tally (toldDone 3) cs answers + tally toldCopies cs answers) + left
+-- puts × (sites − 1) = done deliveries + copies delivered by closes + `left`, as the answers tell
+abbrev pub ToldAddsUp : ℕ → List ℕ → List ℕ → ℕ → Type 0
+ToldAddsUp n script answers left = toldDone 1 script answers * (n - 1) ≡ (toldDone 3 script answers + toldCopies script answers) + left

@@ -164,8 +164,8 @@ abbrev pub deliveries : ℕ → Store → List Call → ℕ
 deliveries = total (done 3)
 
 -- copies delivered by closes
-abbrev pub closes : ℕ → Store → List Call → ℕ
-closes = total closed
+abbrev pub copiesByCloses : ℕ → Store → List Call → ℕ
+copiesByCloses = total closed
 
 -- ---- answers
 
