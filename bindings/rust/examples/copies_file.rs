@@ -41,7 +41,7 @@ fn told(input: &[u8]) -> (String, u8) {
     let Copies { puts, by_deliveries, by_closes, refused_calls } = copies;
     let (others, outstanding) = (sites - 1, done.outstanding);
     let came = format!("{by_deliveries} by deliveries + {by_closes} by closes");
-    let refused = if refused_calls == 0 { String::new() } else { format!("; {refused_calls} calls refused") };
+    let refused = if refused_calls == 0 { String::new() } else { format!("; calls refused: {refused_calls}") };
     (format!("{puts} puts x {others} other sites = {came} + {outstanding} outstanding{refused}"), 0)
 }
 

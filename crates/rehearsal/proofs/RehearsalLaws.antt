@@ -32,7 +32,8 @@ use Rattle.store.proofs.SameRecord.{record-same}
 use Rattle.store.proofs.Sizes.{every-limits, every-sizes}
 use Rattle.store.proofs.StoreIsCausal.{key-once}
 use Rattle.store.proofs.EveryClose.{every-close}
-use Rattle.store.proofs.EveryCopy.{every-copy, every-copy-told}
+use Rattle.store.proofs.EveryCopy.{every-copy}
+use Rattle.store.proofs.CopiesTold.{every-copy-told}
 use Rattle.store.proofs.ThirdDemand.{third-demand}
 
 -- ---- what a run leaves is small
