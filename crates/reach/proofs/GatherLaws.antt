@@ -91,7 +91,7 @@ module _ {g : List ℕ} {n w : ℕ} {l m rest row : List ℕ} (i : Gathering g n
 
     -- and leaves fewer
     pub gather-less : howMany (64 * w) (has rest') < howMany (64 * w) (has rest)
-    gather-less = many-less (has rest) (has rest') still (64 * w) a (omega (arith, has-within rest a member, i .deep)) member
+    gather-less = many-less (64 * w) (has rest) (has rest') (λ x l. still x) a (omega (arith, has-within rest a member, i .deep)) member
         (less a ∙ ap (λ (t : Bool). (not t && has rest a) && not (related g w a a)) (eq-eqb a a refl))
 
   -- it ends where none is left

@@ -68,28 +68,42 @@ sum-split k (suc m) f =
 
 -- ---- how many
 
-module _ (f g : ℕ → Bool) (within : (x : ℕ) → g x ≡ true → f x ≡ true) where
-  one-le : (x : ℕ) → cond (g x) 1 0 ≤ cond (f x) 1 0
-  one-le x = split (g x) (λ t. rw (t, within x t) (omega arith)) (λ t. rw t (omega arith))
+one-le : (s t : Bool) → (s ≡ true → t ≡ true) → cond s 1 0 ≤ cond t 1 0
+one-le true t h = rw (h refl) (le-refl 1)
+one-le false t h = omega arith
 
-  many-le : (n : ℕ) → howMany n g ≤ howMany n f
-  unfolding sum
-  many-le zero = omega arith
-  many-le (suc n) = omega (arith, one-le n, many-le n)
+pub many-le : (n : ℕ) (f g : ℕ → Bool) → ((x : ℕ) → x < n → g x ≡ true → f x ≡ true) → howMany n g ≤ howMany n f
+unfolding sum
+many-le zero f g within = omega arith
+many-le (suc n) f g within = omega (arith, one-le (g n) (f n) (within n (le-refl _)), many-le n f g (λ x l. within x (omega arith)))
 
-  -- fewer where it holds at a no more
-  pub many-less : (n a : ℕ) → a < n → f a ≡ true → g a ≡ false → howMany n g < howMany n f
-  unfolding sum
-  many-less zero a h e d = absurd (omega arith)
-  many-less (suc n) a h e d = split (eqb a n)
-      (λ t. let q : a ≡ n = eqb-true a n t in rw (rw q at e, rw q at d) (omega (arith, many-le n)))
-      (λ t. let ne = eqb-false a n t in omega (arith, one-le n, many-less n a (omega arith) e d))
+-- fewer where it holds at a no more
+pub many-less : (n : ℕ) (f g : ℕ → Bool) → ((x : ℕ) → x < n → g x ≡ true → f x ≡ true) → (a : ℕ) → a < n → f a ≡ true → g a ≡ false
+    → howMany n g < howMany n f
+unfolding sum
+many-less zero f g within a h e d = absurd (omega arith)
+many-less (suc n) f g within a h e d =
+    let here : cond (g n) 1 0 ≤ cond (f n) 1 0 = one-le (g n) (f n) (within n (le-refl _)) in
+    split (eqb a n)
+    (λ t.
+    let q : a ≡ n = eqb-true a n t in
+    rw (rw q at e, rw q at d) (omega (arith, many-le n f g (λ x l. within x (omega arith)))))
+    (λ t.
+    let ne = eqb-false a n t in
+    omega (arith, many-less n f g (λ x l. within x (omega arith)) a (omega arith) e d))
 
 pub many-same : (n : ℕ) (f g : ℕ → Bool) → ((x : ℕ) → x < n → f x ≡ g x) → howMany n f ≡ howMany n g
 many-same n f g h = sum-same n _ _ (λ x l. ap (λ (t : Bool). cond {A = ℕ} t 1 0) (h x l))
 
 pub many-most : (n : ℕ) (f : ℕ → Bool) → howMany n f ≤ n
 many-most n f = omega (arith, sum-most n (λ x. cond (f x) 1 0) 1 (λ x l. split (f x) (λ t. rw t (omega arith)) (λ t. rw t (omega arith))))
+
+-- not all, where a fails
+pub many-few : (n : ℕ) (f : ℕ → Bool) (a : ℕ) → a < n → f a ≡ false → howMany n f < n
+many-few n f a l e = omega (arith, many-less n (λ x. true) f (λ x m t. refl) a l refl e, sum-each n 1)
+
+pub many-all : (n : ℕ) (f : ℕ → Bool) → n ≤ howMany n f → (a : ℕ) → a < n → f a ≡ true
+many-all n f all a l = split (f a) (λ t. t) (λ t. absurd (omega (arith, many-few n f a l t)))
 
 -- all but one
 pub many-others : (n s : ℕ) → s < n → howMany n (λ t. not (eqb t s)) ≡ n - 1

@@ -6,9 +6,10 @@ use Prim.Native.Nat.{ℕ, zero, suc, _+_, _*_, _<_}
 use native.Mathlib.Omega.{arith}
 use lib.ListN.{replicate}
 use lib.Seq.{sets}
+use Rattle.rows.proofs.CountLaws.{many-same}
 use Rattle.record.specs.Layout.{Layout, slotAt}
 use Rattle.record.specs.History.{History}
-use Rattle.record.specs.Encode.{bit, slotBytes, blocksFor, headerBytes, withSlots, sealed, unsealed, recordBytes}
+use Rattle.record.specs.Encode.{slotBytes, blocksFor, headerBytes, withSlots, sealed, unsealed, recordBytes}
 use Rattle.store.specs.Store.{Event, Store}
 use Rattle.store.specs.Rules.{valueOr0}
 use Rattle.store.specs.Recorded.{rank, isValue, recorded, storeRecord}
@@ -16,9 +17,8 @@ use Rattle.store.proofs.RankLaws.{precedes}
 
 pub rank-same : (events others : ℕ → Event) (k e : ℕ) → ((i : ℕ) → i < k → events i ≡ others i) → events e ≡ others e → rank events k e ≡ rank others k e
 unfolding rank
-rank-same events others zero e h q = refl
-rank-same events others (suc k) e h q =
-    ap₂ _+_ (rank-same events others k e (λ i l. h i (omega arith)) q) (ap₂ (λ (a b : Event). bit (precedes a b)) (h k (omega arith)) q)
+rank-same events others k e h q =
+    many-same k (λ i. precedes (events i) (events e)) (λ i. precedes (others i) (others e)) (λ i l. ap₂ precedes (h i l) q)
 
 slots-same : (L : Layout) (h g : History) (k : ℕ) → ((e : ℕ) → e < k → slotBytes L h e ≡ slotBytes L g e) → (s : List ℕ) → withSlots L h k s ≡ withSlots L g k s
 unfolding withSlots

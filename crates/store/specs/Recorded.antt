@@ -1,18 +1,18 @@
 -- The history that a store's events make, and so its record.
 use mathlib.Core.Bool.{Bool, true, false}
 use mathlib.Core.List.{List}
-use Prim.Native.Nat.{ℕ, zero, suc, _+_, _*_}
+use Prim.Native.Nat.{ℕ, _+_, _*_}
+use Rattle.rows.specs.Count.{howMany}
 use Rattle.record.specs.Layout.{Layout}
 use Rattle.record.specs.History.{History}
-use Rattle.record.specs.Encode.{bit, recordBytes}
+use Rattle.record.specs.Encode.{recordBytes}
 use Rattle.consistency.specs.Reads.{Held, none, value}
 use Rattle.store.specs.Store.{before, Event, Store}
 use Rattle.store.specs.Rules.{valueOr0}
 
 -- ar goes by stamp, then site: how many of the first k events are before event e
 unfoldable pub rank : (ℕ → Event) → ℕ → ℕ → ℕ
-rank events zero e = 0
-rank events (suc k) e = rank events k e + bit (before (events k .stamp) (events k .site) (events e .stamp) (events e .site))
+rank events k e = howMany k (λ i. before (events i .stamp) (events i .site) (events e .stamp) (events e .site))
 
 abbrev pub isValue : Held → Bool
 isValue none = false
