@@ -10,6 +10,7 @@
  *   21  the script is not a multiple of 8 bytes, or is longer than 32,768
  *   22  the record buffer is shorter than 19,456 bytes
  *   23  the answer buffer is shorter than the script
+ *   40  the openings are not 132 bytes, or hold a value under a clear bit
  *   Asked of each call of a script, in this order; found in the answer buffer
  *   31  the call is not well formed
  *   32  its site is not below the site count
@@ -57,17 +58,32 @@ uint64_t gcr_judge_predicate(uint32_t predicate, const uint8_t *record, size_t l
  * never change. */
 uint64_t gcr_judge_all(const uint8_t *record, size_t len, uint64_t *out, size_t words);
 
-/* Runs a script over a store of `sites` sites and writes the record of what happened.
+/* Runs a script over a store of `sites` sites and writes the record of what happened, in edition GCR2.
+ * `openings` are the figures that the objects start with at every site: GCR_OPENINGS_BYTES bytes as gcr_reader.h says,
+ * all zero where no object has one (see gcr_set_opening). A get of an object of which its site knows no put finds the
+ * object's opening; every put replaces it. The record has the openings as they were lent.
  * Answer: number + 256 * length + 16,777,216 * outstanding, where number is 0 or what refused the rehearsal, length
  * the record's bytes and outstanding the copies still on the lines when the script has ended: exactly the pairs of a
  * put and a site that lacks it. Both are 0 where it was refused; with one site outstanding is 0.
  * Where it was not refused, done puts * (sites - 1) = done deliveries + copies delivered by closes + outstanding: the
  * calls of GCR_PUT and of GCR_DELIVER whose gcr_answer_number is 0, and gcr_answer_copies of all calls added up.
- * Buffers afterwards: unchanged where 20 to 23 refused; else `record` holds the record in its first length bytes and
- * `answers` an answer for each call in its first script_len bytes, and the bytes beyond stay. A call that is refused
- * changes only its own answer, and the script goes on. */
-uint64_t gcr_rehearse(uint32_t sites, const uint8_t *script, size_t script_len, uint8_t *record, size_t record_len,
-                      uint8_t *answers, size_t answers_len);
+ * Buffers afterwards: unchanged where 20 to 23 or 40 refused; else `record` holds the record in its first length bytes
+ * and `answers` an answer for each call in its first script_len bytes, and the bytes beyond stay. A call that is
+ * refused changes only its own answer, and the script goes on. */
+uint64_t gcr_rehearse(uint32_t sites, const uint8_t *openings, size_t openings_len, const uint8_t *script,
+                      size_t script_len, uint8_t *record, size_t record_len, uint8_t *answers, size_t answers_len);
+
+/* Gives an object an opening, in place of one that it has, and answers 1. Of an object from 32 on it answers 0 and
+ * changes nothing. Begin with zeros, `uint8_t openings[GCR_OPENINGS_BYTES] = {0};`: what is made so is never refused
+ * by 40. */
+static inline int gcr_set_opening(uint8_t *openings, uint32_t object, uint32_t value) {
+    if (object >= GCR_OPENING_OBJECTS)
+        return 0;
+    openings[object / 8] |= (uint8_t)(1 << object % 8);
+    for (uint32_t k = 0; k < 4; k++)
+        openings[4 + 4 * object + k] = (uint8_t)(value >> 8 * k);
+    return 1;
+}
 
 /* Of what gcr_judge_model and gcr_judge_predicate answer, and of the words that gcr_judge_all writes: whether it is met
  * or broken (or refused: gcr_is_refused), and of a break the pair's events. Not for the answers of gcr_judge_all and

@@ -21,7 +21,7 @@
  *    1  the work slice has fewer than 1,024 words
  *    3  the length is not a multiple of 512 from 512 to 19,456
  *    4  a block's check is wrong                                         place: lowest such block
- *    5  block 0 is not as laid out
+ *    5  block 0 is not as laid out, in the edition of its letters: GCR1 or GCR2
  *    6  the number of blocks does not fit the number of events
  *    7  a slot is not as laid out                                        place: lowest such slot
  *    8  an arbitration position is too large or a lower event's          place: lowest such event
@@ -38,12 +38,15 @@
 extern "C" {
 #endif
 
-#define GCR_RECORD_MOST 19456 /* bytes of the longest record */
-#define GCR_WORK_WORDS 1024   /* the words that gcr_read asks for */
+#define GCR_RECORD_MOST 19456  /* bytes of the longest record */
+#define GCR_WORK_WORDS 1024    /* the words that gcr_read asks for */
+#define GCR_OPENING_OBJECTS 32 /* the objects that may have an opening: 0 to 31 */
+#define GCR_OPENINGS_BYTES 132 /* bytes of openings */
+#define GCR_OPENINGS_AT 12     /* where they stand in a record */
 
 #define GCR_READ_STACK_BYTES 16384 /* stack for gcr_read */
 
-/* Reads a record and lays its visible sets into `work`.
+/* Reads a record, of edition GCR1 or GCR2, and lays its visible sets into `work`.
  * Answer: 0 passed; 2,097,152 + 1,024 * number + place refused. A record that passed has not been judged.
  * `work` afterwards: unchanged where 1 refused; its first 1,024 words zero where 3 to 10 refused; else words 4e to
  * 4e + 3 hold event e's visible set (see gcr_is_visible), the rest of the 1,024 zero. Later words never change. */
@@ -60,6 +63,24 @@ static inline uint32_t gcr_refused_place(uint64_t answer) { return (uint32_t)(an
 /* Whether event a is visible to event b, both below 256, in the words of a read that passed. */
 static inline int gcr_is_visible(const uint64_t *work, size_t a, size_t b) {
     return (int)(work[4 * b + a / 64] >> a % 64 & 1);
+}
+
+/* An opening is the figure that an object starts the day with: what a read of the object should hold that sees no
+ * write on it. Openings are GCR_OPENINGS_BYTES bytes. The first four have a bit for each of objects 0 to 31, object k's
+ * at bit k mod 8 of byte k div 8, set where it has an opening. Then come their 32 values, 4 bytes each with the lowest
+ * first, and 0 where the bit is clear. An opening of 0 is one too; objects from 32 on have none.
+ * A record that passed has its openings at record + GCR_OPENINGS_AT, in either edition: GCR1, which has none, has zeros
+ * there. */
+
+/* Whether an object has an opening, and which: 0 where it has none. */
+static inline int gcr_has_opening(const uint8_t *openings, uint32_t object) {
+    return object < GCR_OPENING_OBJECTS && (openings[object / 8] >> object % 8 & 1);
+}
+static inline uint32_t gcr_opening(const uint8_t *openings, uint32_t object) {
+    if (!gcr_has_opening(openings, object))
+        return 0;
+    const uint8_t *at = openings + 4 + 4 * object;
+    return at[0] | (uint32_t)at[1] << 8 | (uint32_t)at[2] << 16 | (uint32_t)at[3] << 24;
 }
 
 #ifdef __cplusplus

@@ -34,15 +34,10 @@ feature() {
     case $1 in reader | models | rehearsal) echo linked ;; esac
 }
 
-# Seeds of a CI run: a spawned program costs a millisecond. Half of the scripts have closes, after which little is late
-# or lacking, so there are twice as many as would do without. With these every answer that a comparer must meet occurs
-# twenty times and more.
-seeds() {
-    case $1 in
-    inspect | verdict) echo $((2000 * share)) ;;
-    *) echo $((4000 * share)) ;;
-    esac
-}
+# Seeds of each comparer in a CI run, in which a spawned program costs a millisecond or two. Records are of two editions
+# that may be wrong in many places, and half of the scripts have closes, after which little is late or lacking. With
+# these every answer that a comparer must meet occurs twenty times and more.
+seeds=$((4000 * share))
 
 # The linked build has a target folder of its own, or both would undo each other.
 compare() {
@@ -50,7 +45,7 @@ compare() {
     target=$here/target${linked:+/linked}
     cargo build --quiet --release -j1 --manifest-path "$here/Cargo.toml" --bin compare \
         --target-dir "$target" ${linked:+--features "$linked"} || return 1
-    "$target/release/compare" "$1" --seeds "$(seeds "$1")" --from "${FROM:-0}" \
+    "$target/release/compare" "$1" --seeds "$seeds" --from "${FROM:-0}" \
         --seconds "$seconds" --bin "$bin" --keep "$keep" >"$totals.one"
     result=$?
     cat "$totals.one"

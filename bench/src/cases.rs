@@ -38,12 +38,13 @@ impl Case {
 }
 
 pub fn all() -> Vec<Case> {
-    let (records, disordered) = (records(), disordered());
-    let passing = || records.iter().chain(&disordered);
+    let (records, disordered, opened) = (records(), disordered(), SIZES.map(inputs::opened));
+    let passing = || records.iter().chain(&disordered).chain(&opened);
     let mut all: Vec<Case> = passing().chain(&rings()).map(read).collect();
     for &predicate in Predicate::ALL {
         all.extend(records.iter().map(|record| judge_predicate(predicate, record)));
     }
+    all.extend(opened.iter().map(|record| judge_predicate(Predicate::RVal, record)));
     all.extend(passing().map(judge_all));
     all.extend(passing().map(judge_model));
     all.extend(scripts().iter().map(rehearse));
@@ -68,8 +69,10 @@ fn records() -> Vec<Rc<Input>> {
 fn scripts() -> Vec<Rc<Input>> {
     let sparse = SIZES.map(inputs::sparse_script);
     let day = SIZES.map(inputs::day_script);
-    let whole = [inputs::full_day_script(), inputs::closes_script(), inputs::puts_script()];
-    sparse.into_iter().chain(SIZES.map(inputs::dense_script)).chain(day).chain(whole).collect()
+    let opened = SIZES.map(inputs::opened_script);
+    let whole =
+        [inputs::full_day_script(), inputs::opened_day_script(), inputs::closes_script(), inputs::puts_script()];
+    sparse.into_iter().chain(SIZES.map(inputs::dense_script)).chain(day).chain(opened).chain(whole).collect()
 }
 
 fn read(input: &Rc<Input>) -> Case {
@@ -123,9 +126,12 @@ fn rehearse(input: &Rc<Input>) -> Case {
     Case::new(
         "rehearse",
         input,
-        |input, lent| gcr::rehearse(SITES as u32, &input.bytes, &mut lent.record, &mut lent.answers),
+        |input, lent| gcr::rehearse(SITES as u32, &input.openings, &input.bytes, &mut lent.record, &mut lent.answers),
         |answer, _| rehearsed(answer),
-        |input, lent| rehearsal::rehearse(SITES as u32, &input.bytes, &mut lent.record, &mut lent.answers),
+        |input, lent| {
+            let openings = input.openings.as_bytes();
+            rehearsal::rehearse(SITES as u32, openings, &input.bytes, &mut lent.record, &mut lent.answers)
+        },
     )
 }
 

@@ -1,5 +1,6 @@
 //! Records and scripts, always the same.
 
+use gcr::Openings;
 use second::generate::scripts::{day_with_closes, full_day};
 use second::record::{Event, Record, MOST_EVENTS};
 use second::samples::in_turn;
@@ -8,16 +9,22 @@ use std::rc::Rc;
 
 pub const SITES: usize = 8;
 
-/// A record's or a script's bytes, under the name and the count of events that the table shows.
+/// A record's or a script's bytes, under the name and the count of events that the table shows. The openings are a
+/// script's; a record has its own within its bytes.
 pub struct Input {
     pub name: &'static str,
     pub n: usize,
+    pub openings: Openings,
     pub bytes: Vec<u8>,
 }
 
 impl Input {
     fn new(name: &'static str, n: usize, bytes: Vec<u8>) -> Rc<Input> {
-        Rc::new(Input { name, n, bytes })
+        Input::opened(name, n, Openings::none(), bytes)
+    }
+
+    fn opened(name: &'static str, n: usize, openings: Openings, bytes: Vec<u8>) -> Rc<Input> {
+        Rc::new(Input { name, n, openings, bytes })
     }
 }
 
@@ -40,6 +47,37 @@ pub fn sparse(n: usize) -> Rc<Input> {
         event.at(2 * k as u64, 2 * k as u64 + 1).sees(&before)
     };
     Input::new("sparse", n, Record::in_order(SITES as u8, (0..n).map(event).collect()).to_bytes())
+}
+
+/// Every object opens with a figure. Eight sites side by side as in `sparse`, but a read is of an object that the next
+/// site writes, and which it does not see written: it holds the opening. 2 and 13 are broken.
+pub fn opened(n: usize) -> Rc<Input> {
+    let event = |k: usize| {
+        let (site, turn) = (k % SITES, k / SITES);
+        let object = |site: usize| 4 * (site % SITES) + turn / 2 % 4;
+        let event = match turn % 2 {
+            0 => Event::write(site as u8, object(site) as u8, k as u32),
+            _ => Event::read(site as u8, object(site + 1) as u8, Some(figure(object(site + 1)))),
+        };
+        let before: Vec<usize> = (site..k).step_by(SITES).collect();
+        event.at(2 * k as u64, 2 * k as u64 + 1).sees(&before)
+    };
+    let record = Record::in_order(SITES as u8, (0..n).map(event).collect()).opened(of_all_objects());
+    Input::new("openings", n, record.to_bytes())
+}
+
+fn figure(object: usize) -> u32 {
+    1_000 + object as u32
+}
+
+/// Openings as the second checker has them.
+fn of_all_objects() -> second::openings::Openings {
+    second::openings::Openings::from_figures(std::array::from_fn(|object| Some(figure(object))))
+}
+
+/// The same as the bindings have them.
+fn given_of_all_objects() -> Openings {
+    (0..32).fold(Openings::none(), |openings, object| openings.with(object, figure(object.into())).expect("below 32"))
 }
 
 /// The dense record with its events numbered from the last to the first, so that work which goes by number meets
@@ -78,7 +116,7 @@ fn renumbered(record: &Record, order: &[usize]) -> Record {
         }
         event
     };
-    Record { sites: record.sites, events: order.iter().map(event).collect() }
+    Record { events: order.iter().map(event).collect(), ..*record }
 }
 
 /// Every event sees the next, and the last the first: all are on one ring.
@@ -133,6 +171,17 @@ pub fn full_day_script() -> Rc<Input> {
     Input::new("full day", 256, full_day(1, SITES))
 }
 
+/// The same, begun with an opening of every object.
+pub fn opened_day_script() -> Rc<Input> {
+    Input::opened("full day, openings", 256, given_of_all_objects(), full_day(1, SITES))
+}
+
+/// Every object has an opening, and is got at one site after the other: every get finds the opening.
+pub fn opened_script(n: usize) -> Rc<Input> {
+    let get = |k: usize| Call::Get { site: k % SITES, object: k / SITES % 32 };
+    Input::opened("openings", n, given_of_all_objects(), script((0..n).map(get)))
+}
+
 /// As many calls of a day of that sort, where one in 16 is a close.
 pub fn closes_script() -> Rc<Input> {
     Input::new("day with closes", 256, day_with_closes(1, SITES))
@@ -178,6 +227,7 @@ mod tests {
             assert_eq!(broken(&dense(n)), []);
             assert_eq!(broken(&backward(n)), []);
             assert_eq!(broken(&sparse(n)), [2]);
+            assert_eq!(broken(&opened(n)), [2, 13]);
         }
         assert_eq!(broken(&rehearsed()), [2, 3, 4, 13]);
         assert_eq!(broken(&by_site()), [2, 3, 4, 13]);
@@ -193,7 +243,7 @@ mod tests {
 
     #[test]
     fn scripts_do_all_their_calls_and_come_to_their_events() {
-        for input in [sparse_script(64), dense_script(64), dense_script(256), puts_script()] {
+        for input in [sparse_script(64), dense_script(64), dense_script(256), opened_script(256), puts_script()] {
             let mut answers = vec![7; input.bytes.len()];
             let store = run_script(SITES, &input.bytes, &mut answers);
             assert!(answers.chunks(CALL_BYTES).all(|answer| answer[0] == 0));
@@ -202,6 +252,17 @@ mod tests {
         for input in [day_script(16), day_script(256), full_day_script(), closes_script()] {
             assert_eq!(run_script(SITES, &input.bytes, &mut vec![0; input.bytes.len()]).events(), input.n);
         }
+    }
+
+    #[test]
+    fn all_gets_find_their_openings() {
+        let input = opened_script(256);
+        let openings = second::openings::Openings::from_bytes(input.openings.as_bytes()).expect("openings");
+        assert_eq!(openings, of_all_objects());
+        let mut store = Store::opened(SITES, openings);
+        store.run(&input.bytes, &mut vec![0; input.bytes.len()]);
+        let held = |event: &Event| event.value == Some(figure(event.object.into()));
+        assert!(store.record().events.iter().all(held));
     }
 
     #[test]

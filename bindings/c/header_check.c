@@ -2,25 +2,29 @@
  * Names each check that fails; exits with 0 where none does. */
 #include "gcr.h"
 #include <stdio.h>
+#include <string.h>
 
-#define CALLS 9     /* of the rehearsal's script */
+#define CALLS 12    /* of the rehearsal's script */
 #define LENGTH 1024 /* bytes of the rehearsal's record */
 #define ROOM 15     /* words lent to gcr_judge_all: two more than it writes */
 #define STAYS 7     /* what they hold before */
 
 static uint8_t record[GCR_RECORD_MOST];
 
-/* At two sites. */
+/* At two sites, where object 5 opens with 80,000 and object 31 with 0. */
 static const uint8_t script[CALLS * GCR_CALL_BYTES] = {
-    GCR_PUT,     0, 5, 0, 0x70, 0x11, 1, 0, /* of 70,000 at site 0 */
-    GCR_GET,     0, 5, 0, 0,    0,    0, 0, /* there */
-    GCR_GET,     1, 5, 0, 0,    0,    0, 0, /* at site 1, which lacks the put */
-    GCR_DELIVER, 0, 0, 0, 0,    0,    0, 0, /* of the put to its own site */
-    GCR_CLOSE,   0, 0, 0, 0,    0,    0, 0, /* brings the put to site 1 */
-    GCR_CLOSE,   0, 0, 0, 0,    0,    0, 0, /* where nothing is lacking any more */
-    GCR_CLOSE,   1, 0, 0, 0,    0,    0, 0, /* of site 1 alone, which is no call */
-    GCR_GET,     1, 5, 0, 0,    0,    0, 0, /* at site 1 again */
-    GCR_PUT,     1, 5, 0, 1,    0,    0, 0, /* which site 0 lacks in the end */
+    GCR_PUT,     0, 5,  0, 0x70, 0x11, 1, 0, /* of 70,000 at site 0 */
+    GCR_GET,     0, 5,  0, 0,    0,    0, 0, /* there */
+    GCR_GET,     1, 5,  0, 0,    0,    0, 0, /* at site 1, which lacks the put: its object is untouched there */
+    GCR_DELIVER, 0, 0,  0, 0,    0,    0, 0, /* of the put to its own site */
+    GCR_CLOSE,   0, 0,  0, 0,    0,    0, 0, /* brings the put to site 1 */
+    GCR_CLOSE,   0, 0,  0, 0,    0,    0, 0, /* where nothing is lacking any more */
+    GCR_CLOSE,   1, 0,  0, 0,    0,    0, 0, /* of site 1 alone, which is no call */
+    GCR_GET,     1, 5,  0, 0,    0,    0, 0, /* at site 1 again */
+    GCR_PUT,     1, 5,  0, 1,    0,    0, 0, /* which site 0 lacks in the end */
+    GCR_GET,     0, 31, 0, 0,    0,    0, 0, /* of the opening 0 */
+    GCR_GET,     0, 6,  0, 0,    0,    0, 0, /* of an object without an opening */
+    GCR_GET,     0, 32, 0, 0,    0,    0, 0, /* of an object that is none */
 };
 
 /* What the accessors give for a call's answer. */
@@ -33,13 +37,16 @@ struct parts {
 static const struct parts parts[CALLS] = {
     {.event = 0},                             /* the put */
     {.event = 1, .found = 1, .value = 70000}, /* the get at site 0 */
-    {.event = 2},                             /* the get that found nothing */
+    {.event = 2, .found = 1, .value = 80000}, /* the get that found the opening */
     {.number = 35},                           /* the refused delivery */
     {.copies = 1},                            /* the first close */
     {.copies = 0},                            /* the second close */
     {.number = 31},                           /* the refused close */
     {.event = 3, .found = 1, .value = 70000}, /* the get at site 1 */
     {.event = 4},                             /* the last put */
+    {.event = 5, .found = 1, .value = 0},     /* the get that found the opening 0 */
+    {.event = 6},                             /* the get that found nothing */
+    {.number = 33},                           /* the refused get */
 };
 
 static int answer_is_right(const uint8_t *answers, size_t k) {
@@ -68,11 +75,53 @@ static int copies_add_up(const uint8_t *answers, uint64_t outstanding) {
     return puts == came + outstanding;
 }
 
+/* The openings of the script. */
+static int set_openings(uint8_t *openings) {
+    return gcr_set_opening(openings, 5, 1) && gcr_set_opening(openings, 31, 0) && gcr_set_opening(openings, 5, 80000) &&
+           !gcr_set_opening(openings, 32, 1);
+}
+
+static int openings_are_right(const uint8_t *openings) {
+    int right = gcr_opening(openings, 5) == 80000;
+    for (uint32_t object = 0; object < 300; object++) {
+        int has = object == 5 || object == 31;
+        right &= gcr_has_opening(openings, object) == has && (object == 5 || gcr_opening(openings, object) == 0);
+    }
+    return right;
+}
+
+/* The record has the openings that were lent. */
 static int rehearsal_is_right(void) {
+    uint8_t openings[GCR_OPENINGS_BYTES] = {0}, answers[sizeof script];
+    int set = set_openings(openings) && openings_are_right(openings);
+    uint64_t done = gcr_rehearse(2, openings, sizeof openings, script, sizeof script, record, sizeof record, answers,
+                                 sizeof answers);
+    return set && gcr_rehearsed_number(done) == 0 && gcr_rehearsed_length(done) == LENGTH &&
+           gcr_rehearsed_outstanding(done) == 1 && answers_are_right(answers) && copies_add_up(answers, 1) &&
+           openings_are_right(record + GCR_OPENINGS_AT);
+}
+
+/* 40, and both buffers as they were. */
+static int is_refused_by_40(const uint8_t *openings, size_t len) {
+    static uint8_t untouched[GCR_RECORD_MOST];
     uint8_t answers[sizeof script];
-    uint64_t done = gcr_rehearse(2, script, sizeof script, record, sizeof record, answers, sizeof answers);
-    return gcr_rehearsed_number(done) == 0 && gcr_rehearsed_length(done) == LENGTH &&
-           gcr_rehearsed_outstanding(done) == 1 && answers_are_right(answers) && copies_add_up(answers, 1);
+    memset(untouched, STAYS, sizeof untouched);
+    memset(answers, STAYS, sizeof answers);
+    uint64_t done = gcr_rehearse(2, openings, len, script, sizeof script, untouched, sizeof untouched, answers,
+                                 sizeof answers);
+    int kept = 1;
+    for (size_t i = 0; i < sizeof untouched; i++)
+        kept &= untouched[i] == STAYS && (i >= sizeof answers || answers[i] == STAYS);
+    return gcr_rehearsed_number(done) == 40 && gcr_rehearsed_length(done) == 0 &&
+           gcr_rehearsed_outstanding(done) == 0 && kept;
+}
+
+/* One byte too few or too many, and a value under a clear bit. */
+static int openings_are_refused(void) {
+    uint8_t openings[GCR_OPENINGS_BYTES + 1] = {0};
+    int lengths = is_refused_by_40(openings, GCR_OPENINGS_BYTES - 1) && is_refused_by_40(openings, sizeof openings);
+    openings[GCR_OPENINGS_BYTES - 1] = 1;
+    return lengths && is_refused_by_40(openings, GCR_OPENINGS_BYTES);
 }
 
 static int reading_is_right(void) {
@@ -130,6 +179,7 @@ static int wrong(const char *name, int right) {
 
 int main(void) {
     int failed = wrong("a rehearsal", rehearsal_is_right());
+    failed += wrong("a refusal of openings", openings_are_refused());
     failed += wrong("a read", reading_is_right());
     failed += wrong("a judgment", judging_is_right());
     failed += wrong("a refusal", refusal_is_right());

@@ -26,6 +26,13 @@ static void draw_call(uint8_t *call) {
     call[4] = call[0] == GCR_GET ? 0 : drawn();
 }
 
+const uint8_t *largest_openings(void) {
+    static uint8_t openings[GCR_OPENINGS_BYTES];
+    for (uint32_t object = 0; object < GCR_OPENING_OBJECTS; object++)
+        gcr_set_opening(openings, object, UINT32_MAX - object);
+    return openings;
+}
+
 const uint8_t *largest_script(void) {
     if (!script[0])
         for (size_t at = 0; at < sizeof script; at += GCR_CALL_BYTES)
@@ -35,7 +42,8 @@ const uint8_t *largest_script(void) {
 
 static void rehearse(uint32_t sites, const uint8_t *calls, size_t len, uint8_t *record) {
     static uint8_t answers[GCR_SCRIPT_MOST];
-    gcr_rehearse(sites, calls, len, record, GCR_RECORD_MOST, answers, sizeof answers);
+    gcr_rehearse(sites, largest_openings(), GCR_OPENINGS_BYTES, calls, len, record, GCR_RECORD_MOST, answers,
+                 sizeof answers);
 }
 
 /* 256 puts at one site. */

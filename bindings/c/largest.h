@@ -7,11 +7,14 @@
 #define LARGEST_SITES 8
 #define LARGEST_RECORDS 4
 
+/* An opening for each of the 32 objects. */
+const uint8_t *largest_openings(void);
+
 /* A day of 4,096 puts, gets, deliveries and closes, many of them refused. */
 const uint8_t *largest_script(void);
 
 /* 256 events each, in GCR_RECORD_MOST bytes:
- *   0  what that day leaves
+ *   0  what that day leaves, begun with those openings
  *   1  one site's 256 events, each of which sees all before it
  *   2  record 1 with the times turned round, so that every event leads to itself by site order and visibility
  *   3  record 1 with event 0 seeing event 255: refused by question 10 */

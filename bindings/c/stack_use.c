@@ -42,7 +42,8 @@ static void judge_all(const void *input) {
 
 static void rehearse(const void *script) {
     static uint8_t record[GCR_RECORD_MOST], answers[GCR_SCRIPT_MOST];
-    gcr_rehearse(LARGEST_SITES, script, GCR_SCRIPT_MOST, record, sizeof record, answers, sizeof answers);
+    gcr_rehearse(LARGEST_SITES, largest_openings(), GCR_OPENINGS_BYTES, script, GCR_SCRIPT_MOST, record, sizeof record,
+                 answers, sizeof answers);
 }
 
 static const struct call calls[] = {

@@ -33,10 +33,12 @@ pub unsafe extern "C" fn gcr_judge_all(record: *const u8, len: usize, out: *mut 
 }
 
 /// # Safety
-/// Pointers and lengths as of three slices.
+/// Pointers and lengths as of four slices.
 #[no_mangle]
 pub unsafe extern "C" fn gcr_rehearse(
     sites: u32,
+    openings: *const u8,
+    openings_len: usize,
     script: *const u8,
     script_len: usize,
     record: *mut u8,
@@ -45,8 +47,9 @@ pub unsafe extern "C" fn gcr_rehearse(
     answers_len: usize,
 ) -> u64 {
     unsafe {
+        let openings = from_raw_parts(openings, openings_len);
         let script = from_raw_parts(script, script_len);
         let record = from_raw_parts_mut(record, record_len);
-        rehearsal::rehearse(sites, script, record, from_raw_parts_mut(answers, answers_len))
+        rehearsal::rehearse(sites, openings, script, record, from_raw_parts_mut(answers, answers_len))
     }
 }

@@ -1,4 +1,4 @@
-//! The second checker: a literal reading of document 01, generators of
+//! The second checker: a literal reading of document 01 and of the changes so far, generators of
 //! records and scripts, comparers, and a baseline for speed.
 
 pub mod baseline;
@@ -6,6 +6,7 @@ pub mod compare;
 pub mod generate;
 pub mod lines;
 pub mod models;
+pub mod openings;
 pub mod predicates;
 pub mod questions;
 pub mod reader;

@@ -1,6 +1,7 @@
 //! What the programs write for an input.
 
 use crate::models::{answers, Answers};
+use crate::openings::OPENINGS_BYTES;
 use crate::predicates::{Answer, PREDICATES};
 use crate::questions::{ask, Refusal};
 use crate::record::MOST_BYTES;
@@ -37,20 +38,34 @@ fn predicate_line(number: u32, answer: Answer) -> String {
     }
 }
 
-/// `rehearse`: a byte of sites, then the script; gives the record or a line.
-pub fn rehearsal(input: &[u8]) -> Vec<u8> {
-    let (sites, script) = sites_and_script(input);
-    rehearsal_output(sites, script, &mut vec![0; script.len()]).1
+/// What `rehearse` reads: a byte of sites, the openings, then the script.
+pub struct RehearsalInput<'a> {
+    pub sites: u32,
+    pub openings: [u8; OPENINGS_BYTES],
+    pub script: &'a [u8],
 }
 
-pub fn sites_and_script(input: &[u8]) -> (u32, &[u8]) {
-    input.split_first().map_or((0, input), |(&sites, script)| (sites as u32, script))
+impl RehearsalInput<'_> {
+    /// Missing bytes are 0.
+    pub fn read(input: &[u8]) -> RehearsalInput<'_> {
+        let (sites, rest) = input.split_first().map_or((0, input), |(&sites, rest)| (sites as u32, rest));
+        let (given, script) = rest.split_at(rest.len().min(OPENINGS_BYTES));
+        let mut openings = [0; OPENINGS_BYTES];
+        openings[..given.len()].copy_from_slice(given);
+        RehearsalInput { sites, openings, script }
+    }
+}
+
+/// `rehearse`: gives the record or a line.
+pub fn rehearsal(input: &[u8]) -> Vec<u8> {
+    let input = RehearsalInput::read(input);
+    rehearsal_output(&input, &mut vec![0; input.script.len()]).1
 }
 
 /// The rehearsal's number, and what is written; the calls' answers are left in their buffer.
-pub fn rehearsal_output(sites: u32, script: &[u8], answers: &mut [u8]) -> (u32, Vec<u8>) {
+pub fn rehearsal_output(input: &RehearsalInput, answers: &mut [u8]) -> (u32, Vec<u8>) {
     let mut record = vec![0; MOST_BYTES];
-    let outcome = rehearse(sites, script, &mut record, answers);
+    let outcome = rehearse(input.sites, &input.openings, input.script, &mut record, answers);
     record.truncate(outcome.length);
     match outcome.number {
         0 => (0, record),

@@ -1,5 +1,6 @@
 //! The thirteen predicates, by quantifiers over events.
 
+use crate::openings::Openings;
 use crate::record::{Event, Record};
 use crate::relations::{Pairs, Relations};
 
@@ -20,12 +21,13 @@ impl Answer {
 /// A record with its relations, worked out once for all predicates.
 pub struct Judged<'a> {
     pub events: &'a [Event],
+    pub openings: Openings,
     pub relations: Relations,
 }
 
 impl<'a> Judged<'a> {
     pub fn new(record: &'a Record) -> Judged<'a> {
-        Judged { events: &record.events, relations: Relations::of(record) }
+        Judged { events: &record.events, openings: record.edition.openings(), relations: Relations::of(record) }
     }
 
     /// The answer of a predicate numbered 1 to 13.
@@ -59,11 +61,14 @@ impl<'a> Judged<'a> {
         0..self.events.len()
     }
 
-    /// RVal's break: the lowest failing read with the write it should hold.
+    /// RVal's break: the lowest failing read with the write it should hold, or twice where it sees none.
     fn wrong_read(&self) -> Option<(usize, usize)> {
         self.all().filter(|&e| self.events[e].is_read() && !self.events[e].pending).find_map(|e| {
             let last = self.last_visible_write(e);
-            let due = last.and_then(|write| self.events[write].value);
+            let due = match last {
+                Some(write) => self.events[write].value,
+                None => self.openings.of(self.events[e].object as usize),
+            };
             (self.events[e].value != due).then_some((e, last.unwrap_or(e)))
         })
     }

@@ -53,10 +53,9 @@ fn block_checks(bytes: &[u8]) -> Option<usize> {
 
 fn header(bytes: &[u8]) -> Option<usize> {
     let sites = bytes[6] as usize;
-    let laid_out = &bytes[0..4] == LETTERS
+    let laid_out = Edition::from_block_0(bytes).is_some()
         && event_count(bytes) <= MOST_EVENTS
-        && (1..=MOST_SITES).contains(&sites)
-        && all_zero(&bytes[7..CHECKED_BYTES]);
+        && (1..=MOST_SITES).contains(&sites);
     no_at_zero(laid_out)
 }
 

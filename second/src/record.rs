@@ -1,4 +1,6 @@
-//! The record as document 01 lays it out: events, slots, blocks and their checks.
+//! The record as document 01 and Change 3 lay it out: editions, events, slots, blocks and their checks.
+
+use crate::openings::{Openings, OPENINGS_BYTES};
 
 pub const BLOCK_BYTES: usize = 512;
 pub const CHECKED_BYTES: usize = 508;
@@ -8,7 +10,14 @@ pub const SLOTS_END: usize = BLOCK_SLOTS * SLOT_BYTES;
 pub const MOST_EVENTS: usize = 256;
 pub const MOST_SITES: usize = 8;
 pub const MOST_BYTES: usize = 19_456;
-pub const LETTERS: &[u8; 4] = b"GCR1";
+
+/// The parts of block 0 before its check, each from its first byte to the next part's: the four letters, the count, the
+/// sites, and what is zero or in `GCR2` the openings.
+pub const BLOCK_0_PARTS: [(usize, usize); 11] =
+    [(0, 1), (1, 2), (2, 3), (3, 4), (4, 6), (6, 7), (7, 8), (8, 12), (12, 144), (144, 148), (148, 508)];
+
+/// Where the openings of `GCR2` stand in block 0.
+pub const OPENINGS_AT: std::ops::Range<usize> = 12..12 + OPENINGS_BYTES;
 
 #[derive(Clone, Copy, Debug, PartialEq, Eq)]
 pub enum Kind {
@@ -32,8 +41,17 @@ pub struct Event {
     pub visible: EventSet,
 }
 
+/// What block 0 has beside the count and the sites. A record has one, so its size doesn't matter.
+#[allow(clippy::large_enum_variant)]
+#[derive(Clone, Copy, Debug, PartialEq, Eq)]
+pub enum Edition {
+    Gcr1,
+    Gcr2(Openings),
+}
+
 #[derive(Clone, Debug, PartialEq, Eq)]
 pub struct Record {
+    pub edition: Edition,
     pub sites: u8,
     pub events: Vec<Event>,
 }
@@ -116,14 +134,50 @@ impl Event {
     }
 }
 
+impl Edition {
+    pub fn letters(&self) -> &'static [u8; 4] {
+        match self {
+            Edition::Gcr1 => b"GCR1",
+            Edition::Gcr2(_) => b"GCR2",
+        }
+    }
+
+    /// Nothing where block 0 has the letters of no edition, or what its edition does not have there. Count and sites
+    /// are the same in both, and are not looked at.
+    pub fn from_block_0(bytes: &[u8]) -> Option<Edition> {
+        let zero = |from: usize, to: usize| bytes[from..to].iter().all(|&byte| byte == 0);
+        match &bytes[0..4] {
+            b"GCR1" if zero(7, CHECKED_BYTES) => Some(Edition::Gcr1),
+            b"GCR2" if zero(7, OPENINGS_AT.start) && zero(OPENINGS_AT.end, CHECKED_BYTES) => {
+                Openings::from_bytes(&bytes[OPENINGS_AT]).map(Edition::Gcr2)
+            }
+            _ => None,
+        }
+    }
+
+    /// `GCR1` has none.
+    pub fn openings(&self) -> Openings {
+        match self {
+            Edition::Gcr1 => Openings::none(),
+            Edition::Gcr2(openings) => *openings,
+        }
+    }
+}
+
 impl Record {
-    /// Events in arbitration order as given.
+    /// Events of `GCR1`, in arbitration order as given.
     pub fn in_order(sites: u8, events: Vec<Event>) -> Record {
-        let mut record = Record { sites, events };
+        let mut record = Record { edition: Edition::Gcr1, sites, events };
         for (position, event) in record.events.iter_mut().enumerate() {
             event.position = position as u16;
         }
         record
+    }
+
+    /// The same events in a record of `GCR2`.
+    pub fn opened(mut self, openings: Openings) -> Record {
+        self.edition = Edition::Gcr2(openings);
+        self
     }
 
     pub fn with_positions(mut self, positions: &[u16]) -> Record {
@@ -135,7 +189,8 @@ impl Record {
 
     pub fn to_bytes(&self) -> Vec<u8> {
         let mut bytes = vec![0; BLOCK_BYTES * blocks_for(self.events.len())];
-        bytes[0..4].copy_from_slice(LETTERS);
+        bytes[0..4].copy_from_slice(self.edition.letters());
+        bytes[OPENINGS_AT].copy_from_slice(&self.edition.openings().to_bytes());
         bytes[4..6].copy_from_slice(&(self.events.len() as u16).to_le_bytes());
         bytes[6] = self.sites;
         for (number, event) in self.events.iter().enumerate() {
@@ -148,7 +203,8 @@ impl Record {
     /// Reads a record that passes questions 3 to 7.
     pub fn from_bytes(bytes: &[u8]) -> Record {
         let events = (0..event_count(bytes)).map(|number| Event::from_slot(slot(bytes, number)));
-        Record { sites: bytes[6], events: events.collect() }
+        let edition = Edition::from_block_0(bytes).expect("question 5");
+        Record { edition, sites: bytes[6], events: events.collect() }
     }
 }
 

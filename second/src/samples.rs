@@ -1,5 +1,6 @@
 //! Named sample inputs, always the same.
 
+use crate::openings::{Openings, OPENINGS_BYTES};
 use crate::record::*;
 use crate::store::{run_script, Call};
 
@@ -9,16 +10,18 @@ pub struct Sample {
 }
 
 pub fn samples() -> Vec<Sample> {
-    let mut all = vec![Sample::new("empty-one-site", Record { sites: 1, events: vec![] }.to_bytes())];
+    let mut all = vec![Sample::new("empty-one-site", Record::in_order(1, vec![]).to_bytes())];
     for n in [1, 7, 8, 255, 256] {
         all.push(Sample::new(&format!("in-turn-{n}"), in_turn(n).to_bytes()));
     }
     all.extend(refused());
     all.push(Sample::new("stale-read", stale_read().to_bytes()));
     all.push(Sample::new("stale-value", stale_value().to_bytes()));
-    let script = listing_script();
+    all.push(Sample::new("openings", openings().to_bytes()));
+    all.push(Sample::new("stale-opening", stale_opening().to_bytes()));
+    let (script, no_openings) = (listing_script(), vec![0; OPENINGS_BYTES]);
     all.push(Sample::new("listing", run_script(2, &script, &mut vec![0; script.len()]).record().to_bytes()));
-    all.push(Sample { name: "listing.script".to_string(), bytes: [vec![2], script].concat() });
+    all.push(Sample { name: "listing.script".to_string(), bytes: [vec![2], no_openings, script].concat() });
     all
 }
 
@@ -67,6 +70,30 @@ fn stale_value() -> Record {
     Record::in_order(1, events)
 }
 
+/// Reads that hold what their objects opened with: a figure, 0, none, and none from object 32 on. The last one sees a
+/// write, and holds its value.
+fn openings() -> Record {
+    let events = vec![
+        Event::read(0, 0, Some(40)).at(0, 1),
+        Event::read(0, 31, Some(0)).at(2, 3).sees(&[0]),
+        Event::read(0, 1, None).at(4, 5).sees(&[0, 1]),
+        Event::read(0, 32, None).at(6, 7).sees(&[0, 1, 2]),
+        Event::write(0, 0, 41).at(8, 9).sees(&[0, 1, 2, 3]),
+        Event::read(0, 0, Some(41)).at(10, 11).sees(&[0, 1, 2, 3, 4]),
+    ];
+    Record::in_order(1, events).opened(Openings::none().with(0, 40).with(31, 0))
+}
+
+/// The second read sees the write and still holds the opening; the third holds none where there is one.
+fn stale_opening() -> Record {
+    let events = vec![
+        Event::write(0, 0, 41).at(0, 1),
+        Event::read(0, 0, Some(40)).at(2, 3).sees(&[0]),
+        Event::read(0, 1, None).at(4, 5).sees(&[0, 1]),
+    ];
+    Record::in_order(1, events).opened(Openings::none().with(0, 40).with(1, 40))
+}
+
 /// The paper's script of two sites.
 pub fn listing_script() -> Vec<u8> {
     let calls = [
@@ -92,6 +119,12 @@ fn refused() -> Vec<Sample> {
         full("refused-5-n-257", |bytes| bytes[4] = 1),
         full("refused-5-sites-9", |bytes| bytes[6] = 9),
         full("refused-5-last-byte", |bytes| bytes[507] = 1),
+        full("refused-5-letters-3", |bytes| bytes[3] = b'3'),
+        full("refused-5-gcr1-openings", |bytes| bytes[12] = 1),
+        full("refused-5-gcr2-byte-8", |bytes| (bytes[3], bytes[8]) = (b'2', 1)),
+        full("refused-5-gcr2-clear-bit-0", |bytes| (bytes[3], bytes[16]) = (b'2', 1)),
+        full("refused-5-gcr2-clear-bit-31", |bytes| (bytes[3], bytes[15], bytes[143]) = (b'2', 0x7f, 1)),
+        full("refused-5-gcr2-byte-144", |bytes| (bytes[3], bytes[144]) = (b'2', 1)),
         full("refused-6-too-few", |bytes| bytes.truncate(37 * BLOCK_BYTES)),
         changed("refused-6-too-many", 7, |bytes| bytes.resize(3 * BLOCK_BYTES, 0)),
         full("refused-7-low", |bytes| slot_mut(bytes, 0)[0] = 2),

@@ -1,8 +1,8 @@
 //! The store's rules: sites, calls, answers and the record of a rehearsal.
 
+use crate::openings::{Openings, OBJECTS};
 use crate::record::*;
 
-pub const OBJECTS: usize = 32;
 pub const CALL_BYTES: usize = 8;
 pub const MOST_SCRIPT_BYTES: usize = 32_768;
 
@@ -15,11 +15,18 @@ pub enum Call {
     Close,
 }
 
+/// Where a cell's value comes from, in the order in which one loses to another: an opening to every put, a put to one
+/// with a larger stamp, and of equal stamps to one of a larger site.
+#[derive(Clone, Copy, Debug, PartialEq, Eq, PartialOrd, Ord)]
+enum Origin {
+    Opening,
+    Put { stamp: u32, site: usize },
+}
+
 #[derive(Clone, Copy, Debug, PartialEq, Eq)]
 struct Cell {
     value: u32,
-    stamp: u32,
-    site: usize,
+    origin: Origin,
 }
 
 #[derive(Clone, Debug, PartialEq, Eq)]
@@ -40,6 +47,7 @@ struct Done {
 
 #[derive(Clone, Debug, PartialEq, Eq)]
 pub struct Store {
+    openings: Openings,
     sites: Vec<Site>,
     done: Vec<Done>,
 }
@@ -104,9 +112,24 @@ impl Call {
 }
 
 impl Store {
+    /// Without openings.
     pub fn new(sites: usize) -> Store {
-        let site = Site { clock: 0, held: [0; MOST_SITES], known: [false; MOST_EVENTS], cells: [None; OBJECTS] };
-        Store { sites: vec![site; sites], done: Vec::new() }
+        Store::opened(sites, Openings::none())
+    }
+
+    /// Every site's cells start from the openings.
+    pub fn opened(sites: usize, openings: Openings) -> Store {
+        let opening = |object| openings.of(object).map(|value| Cell { value, origin: Origin::Opening });
+        let cells = std::array::from_fn(opening);
+        let site = Site { clock: 0, held: [0; MOST_SITES], known: [false; MOST_EVENTS], cells };
+        Store { openings, sites: vec![site; sites], done: Vec::new() }
+    }
+
+    /// Runs the calls of a script in order.
+    pub fn run(&mut self, script: &[u8], answers: &mut [u8]) {
+        for (call, answer) in script.chunks_exact(CALL_BYTES).zip(answers.chunks_exact_mut(CALL_BYTES)) {
+            answer.copy_from_slice(&self.call(call));
+        }
     }
 
     /// Runs one call and gives its answer; a refused one changes nothing.
@@ -116,7 +139,7 @@ impl Store {
         };
         match self.first_no(call) {
             Some(number) => refused_answer(number),
-            None => self.run(call),
+            None => self.make(call),
         }
     }
 
@@ -166,7 +189,7 @@ impl Store {
         self.is_put(event) && !self.knows(site, event)
     }
 
-    fn run(&mut self, call: Call) -> [u8; 8] {
+    fn make(&mut self, call: Call) -> [u8; 8] {
         match call {
             Call::Put { site, object, value } => self.put(site, object, value),
             Call::Get { site, object } => self.get(site, object),
@@ -178,7 +201,7 @@ impl Store {
     fn put(&mut self, site: usize, object: usize, value: u32) -> [u8; 8] {
         let number = self.add(site, Event::write(site as u8, object as u8, value));
         let at = &mut self.sites[site];
-        at.cells[object] = Some(Cell { value, stamp: at.clock, site });
+        at.cells[object] = Some(Cell { value, origin: Origin::Put { stamp: at.clock, site } });
         at.held[site] += 1;
         done_answer(number, None)
     }
@@ -211,8 +234,8 @@ impl Store {
             at.known[other] |= other == number || event.visible[other];
         }
         let cell = &mut at.cells[event.object as usize];
-        let arrived = Cell { value: event.value.unwrap_or(0), stamp: *stamp, site: from };
-        if cell.is_none_or(|held| (held.stamp, held.site) < (arrived.stamp, arrived.site)) {
+        let arrived = Cell { value: event.value.unwrap_or(0), origin: Origin::Put { stamp: *stamp, site: from } };
+        if cell.is_none_or(|held| held.origin < arrived.origin) {
             *cell = Some(arrived);
         }
         [0; 8]
@@ -237,13 +260,15 @@ impl Store {
         closed_answer(copies)
     }
 
+    /// Always of `GCR2`.
     pub fn record(&self) -> Record {
         let order = |done: &Done| (done.stamp, done.event.site);
         let events = self.done.iter().map(|done| {
             let before = self.done.iter().filter(|other| order(other) < order(done)).count();
             Event { position: before as u16, ..done.event.clone() }
         });
-        Record { sites: self.sites.len() as u8, events: events.collect() }
+        let edition = Edition::Gcr2(self.openings);
+        Record { edition, sites: self.sites.len() as u8, events: events.collect() }
     }
 
     pub fn puts(&self) -> usize {
@@ -285,7 +310,7 @@ fn closed_answer(copies: u32) -> [u8; 8] {
     answer
 }
 
-/// Questions 20 to 23.
+/// Questions 20 to 23, of a site count and three lengths.
 fn first_no(sites: u32, script: usize, record: usize, answers: usize) -> Option<u32> {
     if !(1..=MOST_SITES as u32).contains(&sites) {
         Some(20)
@@ -300,20 +325,24 @@ fn first_no(sites: u32, script: usize, record: usize, answers: usize) -> Option<
     }
 }
 
-pub fn rehearse(sites: u32, script: &[u8], record: &mut [u8], answers: &mut [u8]) -> Outcome {
+/// Questions 20 to 23, then 40, then the script.
+pub fn rehearse(sites: u32, openings: &[u8], script: &[u8], record: &mut [u8], answers: &mut [u8]) -> Outcome {
     if let Some(number) = first_no(sites, script.len(), record.len(), answers.len()) {
         return Outcome::refused(number);
     }
-    let store = run_script(sites as usize, script, answers);
+    let Some(openings) = Openings::from_bytes(openings) else {
+        return Outcome::refused(40);
+    };
+    let mut store = Store::opened(sites as usize, openings);
+    store.run(script, answers);
     let bytes = store.record().to_bytes();
     record[..bytes.len()].copy_from_slice(&bytes);
     Outcome { number: 0, length: bytes.len(), outstanding: store.outstanding() }
 }
 
+/// The store after a script, begun without openings.
 pub fn run_script(sites: usize, script: &[u8], answers: &mut [u8]) -> Store {
     let mut store = Store::new(sites);
-    for (call, answer) in script.chunks_exact(CALL_BYTES).zip(answers.chunks_exact_mut(CALL_BYTES)) {
-        answer.copy_from_slice(&store.call(call));
-    }
+    store.run(script, answers);
     store
 }

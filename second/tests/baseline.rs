@@ -5,8 +5,10 @@ use second::baseline::judging::{judge_all, judge_predicate, prepare};
 use second::compare::subject::{Baseline, Itself, Rehearser};
 use second::compare::tally::Tally;
 use second::compare::{models, reader, rehearsal, Seeds};
+use second::generate::sweeps::{self, figures};
 use second::generate::{self, scripts};
 use second::models::{judged, refused};
+use second::openings::Openings;
 use second::predicates::Answer::{Broken, Met};
 use second::predicates::{Judged, PREDICATES};
 use second::questions::ask;
@@ -69,10 +71,15 @@ fn rehearses_alike() {
 }
 
 /// The result, the record and the answers.
-fn rehearsed(subject: &dyn Rehearser, sites: usize, script: &[u8]) -> (u64, Vec<u8>, Vec<u8>) {
+fn rehearsed(subject: &dyn Rehearser, sites: usize, openings: &[u8], script: &[u8]) -> (u64, Vec<u8>, Vec<u8>) {
     let (mut record, mut answers) = (vec![7; 19_456], vec![7; script.len()]);
-    let result = subject.rehearse(sites as u32, script, &mut record, &mut answers);
+    let result = subject.rehearse(sites as u32, openings, script, &mut record, &mut answers);
     (result, record, answers)
+}
+
+fn assert_alike(sites: usize, openings: &[u8], script: &[u8]) {
+    let both = [&Baseline as &dyn Rehearser, &Itself].map(|subject| rehearsed(subject, sites, openings, script));
+    assert!(both[0] == both[1], "{sites} sites, openings {openings:?}");
 }
 
 /// A day without a delivery, then closed: every copy is lacking.
@@ -90,7 +97,20 @@ fn rehearses_days_with_closes_alike() {
     for sites in 1..=8 {
         let days = (0..4).map(|seed| scripts::day_with_closes(seed, sites));
         for script in days.chain([closed_at_last(sites)]) {
-            assert!(rehearsed(&Baseline, sites, &script) == rehearsed(&Itself, sites, &script), "{sites} sites");
+            assert_alike(sites, &Openings::none().to_bytes(), &script);
+            assert_alike(sites, &figures(|object| object % 3 > 0).to_bytes(), &script);
         }
+    }
+}
+
+/// Nothing of one record's openings may linger for the next.
+#[test]
+fn judges_openings_alike_in_turn() {
+    let mut columns = Columns::new();
+    for (name, bytes) in sweeps::block_0() {
+        let Ok(record) = ask(&bytes) else { continue };
+        prepare(&bytes, &mut columns).expect("both pass it");
+        let broken = columns.broken(1).map_or(Met, |(a, b)| Broken(a, b));
+        assert_eq!(Judged::new(&record).answer(1), broken, "{name}");
     }
 }

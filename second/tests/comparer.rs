@@ -4,9 +4,10 @@ use second::compare::subject::{Baseline, Itself, Judge, Reader, Rehearser};
 use second::compare::tally::Tally;
 use second::compare::{models, programs, reader, rehearsal, Seeds};
 use second::models::{packed, packed_all, packed_predicate, Answers};
+use second::openings::Openings;
 use second::predicates::Judged;
 use second::questions::ask;
-use second::record::{Event, Record};
+use second::record::{Edition, Event, Record};
 use second::relations::{Pairs, Relations};
 use second::store::{rehearse, run_script, Call, Outcome};
 use std::cell::RefCell;
@@ -87,8 +88,8 @@ impl Judge for WrongWords {
 struct WrongStore(fn(u64, &mut [u8], &mut [u8]) -> u64);
 
 impl Rehearser for WrongStore {
-    fn rehearse(&self, sites: u32, script: &[u8], record: &mut [u8], answers: &mut [u8]) -> u64 {
-        let right = Itself.rehearse(sites, script, record, answers);
+    fn rehearse(&self, sites: u32, openings: &[u8], script: &[u8], record: &mut [u8], answers: &mut [u8]) -> u64 {
+        let right = Itself.rehearse(sites, openings, script, record, answers);
         self.0(right, record, answers)
     }
 }
@@ -97,10 +98,10 @@ impl Rehearser for WrongStore {
 struct Misreading<F>(F);
 
 impl<F: Fn(&mut [u8])> Rehearser for Misreading<F> {
-    fn rehearse(&self, sites: u32, script: &[u8], record: &mut [u8], answers: &mut [u8]) -> u64 {
+    fn rehearse(&self, sites: u32, openings: &[u8], script: &[u8], record: &mut [u8], answers: &mut [u8]) -> u64 {
         let mut misread = script.to_vec();
         misread.chunks_exact_mut(8).for_each(&self.0);
-        Itself.rehearse(sites, &misread, record, answers)
+        Itself.rehearse(sites, openings, &misread, record, answers)
     }
 }
 
@@ -108,13 +109,13 @@ impl<F: Fn(&mut [u8])> Rehearser for Misreading<F> {
 struct IdleClose;
 
 impl Rehearser for IdleClose {
-    fn rehearse(&self, sites: u32, script: &[u8], record: &mut [u8], answers: &mut [u8]) -> u64 {
+    fn rehearse(&self, sites: u32, openings: &[u8], script: &[u8], record: &mut [u8], answers: &mut [u8]) -> u64 {
         let (mut idle, mut right) = (script.to_vec(), answers.to_vec());
-        Itself.rehearse(sites, script, &mut record.to_vec(), &mut right);
+        Itself.rehearse(sites, openings, script, &mut record.to_vec(), &mut right);
         let close = Call::Close.to_bytes();
         // No call is of kind 0.
         idle.chunks_exact_mut(8).filter(|call| **call == close).for_each(|call| call[0] = 0);
-        let result = Itself.rehearse(sites, &idle, record, answers);
+        let result = Itself.rehearse(sites, openings, &idle, record, answers);
         let calls = script.chunks_exact(8).zip(answers.chunks_exact_mut(8).zip(right.chunks_exact(8)));
         calls.filter(|(call, _)| **call == close).for_each(|(_, (answer, right))| answer.copy_from_slice(right));
         result
@@ -125,12 +126,12 @@ impl Rehearser for IdleClose {
 struct WrongCount(fn(&Event, bool, usize) -> bool);
 
 impl Rehearser for WrongCount {
-    fn rehearse(&self, sites: u32, script: &[u8], record: &mut [u8], answers: &mut [u8]) -> u64 {
-        let right = rehearse(sites, script, record, answers);
+    fn rehearse(&self, sites: u32, openings: &[u8], script: &[u8], record: &mut [u8], answers: &mut [u8]) -> u64 {
+        let right = rehearse(sites, openings, script, record, answers);
         if right.number != 0 {
             return right.packed();
         }
-        let store = run_script(sites as usize, script, answers);
+        let store = run_script(sites as usize, script, &mut vec![0; script.len()]);
         let at_sites = |(number, event): (usize, &Event)| {
             (0..sites as usize).filter(|&site| self.0(event, store.knows(site, number), site)).count()
         };
@@ -148,7 +149,7 @@ fn reader_failures(fault: impl Fn(u64, &[u8], &mut [u64]) -> u64) -> u64 {
 fn judge_failures(fault: Fault) -> u64 {
     let mut tally = Tally::counting();
     let last = RefCell::new((vec![], ask(&[]).map(|_| vec![])));
-    models::compare(&WrongJudge { fault, last }, &Seeds::first(200), &mut tally);
+    models::compare(&WrongJudge { fault, last }, &Seeds::first(400), &mut tally);
     tally.failed
 }
 
@@ -253,6 +254,29 @@ fn none_is_zero(record: &mut Record) {
     }
 }
 
+fn objects_modulo_32(record: &mut Record) {
+    record.events.iter_mut().for_each(|event| event.object %= 32);
+}
+
+fn opening_0_is_none(record: &mut Record) {
+    if let Edition::Gcr2(openings) = &mut record.edition {
+        let figures = std::array::from_fn(|object| openings.of(object).filter(|&figure| figure != 0));
+        *openings = Openings::from_figures(figures);
+    }
+}
+
+/// No write is visible to a read of an object that has an opening.
+fn openings_hide_writes(record: &mut Record) {
+    let openings = record.edition.openings();
+    let objects: Vec<Option<u8>> = record.events.iter().map(|event| event.is_write().then_some(event.object)).collect();
+    for read in record.events.iter_mut().filter(|event| event.is_read()) {
+        if openings.of(read.object as usize).is_some() {
+            let hidden = (0..objects.len()).filter(|&seen| objects[seen] == Some(read.object));
+            hidden.for_each(|seen| read.visible[seen] = false);
+        }
+    }
+}
+
 fn neighbours_only(record: &Record, relations: &mut Relations) {
     let n = record.events.len();
     let step = |a, b| relations.so.has(a, b) || relations.vis.has(a, b);
@@ -268,7 +292,23 @@ fn pending_returned_at_zero(record: &Record, relations: &mut Relations) {
 #[test]
 fn faults_of_a_judge() {
     assert_eq!(judge_failures(|_| None), 0);
-    let faults: [(&str, Fault); 5] = [
+    let faults: [(&str, Fault); 9] = [
+        ("no openings", |record| {
+            record.edition = Edition::Gcr1;
+            None
+        }),
+        ("objects modulo 32", |record| {
+            objects_modulo_32(record);
+            None
+        }),
+        ("opening 0 taken as none", |record| {
+            opening_0_is_none(record);
+            None
+        }),
+        ("openings before writes", |record| {
+            openings_hide_writes(record);
+            None
+        }),
         ("return at the start", |record| {
             not_before(record);
             None

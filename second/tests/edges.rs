@@ -6,6 +6,7 @@ mod calls;
 use calls::{deliver, get, put, run, script};
 use second::lines;
 use second::models::{answer_of, judge_model};
+use second::openings::OPENINGS_BYTES;
 use second::predicates::Answer::{self, Broken, Met};
 use second::predicates::Judged;
 use second::questions::{ask, Refusal};
@@ -31,7 +32,7 @@ const LISTED: &str = "1 met\n2 broken 0 1\n3 broken 2 3\n4 met\n5 met\n6 met\n7 
 
 #[test]
 fn empty_record_of_one_site() {
-    let record = Record { sites: 1, events: vec![] };
+    let record = Record::in_order(1, vec![]);
     let bytes = record.to_bytes();
     assert_eq!(bytes.len(), 512);
     assert_eq!(stored_check(&bytes), (29_851, 34_610));
@@ -110,8 +111,7 @@ fn listing_of_two_sites() {
 
 #[test]
 fn listing_through_the_program() {
-    let mut input = vec![2];
-    input.extend(script(&listing()));
+    let input = [vec![2], vec![0; OPENINGS_BYTES], script(&listing())].concat();
     let record = lines::rehearsal(&input);
     assert_eq!(record.len(), 1_024);
     assert_eq!(lines::verdict(&record), LISTED);

@@ -3,7 +3,7 @@
 use second::compare::copies::{calls_answered, Copies};
 use second::compare::occurrences::Row;
 use second::compare::tally::Tally;
-use second::compare::{answered, must_occur, rehearsal, Seeds};
+use second::compare::{answered, must_occur, programs, rehearsal, Seeds};
 use second::generate::random::Random;
 use second::generate::{meeting, record, scripts};
 use second::models::{answers, MODELS};
@@ -36,7 +36,7 @@ fn every_predicate_met_and_broken() {
     let mut met = [0; 13];
     let mut broken = [0; 13];
     let mut twice = [0; 13];
-    for seed in 0..3_000 {
+    for seed in 0..4_000 {
         let Ok(record) = ask(&record(seed).bytes) else { continue };
         if record.events.len() > 24 {
             continue;
@@ -83,23 +83,31 @@ fn assert_all_occur(lists: &[&[Row]], seeds: u64, count: impl FnMut(u64, &mut Ta
     assert!(tally.occurrences.rarer_than(20).is_empty(), "{}", tally.occurrences.table());
 }
 
-/// The programs get the fewest seeds.
 #[test]
 fn every_answer_of_records() {
-    assert_all_occur(&[must_occur::VERDICT], 2_000, |seed, tally| {
-        let answers = answers(&record(seed).bytes);
-        answered::reading(answers.as_ref().err().copied(), tally);
-        answered::predicates(answers.as_deref().unwrap_or_default(), tally);
+    let lists = [must_occur::VERDICT, must_occur::EDITIONS, must_occur::READS];
+    assert_all_occur(&lists, 4_000, |seed, tally| {
+        let bytes = record(seed).bytes;
+        answered::judged(&bytes, &answers(&bytes), tally);
     });
 }
 
 #[test]
 fn every_answer_of_calls_and_rehearsals() {
-    assert_all_occur(&[must_occur::REHEARSAL, must_occur::CALLS], 2_000, |seed, tally| {
+    let lists = [must_occur::REHEARSAL, must_occur::STORE_OPENINGS, must_occur::CALLS];
+    assert_all_occur(&lists, 4_000, |seed, tally| {
         let given = scripts::rehearsal(seed);
         let (mut record, mut answers) = (vec![0; given.record_bytes], vec![0; given.answer_bytes]);
-        let outcome = rehearse(given.sites, &given.script, &mut record, &mut answers);
-        rehearsal::count_occurrences(&given, &outcome, &answers, tally);
+        let outcome = rehearse(given.sites, &given.openings, &given.script, &mut record, &mut answers);
+        rehearsal::count_occurrences(&given, &outcome, &record, &answers, tally);
+    });
+}
+
+#[test]
+fn every_answer_of_the_rehearsing_program() {
+    let lists = [must_occur::REHEARSE, must_occur::STORE_OPENINGS, must_occur::CALLS];
+    assert_all_occur(&lists, 4_000, |seed, tally| {
+        programs::rehearse_due(&scripts::program_input(seed), tally);
     });
 }
 

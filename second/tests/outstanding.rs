@@ -7,6 +7,7 @@ use calls::{deliver, get, put, run, script};
 use second::compare::copies::Copies;
 use second::generate::random::Random;
 use second::generate::scripts;
+use second::openings::OPENINGS_BYTES;
 use second::samples::listing_script;
 use second::store::Call::Close;
 use second::store::{rehearse, run_script, Call, Outcome, Store, CALL_BYTES};
@@ -101,8 +102,9 @@ fn refused_calls_have_no_copies() {
 #[test]
 fn refused_rehearsals_tell_nothing() {
     let puts = script(&[put(0, 0, 1), put(1, 0, 2)]);
-    let outcome =
-        |sites, script: &[u8], record, answers| rehearse(sites, script, &mut vec![7; record], &mut vec![7; answers]);
+    let outcome = |sites, script: &[u8], record, answers| {
+        rehearse(sites, &[0; OPENINGS_BYTES], script, &mut vec![7; record], &mut vec![7; answers])
+    };
     assert_eq!(outcome(2, &puts, 19_456, 16), Outcome { number: 0, length: 1_024, outstanding: 2 });
     assert_eq!(outcome(0, &puts, 19_456, 16), Outcome::refused(20));
     assert_eq!(outcome(9, &puts, 19_456, 16), Outcome::refused(20));

@@ -2,6 +2,7 @@
 
 use second::lines;
 use second::models::{answers, packed_all, refused};
+use second::openings::{Openings, OPENINGS_BYTES};
 use second::predicates::Answer::{self, Broken, Met};
 use second::predicates::Judged;
 use second::questions::{ask, Refusal};
@@ -106,7 +107,7 @@ fn work_slice_is_settled() {
 
 #[test]
 fn checks_are_compared_exactly() {
-    let mut bytes = Record { sites: 1, events: vec![] }.to_bytes();
+    let mut bytes = Record::in_order(1, vec![]).to_bytes();
     // Words chosen so that A comes to 5; 65,526 is congruent to it.
     bytes[8..10].copy_from_slice(&(65_521u32 + 5 - 29_851).to_le_bytes()[..2]);
     seal(&mut bytes);
@@ -198,7 +199,7 @@ fn object_is_asked_before_room() {
 fn rehearsal_refusals_in_order() {
     let number = |sites, script: usize, record: usize, answers: usize| {
         let (mut record, mut answers) = (vec![7; record], vec![7; answers]);
-        let outcome = rehearse(sites, &vec![0; script], &mut record, &mut answers);
+        let outcome = rehearse(sites, &[0; OPENINGS_BYTES], &vec![0; script], &mut record, &mut answers);
         assert!(outcome.number == 0 || record.iter().chain(&answers).all(|&byte| byte == 7));
         outcome.packed() % 256
     };
@@ -221,7 +222,7 @@ fn all_thirteen_hold_a_refusal_too() {
     assert_eq!(words_after(&[], 0), (refusal, vec![]));
     assert_eq!(words_after(&[], 5), (refusal, vec![refusal; 5]));
     assert_eq!(words_after(&[], 15), (refusal, [vec![refusal; 13], vec![7; 2]].concat()));
-    let met = Record { sites: 1, events: vec![] }.to_bytes();
+    let met = Record::in_order(1, vec![]).to_bytes();
     assert_eq!(words_after(&met, 15), (0, [vec![0; 13], vec![7; 2]].concat()));
 }
 
@@ -230,8 +231,8 @@ fn programs_on_short_and_long_input() {
     assert_eq!(lines::verdict(&[]), "refused 3 0\n");
     assert_eq!(lines::rehearsal(&[]), b"refused 20\n");
     assert_eq!(lines::rehearsal(&[9]), b"refused 20\n");
-    assert_eq!(lines::rehearsal(&[8]), Record { sites: 8, events: vec![] }.to_bytes());
-    assert_eq!(lines::rehearsal(&[1; 32_769 + 8]), b"refused 21\n");
+    assert_eq!(lines::rehearsal(&[8]), Record::in_order(8, vec![]).opened(Openings::none()).to_bytes());
+    assert_eq!(lines::rehearsal(&[1; 1 + OPENINGS_BYTES + 32_776]), b"refused 21\n");
     let mut long = plain(256).to_bytes();
     long.resize(19_456 + 512, 0);
     assert_eq!(lines::verdict(&long), "refused 3 0\n");

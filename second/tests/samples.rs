@@ -18,7 +18,7 @@ fn names_tell_the_answer() {
                 assert!(line.starts_with(&format!("refused {number} ")), "{}: {line}", sample.name);
             }
             None if sample.name.ends_with(".gcr") => assert_eq!(line, "passed\n", "{}", sample.name),
-            None => assert!(lines::rehearsal(&sample.bytes).starts_with(b"GCR1")),
+            None => assert!(lines::rehearsal(&sample.bytes).starts_with(b"GCR2")),
         }
     }
 }
@@ -31,6 +31,17 @@ fn high_places_are_high() {
     assert_eq!(inspected("refused-8-high"), "refused 8 255\n");
     assert_eq!(inspected("refused-9-high"), "refused 9 254\n");
     assert_eq!(inspected("refused-10-high"), "refused 10 254\n");
+}
+
+fn judged(name: &str) -> String {
+    let found = samples().into_iter().find(|sample| sample.name == format!("{name}.gcr"));
+    lines::verdict(&found.expect(name).bytes)
+}
+
+#[test]
+fn openings_are_held_or_not() {
+    assert!(!judged("openings").contains("broken"));
+    assert!(judged("stale-opening").starts_with("1 broken 1 0\n"));
 }
 
 #[test]

@@ -1,9 +1,10 @@
-//! Rehearses the script in a file, which begins with the number of sites as `rehearse` reads it, and prints where the
-//! copies of its puts are; exits with 0 done, 2 refused, 3 where the file can't be read or the line can't be written.
+//! Rehearses the script in a file, which begins with the number of sites and the openings as `rehearse` reads them, and
+//! prints where the copies of its puts are; exits with 0 done, 2 refused, 3 where the file can't be read or the line
+//! can't be written.
 
 mod on_file;
 
-use gcr::{answers, rehearse, Answer, RECORD_MOST};
+use gcr::{answers, rehearse_raw, Answer, OPENINGS_BYTES, RECORD_MOST};
 use std::process::ExitCode;
 
 /// puts × other sites = by deliveries + by closes + outstanding.
@@ -28,11 +29,20 @@ impl Copies {
     }
 }
 
+/// The parts of a file: the number of sites, the openings and the script. Missing bytes are 0.
+fn parts(input: &[u8]) -> (u32, [u8; OPENINGS_BYTES], &[u8]) {
+    let (sites, rest) = input.split_first().map_or((0, input), |(&sites, rest)| (u32::from(sites), rest));
+    let (given, script) = rest.split_at(rest.len().min(OPENINGS_BYTES));
+    let mut openings = [0; OPENINGS_BYTES];
+    openings[..given.len()].copy_from_slice(given);
+    (sites, openings, script)
+}
+
 /// The line of the script's copies, and the exit status that goes with it.
 fn told(input: &[u8]) -> (String, u8) {
-    let (sites, script) = input.split_first().map_or((0, input), |(&sites, script)| (u32::from(sites), script));
+    let (sites, openings, script) = parts(input);
     let mut buffer = vec![0; script.len()];
-    let done = match rehearse(sites, script, &mut [0; RECORD_MOST], &mut buffer) {
+    let done = match rehearse_raw(sites, &openings, script, &mut [0; RECORD_MOST], &mut buffer) {
         Ok(done) => done,
         Err(refusal) => return (format!("refused {}", refusal.number), 2),
     };

@@ -15,7 +15,7 @@ pub enum Answer {
     Get {
         /// The event that it became.
         event: u16,
-        /// The value that it found, if it found one.
+        /// The value that it found, if it found one: that of a put, or the object's opening.
         value: Option<u32>,
     },
     /// The call is a delivery that was done.
@@ -58,7 +58,7 @@ impl Answer {
 /// at.
 ///
 /// ```
-/// use gcr::{answers, rehearse, script, Answer, Call, RECORD_MOST};
+/// use gcr::{answers, rehearse, script, Answer, Call, Openings, RECORD_MOST};
 ///
 /// let script = script(&[
 ///     Call::Put { site: 0, object: 5, value: 100 },
@@ -67,7 +67,7 @@ impl Answer {
 ///     Call::Deliver { site: 1, event: 0 },
 /// ]);
 /// let mut buffer = [0; 32];
-/// rehearse(2, &script, &mut [0; RECORD_MOST], &mut buffer)?;
+/// rehearse(2, &Openings::none(), &script, &mut [0; RECORD_MOST], &mut buffer)?;
 /// let answers: Vec<_> = answers(&script, &buffer).collect();
 /// assert_eq!(answers[0], Answer::Put { event: 0 });
 /// assert_eq!(answers[1], Answer::Closed { copies: 1 });

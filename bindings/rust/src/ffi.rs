@@ -15,6 +15,8 @@ extern "C" {
     fn gcr_judge_all(record: *const u8, len: usize, out: *mut Judgment, words: usize) -> Reading;
     fn gcr_rehearse(
         sites: u32,
+        openings: *const u8,
+        openings_len: usize,
         script: *const u8,
         script_len: usize,
         record: *mut u8,
@@ -44,12 +46,14 @@ pub fn judge_all(record: &[u8], out: &mut [Judgment]) -> Reading {
     unsafe { gcr_judge_all(record.as_ptr(), record.len(), out.as_mut_ptr(), out.len()) }
 }
 
-pub fn rehearse(sites: u32, script: &[u8], record: &mut [u8], answers: &mut [u8]) -> Rehearsal {
+pub fn rehearse(sites: u32, openings: &[u8], script: &[u8], record: &mut [u8], answers: &mut [u8]) -> Rehearsal {
     let (record_len, answers_len) = (record.len(), answers.len());
-    // SAFETY: both buffers are `&mut`, so they are apart from each other and from the script.
+    // SAFETY: both buffers are `&mut`, so they are apart from each other, from the openings and from the script.
     unsafe {
         gcr_rehearse(
             sites,
+            openings.as_ptr(),
+            openings.len(),
             script.as_ptr(),
             script.len(),
             record.as_mut_ptr(),

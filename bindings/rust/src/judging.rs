@@ -57,10 +57,10 @@ pub fn judge_predicate(predicate: Predicate, record: &[u8]) -> Result<Verdict, R
 ///
 /// ```
 /// use gcr::{judge_all, Predicate, Verdict};
-/// # use gcr::{rehearse, script, Call, RECORD_MOST};
+/// # use gcr::{rehearse, script, Call, Openings, RECORD_MOST};
 /// # let script = script(&[Call::Put { site: 0, object: 5, value: 1 }, Call::Put { site: 1, object: 5, value: 2 }]);
 /// # let mut record = [0; RECORD_MOST];
-/// # let length = rehearse(2, &script, &mut record, &mut [0; 16])?.length;
+/// # let length = rehearse(2, &Openings::none(), &script, &mut record, &mut [0; 16])?.length;
 /// # let record = &record[..length];
 ///
 /// let verdicts = judge_all(record)?;

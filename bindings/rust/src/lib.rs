@@ -3,7 +3,8 @@
 //! Two sites put into object 5, and the record of it is judged:
 //!
 //! ```
-//! use gcr::{judge_model, judge_predicate, rehearse, script, Call, Model, Predicate, Verdict, RECORD_MOST};
+//! use gcr::{judge_model, judge_predicate, rehearse, script};
+//! use gcr::{Call, Model, Openings, Predicate, Verdict, RECORD_MOST};
 //!
 //! let script = script(&[
 //!     Call::Put { site: 0, object: 5, value: 100 },
@@ -13,13 +14,15 @@
 //! ]);
 //! let mut record = [0; RECORD_MOST];
 //! let mut answers = vec![0; script.len()];
-//! let done = rehearse(2, &script, &mut record, &mut answers)?;
+//! let done = rehearse(2, &Openings::none(), &script, &mut record, &mut answers)?;
 //! let record = &record[..done.length];
 //!
 //! assert_eq!(judge_model(Model::Causal, record)?, Verdict::Met);
 //! assert_eq!(judge_predicate(Predicate::SingleOrder, record)?, Verdict::Broken { a: 0, b: 1 });
 //! # Ok::<(), gcr::Refusal>(())
 //! ```
+//!
+//! [`Openings`] are the figures that objects start the day with: here none has one.
 //!
 //! A record or a script that is refused is an `Err`, of every call: no [`Verdict`] stands for it. What the calls of a
 //! script were answered is taken from its buffer by [`answers()`]: a typed [`Answer`] for each.
@@ -39,6 +42,7 @@ mod call;
 mod ffi;
 mod judging;
 mod model;
+mod openings;
 mod packing;
 mod predicate;
 mod reading;
@@ -49,7 +53,8 @@ pub use answer::{answers, Answer};
 pub use call::{script, Call};
 pub use judging::{judge_all, judge_model, judge_predicate, Verdict};
 pub use model::Model;
+pub use openings::{Openings, OPENINGS_BYTES};
 pub use predicate::Predicate;
 pub use reading::{is_visible, read, RECORD_MOST, WORK_WORDS};
 pub use refusal::Refusal;
-pub use rehearsal::{rehearse, Rehearsed, SCRIPT_MOST};
+pub use rehearsal::{rehearse, rehearse_raw, Rehearsed, SCRIPT_MOST};

@@ -12,7 +12,8 @@ numbered! {
     /// # Ok::<(), gcr::Refusal>(())
     /// ```
     Predicate:
-    1 RVal "A returned read holds the value of the last write, by arbitration, that it sees on its object, or none."
+    1 RVal "A returned read holds the value of the last write, by arbitration, that it sees on its object; where it \
+            sees none there, the object's opening, or none if it has none."
     2 SingleOrder "Visibility is arbitration, but for pending events that nothing sees."
     3 RealTime "What returned before an event started is arbitrated before it."
     4 RealTimeWrites "A write that returned before an event started is arbitrated before it."

@@ -26,10 +26,10 @@ pub fn read(record: &[u8], work: &mut [u64]) -> Result<(), Refusal> {
 /// Whether event `a` is visible to event `b`, by the words that a [`read`] which passed has filled.
 ///
 /// ```
-/// # use gcr::{is_visible, read, rehearse, script, Call, RECORD_MOST, WORK_WORDS};
+/// # use gcr::{is_visible, read, rehearse, script, Call, Openings, RECORD_MOST, WORK_WORDS};
 /// # let script = script(&[Call::Put { site: 0, object: 5, value: 100 }, Call::Get { site: 0, object: 5 }]);
 /// # let mut record = [0; RECORD_MOST];
-/// # let length = rehearse(1, &script, &mut record, &mut [0; 16])?.length;
+/// # let length = rehearse(1, &Openings::none(), &script, &mut record, &mut [0; 16])?.length;
 /// let mut work = [0; WORK_WORDS];
 /// read(&record[..length], &mut work)?;
 /// assert!(is_visible(&work, 0, 1));

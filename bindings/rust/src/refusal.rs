@@ -21,7 +21,7 @@ impl Refusal {
     pub fn sentence(&self) -> &'static str {
         match self.number {
             1..=10 => of_record(self.number),
-            20..=23 => of_rehearsal(self.number),
+            20..=23 | 40 => of_rehearsal(self.number),
             _ => of_call(self.number),
         }
     }
@@ -33,7 +33,7 @@ fn of_record(number: u32) -> &'static str {
         2 => "The predicate or model number is not 1 to 13.",
         3 => "The record's length is not a multiple of 512 from 512 to 19,456 bytes.",
         4 => "The block at this place does not have the check sums of its bytes.",
-        5 => "Block 0 is not laid out as the head of a record.",
+        5 => "Block 0 is not laid out as the head of a record of edition GCR1 or GCR2.",
         6 => "The number of blocks does not fit the number of events.",
         7 => "The slot at this place is not laid out as an event, or is not empty though it is past the last one.",
         8 => "The event at this place has an arbitration position that is too large or that a lower event has.",
@@ -47,7 +47,8 @@ fn of_rehearsal(number: u32) -> &'static str {
         20 => "The number of sites is not 1 to 8.",
         21 => "The script's length is not a multiple of 8 of at most 32,768 bytes.",
         22 => "The record buffer is shorter than 19,456 bytes.",
-        _ => "The answer buffer is shorter than the script.",
+        23 => "The answer buffer is shorter than the script.",
+        _ => "The openings are not 132 bytes, or hold a value under a clear bit.",
     }
 }
 

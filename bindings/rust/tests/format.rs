@@ -1,12 +1,17 @@
 //! The dumps of docs/FORMAT.md are the bytes that they say they are, and so is its way to compute a block's check.
 
-use gcr::{rehearse, Call, RECORD_MOST};
+use gcr::{rehearse_raw, Call, OPENINGS_BYTES, RECORD_MOST};
 
 const PAGE: &str = include_str!("../../../docs/FORMAT.md");
 const EMPTY: &[u8] = include_bytes!("../../../records/empty-one-site.gcr");
 const LISTING: &[u8] = include_bytes!("../../../records/listing.gcr");
 const LISTING_SCRIPT: &[u8] = include_bytes!("../../../records/listing.script");
 const CLOSING_SCRIPT: &[u8] = include_bytes!("../../../records/closing.script");
+const OPENING: &[u8] = include_bytes!("../../../records/opening.gcr");
+const OPENING_SCRIPT: &[u8] = include_bytes!("../../../records/opening.script");
+
+/// Where the script stands in what `rehearse` reads: after the sites and the openings.
+const SCRIPT_AT: usize = 1 + OPENINGS_BYTES;
 
 /// `01fc: 9b 74 | text` as the offset and its bytes; other lines are none.
 fn shown(line: &str) -> Option<(usize, Vec<u8>)> {
@@ -26,9 +31,11 @@ fn dump(name: &str, length: usize) -> Vec<u8> {
     bytes
 }
 
-fn answers(sites: u8, script: &[u8]) -> Vec<u8> {
+/// Of what `rehearse` reads.
+fn answers(input: &[u8]) -> Vec<u8> {
+    let (openings, script) = (&input[1..SCRIPT_AT], &input[SCRIPT_AT..]);
     let mut buffer = vec![0; script.len()];
-    rehearse(sites.into(), script, &mut [0; RECORD_MOST], &mut buffer).unwrap();
+    rehearse_raw(input[0].into(), openings, script, &mut [0; RECORD_MOST], &mut buffer).unwrap();
     buffer
 }
 
@@ -37,21 +44,28 @@ fn dumps_are_the_bytes_of_their_files() {
     assert_eq!(dump("records/empty-one-site.gcr", EMPTY.len()), EMPTY);
     assert_eq!(dump("records/listing.gcr", LISTING.len()), LISTING);
     assert_eq!(dump("records/listing.script", LISTING_SCRIPT.len()), LISTING_SCRIPT);
+    assert_eq!(dump("records/opening.gcr", OPENING.len()), OPENING);
+    assert_eq!(dump("records/opening.script", OPENING_SCRIPT.len()), OPENING_SCRIPT);
 }
 
 #[test]
 fn the_listings_answers_are_as_shown() {
-    let answers = answers(LISTING_SCRIPT[0], &LISTING_SCRIPT[1..]);
-    assert_eq!(dump("answers", answers.len()), answers);
+    assert_eq!(dump("answers", 56), answers(LISTING_SCRIPT));
+}
+
+#[test]
+fn the_answers_of_the_script_with_openings_are_as_shown() {
+    assert_eq!(dump("answers with openings", 56), answers(OPENING_SCRIPT));
 }
 
 #[test]
 fn the_answers_of_the_script_with_closes_are_as_shown() {
     let script = dump("a close", 48);
-    assert_eq!(script, CLOSING_SCRIPT[1..]);
+    assert_eq!(script, CLOSING_SCRIPT[SCRIPT_AT..]);
+    assert_eq!(CLOSING_SCRIPT[1..SCRIPT_AT], [0; OPENINGS_BYTES]);
     let close = Call::Close.bytes();
     assert_eq!([&script[16..24], &script[40..]], [close; 2]);
-    assert_eq!(dump("answers with a close", 48), answers(2, &script));
+    assert_eq!(dump("answers with a close", 48), answers(CLOSING_SCRIPT));
 }
 
 /// A and B, as the page's lines of C compute them.
@@ -66,7 +80,7 @@ fn check(number: usize, block: &[u8]) -> (u32, u32) {
 #[test]
 fn checks_are_as_the_page_computes_them() {
     let stored = |at: &[u8]| u32::from(at[0]) + 256 * u32::from(at[1]);
-    for record in [EMPTY, LISTING] {
+    for record in [EMPTY, LISTING, OPENING] {
         for (number, block) in record.chunks(512).enumerate() {
             assert_eq!(check(number, block), (stored(&block[508..]), stored(&block[510..])));
         }

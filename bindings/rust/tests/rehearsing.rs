@@ -1,21 +1,30 @@
 //! Rehearsals through the library.
 
-use gcr::{answers, judge_model, rehearse, script, Answer, Call, Model, Refusal, Verdict, RECORD_MOST, SCRIPT_MOST};
+use gcr::{answers, judge_model, rehearse, script, Answer, Call, Model, Openings, Refusal, Verdict};
+use gcr::{OPENINGS_BYTES, RECORD_MOST, SCRIPT_MOST};
 
 const LISTING: &[u8] = include_bytes!("../../../records/listing.gcr");
 const LISTING_SCRIPT: &[u8] = include_bytes!("../../../records/listing.script");
+const NONE: &Openings = &Openings::none();
+
+/// The number of sites and the calls of the listing, which has no openings.
+fn listing_script() -> (u32, &'static [u8]) {
+    let (openings, script) = LISTING_SCRIPT[1..].split_at(OPENINGS_BYTES);
+    assert_eq!(openings, NONE.as_bytes());
+    (u32::from(LISTING_SCRIPT[0]), script)
+}
 
 /// The copies outstanding after these calls at so many sites.
 fn outstanding(sites: u32, calls: &[Call]) -> u64 {
     let script = script(calls);
-    rehearse(sites, &script, &mut [0; RECORD_MOST], &mut vec![0; script.len()]).unwrap().outstanding
+    rehearse(sites, NONE, &script, &mut [0; RECORD_MOST], &mut vec![0; script.len()]).unwrap().outstanding
 }
 
 /// The answers of a script at so many sites, and its record.
 fn rehearsed(sites: u32, script: &[u8]) -> (Vec<Answer>, Vec<u8>) {
     let mut record = vec![0; RECORD_MOST];
     let mut buffer = vec![0; script.len()];
-    let done = rehearse(sites, script, &mut record, &mut buffer).unwrap();
+    let done = rehearse(sites, NONE, script, &mut record, &mut buffer).unwrap();
     record.truncate(done.length);
     (answers(script, &buffer).collect(), record)
 }
@@ -38,10 +47,10 @@ fn refused(number: u32) -> Answer {
 
 #[test]
 fn the_listings_script_gives_its_record_and_answers() {
-    let (sites, script) = (u32::from(LISTING_SCRIPT[0]), &LISTING_SCRIPT[1..]);
+    let (sites, script) = listing_script();
     let mut record = vec![7; RECORD_MOST + 1];
     let mut buffer = vec![7; script.len() + 8];
-    let done = rehearse(sites, script, &mut record, &mut buffer).unwrap();
+    let done = rehearse(sites, NONE, script, &mut record, &mut buffer).unwrap();
     assert_eq!(&record[..done.length], LISTING);
     assert!(record[done.length..].iter().all(|&byte| byte == 7));
     assert_eq!(buffer[script.len()..], [7; 8]);
@@ -62,8 +71,8 @@ fn the_listings_script_gives_its_record_and_answers() {
 
 #[test]
 fn after_three_calls_of_the_listing_one_copy_is_outstanding() {
-    let (sites, script) = (u32::from(LISTING_SCRIPT[0]), &LISTING_SCRIPT[1..]);
-    let left = |bytes| rehearse(sites, &script[..bytes], &mut [0; RECORD_MOST], &mut [0; 56]).unwrap();
+    let (sites, script) = listing_script();
+    let left = |bytes| rehearse(sites, NONE, &script[..bytes], &mut [0; RECORD_MOST], &mut [0; 56]).unwrap();
     assert_eq!((left(24).length, left(24).outstanding), (1_024, 1));
     assert_eq!((left(56).length, left(56).outstanding), (1_024, 0));
 }
@@ -82,7 +91,7 @@ fn refused_rehearsals_leave_both_buffers() {
         (1, &get, RECORD_MOST, 7, 23),
     ];
     for (sites, script, record_length, answers_length, number) in cases {
-        let answer = rehearse(sites, script, &mut record[..record_length], &mut buffer[..answers_length]);
+        let answer = rehearse(sites, NONE, script, &mut record[..record_length], &mut buffer[..answers_length]);
         assert_eq!(answer, Err(Refusal { number, place: 0 }));
     }
     assert_eq!(record, [7; RECORD_MOST]);
@@ -110,7 +119,7 @@ fn refused_calls_answer_with_their_number() {
 fn the_257th_event_is_refused() {
     let script = script(&[get(0); 257]);
     let mut buffer = vec![0; script.len()];
-    let done = rehearse(1, &script, &mut [0; RECORD_MOST], &mut buffer).unwrap();
+    let done = rehearse(1, NONE, &script, &mut [0; RECORD_MOST], &mut buffer).unwrap();
     assert_eq!((done.length, done.outstanding), (RECORD_MOST, 0));
     let last: Vec<_> = answers(&script, &buffer).skip(255).collect();
     assert_eq!(last, [Answer::Get { event: 255, value: None }, refused(34)]);

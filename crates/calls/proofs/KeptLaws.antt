@@ -1,6 +1,6 @@
 -- Laws of a site kept in arrays: its counts, its rows of known events and its cells as the functions that they stand for. Assumes nothing.
 use mathlib.Core.Path.{_≡_, refl, sym, ap, ap₂, _∙_, fun-ext}
-use mathlib.Core.Bool.{Bool, true, false, cond, _||_, and-false, or-comm, and-true}
+use mathlib.Core.Bool.{Bool, true, false, not, cond, _||_, and-false, or-comm, and-true}
 use mathlib.Core.List.{List, _++_}
 use Prim.Native.Nat.{ℕ, suc, _+_, _-_, _*_, _/_, _%_, _≤_, _<_, max}
 use native.Mathlib.Numerals.{add-one}
@@ -16,10 +16,10 @@ use Rattle.rows.proofs.RowLaws.{has-insert, has-or, length-or}
 use Rattle.rows.proofs.TableLaws.{length-row, has-row, row-insert-same, row-insert-other, row-or-same, row-or-other}
 use Rattle.rows.proofs.StoredLaws.{Stored}
 use Rattle.rows.proofs.SliceLaws.{sliceAt, slice-row, giveBack, row-put}
-use Rattle.consistency.specs.Reads.{none, value}
-use Rattle.store.specs.Store.{upd, Cell, empty, full, before, merge}
-use Rattle.store.specs.Rules.{reached, afterPut, afterGet, afterDelivery, valueOr0}
-use Rattle.calls.specs.Mirror.{cellOf, siteOf, eventOf}
+use Rattle.record.specs.Terms.{Held, none, value, valueOr0}
+use Rattle.store.specs.Store.{upd, Cell, untouched, full, before, merge}
+use Rattle.store.specs.Rules.{reached, afterPut, afterGet, afterDelivery}
+use Rattle.calls.specs.Mirror.{cellOf, shownOf, siteOf, eventOf}
 use Rattle.calls.specs.declared.Kept.{Kept}
 use Rattle.calls.specs.declared.KeptCell.{KeptCell}
 use Rattle.calls.specs.declared.KeptEvent.{KeptEvent}
@@ -190,14 +190,14 @@ order-before a b =
 
 module _ (x : KeptCell) (v b : ℕ) (stamped : 8 ≤ b) where
   pub merged-new : x .order < b → cellOf (record { value = v; order = b }) ≡ merge (cellOf x) v (b / 8) (b % 8)
-  merged-new l = ap (λ (t : Bool). cond t empty (full v (b / 8) (b % 8))) (ne-eqb b 0 (λ q. omega arith)) ∙ go (eqb (x .order) 0)
+  merged-new l = rw (le-ltb b 8 stamped) (go (ltb (x .order) 8) (shownOf (not (eqb (x .order) 0)) (x .value)))
     where
-      go : (t : Bool) → full v (b / 8) (b % 8) ≡ merge (cond t empty (full (x .value) (x .order / 8) (x .order % 8))) v (b / 8) (b % 8)
-      go true = refl
-      go false = rw (order-before (x .order) b, lt-ltb (x .order) b l)
+      go : (t : Bool) (opening : Held) → full v (b / 8) (b % 8) ≡ merge (cond t (untouched opening) (full (x .value) (x .order / 8) (x .order % 8))) v (b / 8) (b % 8)
+      go true opening = refl
+      go false opening = rw (order-before (x .order) b, lt-ltb (x .order) b l)
 
   pub merged-old : b ≤ x .order → cellOf x ≡ merge (cellOf x) v (b / 8) (b % 8)
-  merged-old l = rw (ne-eqb (x .order) 0 (λ q. omega arith), order-before (x .order) b, le-ltb (x .order) b l)
+  merged-old l = rw (le-ltb (x .order) 8 (omega arith), order-before (x .order) b, le-ltb (x .order) b l)
 
 -- ---- sites
 

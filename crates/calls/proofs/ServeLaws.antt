@@ -1,20 +1,20 @@
 -- One call on the values that it concerns is that call on the store that they are of. Assumes nothing.
 use mathlib.Core.Path.{_≡_, refl, sym, ap, _∙_}
-use mathlib.Core.Bool.{Bool, true, false, not, cond, _&&_, and-false}
+use mathlib.Core.Bool.{Bool, true, false, not, _&&_, and-false}
 use mathlib.Core.List.{List, _∷_, _++_}
 use Prim.Native.Nat.{ℕ, suc, _+_, _*_, _/_, _%_, _≤_, _<_}
 use native.Mathlib.Decide.{ℕ-discrete}
 use native.Mathlib.Omega.{arith}
 use lib.Dec.{eqb, leb, ltb}
 use lib.ListN.{getD}
-use borrow.Author.Tests.{ltb-true, ne-eqb}
+use borrow.Author.Tests.{le-ltb, ltb-true, ltb-false, ne-eqb}
 use Rattle.rows.proofs.Tests.{split}
 use Rattle.record.specs.Encode.{littleBytes}
-use Rattle.consistency.specs.Reads.{Held, value}
-use Rattle.store.specs.Store.{upd, Cell, empty, full, cellValue, Site, Event, Store}
+use Rattle.record.specs.Terms.{Held, value, valueOr0}
+use Rattle.store.specs.Store.{upd, Cell, full, cellValue, Site, Event, Store}
 use Rattle.store.specs.Calls.{put, get, deliver, close}
 use Rattle.record.specs.Questions.{ask}
-use Rattle.store.specs.Rules.{reached, refusal, made, afterPut, afterGet, valueOr0, isFound, effect, doneAnswer}
+use Rattle.store.specs.Rules.{reached, refusal, made, afterPut, afterGet, isFound, effect, doneAnswer}
 use Rattle.calls.specs.Mirror.{callOf, cellOf, shownOf, eventOf, siteOf, partOf, withCounts, Made}
 use Rattle.calls.specs.declared.Asked.{Asked}
 use Rattle.calls.specs.declared.Kept.{Kept}
@@ -161,14 +161,12 @@ order-least clock s = omega arith
 
 full-cell : (clock s v : ℕ) → s < 8 → cellOf (record { value = v; order = orderAt clock s }) ≡ full v (suc clock) s
 full-cell clock s v l =
-    rw (ne-eqb (orderAt clock s) 0 (omega arith), order-stamp clock s l, order-site clock s l)
+    rw (le-ltb (orderAt clock s) 8 (order-least clock s), order-stamp clock s l, order-site clock s l)
 
 cell-value : (x : KeptCell) → cellValue (cellOf x) ≡ shownOf (not (eqb (x .order) 0)) (x .value)
-cell-value x = go (eqb (x .order) 0)
-  where
-    go : (t : Bool) → cellValue (cond t empty (full (x .value) (x .order / 8) (x .order % 8))) ≡ shownOf (not t) (x .value)
-    go true = refl
-    go false = refl
+cell-value x =
+    split (ltb (x .order) 8) (λ t. rw t refl)
+    (λ t. let most : 8 ≤ x .order = ltb-false (x .order) 8 t in rw (t, ne-eqb (x .order) 0 (omega arith)) refl)
 
 -- the event that a put or a get at site s, kept as a, becomes
 abbrev keptEvent : Kept → ℕ → Bool → ℕ → Bool → ℕ → KeptEvent

@@ -3,12 +3,12 @@ use mathlib.Core.Path.{_≡_}
 use mathlib.Core.Bool.{Bool, true, false, not, cond, _&&_}
 use mathlib.Core.List.{List}
 use Prim.Native.Nat.{ℕ, suc, _/_, _%_}
-use lib.Dec.{eqb}
+use lib.Dec.{eqb, ltb}
 use lib.ListN.{getD}
 use Rattle.rows.specs.Lowest.{some}
 use Rattle.rows.specs.Row.{has, rowAt}
-use Rattle.consistency.specs.Reads.{Held, none, value}
-use Rattle.store.specs.Store.{upd, Cell, empty, full, Site, Event, Store}
+use Rattle.record.specs.Terms.{Held, none, value}
+use Rattle.store.specs.Store.{upd, Cell, untouched, full, Site, Event, Store}
 use Rattle.store.specs.Calls.{Call, put, get, deliver, close, malformed}
 use Rattle.record.specs.Questions.{ask}
 use Rattle.store.specs.Rules.{reached, effect, doneAnswer}
@@ -26,13 +26,15 @@ callOf c =
     (cond (eqb (c .kind) 3) (deliver (c .event) (c .site))
     (cond (eqb (c .kind) 4) close malformed)))
 
--- a cell's order is 8 × stamp + site, and 0 while it is empty
-abbrev pub cellOf : KeptCell → Cell
-cellOf x = cond (eqb (x .order) 0) empty (full (x .value) (x .order / 8) (x .order % 8))
-
 -- a value, where one is present
 abbrev pub shownOf : Bool → ℕ → Held
 shownOf present v = cond present (value v) none
+
+-- a cell's order is 8 × stamp + site of its put, which is 8 or more; until one comes it is 0 where there is no opening, else less than 8
+abbrev pub cellOf : KeptCell → Cell
+cellOf x =
+    cond (ltb (x .order) 8) (untouched (shownOf (not (eqb (x .order) 0)) (x .value)))
+    (full (x .value) (x .order / 8) (x .order % 8))
 
 -- an event that sees these events
 abbrev pub eventOf : KeptEvent → (ℕ → Bool) → Event
@@ -56,7 +58,7 @@ lackedBySome puts known n x = has puts x && some n (λ s. not (has (rowAt known 
 
 -- a store of which a call sees no more than one site and one event
 abbrev pub partOf : ℕ → Kept → (ℕ → Bool) → KeptEvent → Store
-partOf count a known e = record { count = count; event = λ w. eventOf e (λ x. false); site = λ s. siteOf a known (λ o. empty) }
+partOf count a known e = record { count = count; event = λ w. eventOf e (λ x. false); site = λ s. siteOf a known (λ o. untouched none) }
 
 -- what refuses a call, where r answers all questions before 36: a delivery of e is asked too whether the counts of its site a reach its needs
 abbrev pub withCounts : ℕ → Asked → Kept → KeptEvent → ℕ

@@ -19,7 +19,8 @@ pub struct Kept {
     pub counts: [u16; 8],
 }
 
-// A cell. Its order is (stamp, site) as one number, 8 × stamp + site, and 0 while the cell is empty.
+// A cell. Its order is (stamp, site) of its put as one number, 8 × stamp + site, which is 8 or more. Until a put comes it is 1 where the cell holds
+// an opening, and 0 where it holds nothing.
 pub struct KeptCell {
     pub value: u32,
     pub order: u32,

@@ -13,7 +13,8 @@ ghost use lib.ListN.{getD, replicate};
 ghost use Rattle.record.specs.Encode.{littleBytes};
 ghost use Rattle.store.specs.Store.{Store};
 ghost use Rattle.store.specs.Calls.{put, get};
-ghost use Rattle.store.specs.Rules.{isFound, valueOr0};
+ghost use Rattle.record.specs.Terms.{valueOr0};
+ghost use Rattle.store.specs.Rules.{isFound};
 ghost use Rattle.calls.specs.Mirror.{callOf, cellOf, siteOf, shownOf, Made};
 
 // The answer of a done put or get, which found a value where one is present.

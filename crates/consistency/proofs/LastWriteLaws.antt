@@ -10,7 +10,8 @@ use borrow.Author.Tests.{ltb-true, ltb-false}
 use Rattle.rows.proofs.Tests.{split, tell}
 use Rattle.record.specs.History.{History}
 use Rattle.consistency.specs.Relations.{ar}
-use Rattle.consistency.specs.Reads.{value, candidate, later, lastBelow, lastWrite, held, leftBy, expected, lastOr}
+use Rattle.record.specs.Terms.{value}
+use Rattle.consistency.specs.Reads.{candidate, later, lastBelow, lastWrite, held, leftBy, expected, lastOr}
 use Rattle.consistency.specs.Holds.{RightRead, sees-none, sees-last, DistinctPositions}
 use Rattle.consistency.specs.declared.Last.{Last}
 use Rattle.consistency.specs.declared.Last.the-variants.{Nothing, At}
@@ -108,7 +109,7 @@ module _ (h : History) (e : ℕ) where
   unfolding expected
   expected-right = go (lastWrite h e) write-says
     where
-      go : (l : Last) → LastSays h e (h .count) l → held h e ≡ leftBy h l → RightRead h e
+      go : (l : Last) → LastSays h e (h .count) l → held h e ≡ leftBy h e l → RightRead h e
       go Nothing s q = sees-none s q
       go (At w) s q = sees-last (record { below = s .below; seen = s .seen; last = s .last }) q
 
@@ -117,7 +118,7 @@ module _ (h : History) (e : ℕ) where
   unfolding expected
   right-expected d r = go (lastWrite h e) write-says r
     where
-      go : (l : Last) → LastSays h e (h .count) l → RightRead h e → held h e ≡ leftBy h l
+      go : (l : Last) → LastSays h e (h .count) l → RightRead h e → held h e ≡ leftBy h e l
       go Nothing s (sees-none n q) = q
       go Nothing s (sees-last {w} t q) = absurd (tell (candidate h e w) (t .seen) (s w (t .below)))
       go (At u) s (sees-none n q) = absurd (tell (candidate h e u) (s .seen) (n u (s .below)))

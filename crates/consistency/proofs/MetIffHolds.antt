@@ -12,7 +12,8 @@ use Rattle.rows.proofs.LowestLaws.{some-none, none-some}
 use Rattle.rows.proofs.Tests.{tell, never, and-both, and-left, and-right, not-of}
 use Rattle.record.specs.History.{History}
 use Rattle.consistency.specs.Relations.{read}
-use Rattle.consistency.specs.Reads.{Held, none, value, sameHeld, held, expected, lastWrite, lastOr, wrongRead, wrong}
+use Rattle.record.specs.Terms.{Held, none, value}
+use Rattle.consistency.specs.Reads.{sameHeld, held, expected, lastWrite, lastOr, wrongRead, wrong}
 use Rattle.consistency.specs.Predicates.{Rule, last-value, _within_, _fits_, rule, outside, excused, differ, misfit, breaks, verdict}
 use Rattle.consistency.specs.Holds.{Within, Fits, RightReads, DistinctPositions, Obeys, Holds}
 use Rattle.consistency.specs.declared.Predicate.{Predicate}

@@ -7,28 +7,29 @@ use lib.Dec.{eqb}
 use borrow.Author.Tests.{eq-eqb, ne-eqb, not-true, not-false}
 use Rattle.record.specs.History.{History}
 use Rattle.consistency.specs.FirstPair.{first}
-use Rattle.consistency.specs.Reads.{none, value, lastWrite, sameHeld, held, leftBy, expected, wrongRead, lastOr, wrong}
+use Rattle.record.specs.Terms.{Held, none, value}
+use Rattle.consistency.specs.Reads.{lastWrite, sameHeld, held, leftBy, expected, wrongRead, lastOr, wrong}
 use Rattle.consistency.specs.declared.Verdict.the-variants.{Met, Broken}
 use Rattle.consistency.specs.declared.Last.{Last}
 use Rattle.consistency.specs.declared.Last.the-variants.{Nothing, At}
 use Rattle.consistency.proofs.FirstPairLaws.{first-at, first-none}
 use Rattle.consistency.proofs.LastWriteLaws.{lastOr-lt}
 
--- ---- what a read holds; t is whether it holds anything
+-- ---- what a read holds, beside x; t is whether it holds anything
 
-module _ (h : History) (e : ℕ) (x : Last) (t : Bool) (present : t ≡ h .isPresent e) where
-  pub held-unwritten : x ≡ Nothing → not t ≡ sameHeld (held h e) (leftBy h x)
-  held-unwritten q = rw (q, ← present) (go t)
+module _ (h : History) (e : ℕ) (x : Held) (t : Bool) (present : t ≡ h .isPresent e) where
+  pub held-none : x ≡ none → not t ≡ sameHeld (held h e) x
+  held-none q = rw (q, ← present) (go t)
     where
       go : (s : Bool) → not s ≡ sameHeld (cond s (value (h .value e)) none) none
       go true = refl
       go false = refl
 
-  pub held-absent : (w : ℕ) → x ≡ At w → not t ≡ true → false ≡ sameHeld (held h e) (leftBy h x)
-  held-absent w q f = rw (q, ← present, not-true t f)
+  pub held-absent : (v : ℕ) → x ≡ value v → not t ≡ true → false ≡ sameHeld (held h e) x
+  held-absent v q f = rw (q, ← present, not-true t f)
 
-  pub held-present : (w y z : ℕ) → x ≡ At w → not t ≡ false → y ≡ h .value e → z ≡ h .value w → eqb y z ≡ sameHeld (held h e) (leftBy h x)
-  held-present w y z q f u v = rw (q, ← present, not-false t f) (ap₂ eqb u v)
+  pub held-present : (v y z : ℕ) → x ≡ value v → not t ≡ false → y ≡ h .value e → z ≡ v → eqb y z ≡ sameHeld (held h e) x
+  held-present v y z q f u w = rw (q, ← present, not-false t f) (ap₂ eqb u w)
 
 -- ---- whether a read is wrong; s is whether it is a write, t whether it is pending
 
@@ -43,7 +44,7 @@ module _ (h : History) (e : ℕ) (s : Bool) (wrote : s ≡ h .isWrite e) where
     right-pending f = rw (← wrote, ← pending, not-true s reads, not-false t f)
 
     -- u is whether it holds what the last write that it sees left
-    pub wrong-held : (x : Last) (u v : Bool) → not t ≡ true → x ≡ lastWrite h e → u ≡ sameHeld (held h e) (leftBy h x) → not u ≡ v → wrongRead h e ≡ v
+    pub wrong-held : (x : Last) (u v : Bool) → not t ≡ true → x ≡ lastWrite h e → u ≡ sameHeld (held h e) (leftBy h e x) → not u ≡ v → wrongRead h e ≡ v
     unfolding wrongRead expected
     wrong-held x u v f l i g = rw (← wrote, ← pending, not-true s reads, not-true t f, ← l, ← i) g
 

@@ -13,7 +13,8 @@ use Rattle.rows.proofs.ReachLaws.{reaches-same}
 use Rattle.record.specs.History.{History, vis, Agree}
 use Rattle.consistency.specs.FirstPair.{first}
 use Rattle.consistency.specs.Relations.{rb, ss, ob, so, ar, step, hb, read, from, to, both, through}
-use Rattle.consistency.specs.Reads.{none, value, candidate, later, lastBelow, lastWrite, sameHeld, held, leftBy, expected, wrongRead, lastOr, wrong}
+use Rattle.record.specs.Terms.{none, value}
+use Rattle.consistency.specs.Reads.{candidate, later, lastBelow, lastWrite, sameHeld, held, leftBy, expected, wrongRead, lastOr, wrong}
 use Rattle.consistency.specs.Predicates.{Rule, last-value, _within_, _fits_, rule, differ, breaks, verdict, numbered}
 use Rattle.consistency.specs.Models.{orElse, firstBroken}
 use Rattle.consistency.specs.declared.Last.{Last}
@@ -123,13 +124,13 @@ module _ (h k : History) (s : Agree h k) where
   held-same : (e : ℕ) → e < h .count → held h e ≡ held k e
   held-same e i = ap₂ (λ (t : Bool) (v : ℕ). cond t (value v) none) (s .isPresent e i) (s .value e i)
 
-  left-same : (l : Last) → LastIn (h .count) l → leftBy h l ≡ leftBy k l
-  left-same Nothing i = refl
-  left-same (At w) i = ap value (s .value w i)
+  left-same : (e : ℕ) (l : Last) → e < h .count → LastIn (h .count) l → leftBy h e l ≡ leftBy k e l
+  left-same e Nothing j i = s .terms .opening (h .object e) ∙ ap (k .terms .opening) (s .object e j)
+  left-same e (At w) j i = ap value (s .value w i)
 
   expected-same : (e : ℕ) → e < h .count → expected h e ≡ expected k e
   unfolding expected
-  expected-same e i = left-same (lastWrite h e) (write-in h e) ∙ ap (leftBy k) (write-same e i)
+  expected-same e i = left-same e (lastWrite h e) i (write-in h e) ∙ ap (leftBy k e) (write-same e i)
 
   wrong-same : Same (wrong h) (wrong k)
   unfolding wrong wrongRead

@@ -3,9 +3,10 @@ use mathlib.Core.Path.{_≡_}
 use mathlib.Core.Bool.{Bool, true, false, not, _&&_}
 use Prim.Native.Nat.{ℕ, _<_, _≤_}
 use Rattle.rows.specs.Relation.{Rel}
+use Rattle.record.specs.Terms.{value}
 use Rattle.record.specs.History.{History}
 use Rattle.consistency.specs.Relations.{read}
-use Rattle.consistency.specs.Reads.{none, value, candidate, held}
+use Rattle.consistency.specs.Reads.{candidate, held}
 use Rattle.consistency.specs.Predicates.{Rule, last-value, _within_, _fits_, rule}
 use Rattle.consistency.specs.declared.Predicate.{Predicate}
 
@@ -25,9 +26,9 @@ pub record LastSeen (h : History) (e w : ℕ) : Type 0 where
   pub seen : candidate h e w ≡ true
   pub last : (x : ℕ) → x < h .count → candidate h e x ≡ true → h .position x ≤ h .position w
 
--- a read holds that write's value, or none where there is none
+-- a read holds that write's value, or its object's opening figure where it sees no write, or none where it has none
 pub data RightRead (h : History) (e : ℕ) : Type 0 where
-  sees-none : ((w : ℕ) → w < h .count → candidate h e w ≡ false) → held h e ≡ none → RightRead h e
+  sees-none : ((w : ℕ) → w < h .count → candidate h e w ≡ false) → held h e ≡ h .terms .opening (h .object e) → RightRead h e
   sees-last : {w : ℕ} → LastSeen h e w → held h e ≡ value (h .value w) → RightRead h e
 
 abbrev pub RightReads : History → Type 0

@@ -3,6 +3,7 @@ use mathlib.Core.Bool.{Bool, true, false, not, cond, _&&_}
 use Prim.Native.Nat.{ℕ, zero, suc}
 use lib.Dec.{eqb}
 use Rattle.rows.specs.Relation.{Rel}
+use Rattle.record.specs.Terms.{Held, none, value}
 use Rattle.record.specs.History.{History, vis}
 use Rattle.consistency.specs.Relations.{ob, ar, write, read}
 use Rattle.consistency.specs.declared.Last.{Last}
@@ -25,11 +26,6 @@ lastBelow h e (suc k) = cond (candidate h e k) (later h (lastBelow h e k) k) (la
 unfoldable pub lastWrite : History → ℕ → Last
 lastWrite h e = lastBelow h e (h .count)
 
--- a value, or none
-pub data Held : Type 0 where
-  none : Held
-  value : ℕ → Held
-
 abbrev pub sameHeld : Held → Held → Bool
 sameHeld none none = true
 sameHeld none (value y) = false
@@ -39,13 +35,13 @@ sameHeld (value x) (value y) = eqb x y
 abbrev pub held : History → ℕ → Held
 held h e = cond (h .isPresent e) (value (h .value e)) none
 
--- what a read should hold
-abbrev pub leftBy : History → Last → Held
-leftBy h Nothing = none
-leftBy h (At w) = value (h .value w)
+-- what read e should hold: the last write's value, or its object's opening figure where it sees none
+abbrev pub leftBy : History → ℕ → Last → Held
+leftBy h e Nothing = h .terms .opening (h .object e)
+leftBy h e (At w) = value (h .value w)
 
 unfoldable pub expected : History → ℕ → Held
-expected h e = leftBy h (lastWrite h e)
+expected h e = leftBy h e (lastWrite h e)
 
 -- a returned read that holds something else
 unfoldable pub wrongRead : History → ℕ → Bool

@@ -8,11 +8,12 @@ use Rattle.rows.specs.Row.{digit, bitOf}
 use Rattle.rows.specs.Octets.{hasByte, little}
 use Rattle.rows.specs.Relation.{via, reaches}
 use Rattle.record.specs.Layout.{zeros, same}
+use Rattle.record.specs.Terms.{openingIn, openingsRight}
 use Rattle.record.specs.Blocks.{sumA, sumB, blockRight}
 use Rattle.record.specs.History.{historyOf, vis}
 use Rattle.record.specs.Slots.{placeRight, valueRight, timesRight, gapsRight, eventRight, tailRight, slotRight}
-use Rattle.record.specs.Questions.{lengthRight, headerRight, blocksRight, wrongPosition, wrongSet, onRing, byteQuestions, setQuestions, questions}
-use Rattle.record.specs.Encode.{littleBytes, bits, setBytes, slotBytes, withSlots, sealed, unsealed, recordBytes}
+use Rattle.record.specs.Questions.{lengthRight, termsRight, headerRight, blocksRight, wrongPosition, wrongSet, onRing, byteQuestions, setQuestions, questions}
+use Rattle.record.specs.Encode.{littleBytes, bits, setBytes, slotBytes, figureBytes, openingBytes, withTerms, withSlots, sealed, unsealed, recordBytes}
 use Rattle.consistency.specs.FirstPair.{firstLeft, first}
 use Rattle.consistency.specs.Relations.{rb, ss, ob, so, ar, step, hb, through}
 use Rattle.consistency.specs.Reads.{candidate, lastBelow, lastWrite, expected, wrongRead, wrong}
@@ -23,14 +24,14 @@ use Rattle.store.specs.Calls.{callAt, callsFrom, callsOf}
 use Rattle.store.specs.Rules.{reached, refusal, copiesOf, allCopies, afterCopy, afterCopies, copied, effect, afterCall, run, total, doneAnswer, answer, answers}
 use Rattle.store.specs.Outstanding.{outstanding, puts, toldDone, toldCopies}
 use Rattle.store.specs.Recorded.{rank, recorded, storeRecord}
-use Rattle.store.specs.Rehearsal.{storeAfter, recordOf}
+use Rattle.store.specs.Rehearsal.{rehearsalRefusal, storeAfter, recordOf}
 use Rattle.edges.specs.Events.{member, historyOfEvents}
-use Rattle.edges.specs.Cases.{Case, right, allRight, ofEmpty, ofRing, ofHistories, ofListing, ofDeliveries, ofCloses, ofCopies, edges}
+use Rattle.edges.specs.Cases.{Case, right, allRight, ofEmpty, ofRing, ofHistories, ofListing, ofDeliveries, ofCloses, ofCopies, ofBlock0, ofZeros, ofSecond, ofFirst, ofOpenings, ofRefusals, edges}
 
-all-append : (l m : List Case) → allRight l ≡ true → allRight m ≡ true → allRight (l ++ m) ≡ true
+also : (l m : List Case) → allRight l ≡ true → allRight m ≡ true → allRight (l ++ m) ≡ true
 unfolding allRight
-all-append [] m e f = f
-all-append (c ∷ l) m e f = go (right c) (allRight l) (allRight (l ++ m)) e (λ g. all-append l m g f)
+also [] m e f = f
+also (c ∷ l) m e f = go (right c) (allRight l) (allRight (l ++ m)) e (λ g. also l m g f)
   where
     go : (x y z : Bool) → x && y ≡ true → (y ≡ true → z ≡ true) → x && z ≡ true
     go true y z e g = g e
@@ -38,7 +39,7 @@ all-append (c ∷ l) m e f = go (right c) (allRight l) (allRight (l ++ m)) e (λ
 
 -- the test of a part: to unfold it is to unfold all that the cases ask
 unfoldable test : List Case → Bool
-unfolding searchFrom lowest some sum digit bitOf hasByte little via reaches zeros same sumA sumB blockRight historyOf vis placeRight valueRight timesRight gapsRight eventRight tailRight slotRight lengthRight headerRight blocksRight wrongPosition wrongSet onRing byteQuestions setQuestions questions littleBytes bits setBytes slotBytes withSlots sealed unsealed recordBytes firstLeft first rb ss ob so ar step hb through candidate lastBelow lastWrite expected wrongRead wrong rule breaks verdict numbered firstBroken judgedList judged predicateJudgment packedJudgments callAt callsFrom callsOf reached refusal copiesOf allCopies afterCopy afterCopies copied effect afterCall run total doneAnswer answer answers rank recorded storeRecord storeAfter recordOf outstanding puts toldDone toldCopies member historyOfEvents right allRight
+unfolding searchFrom lowest some sum digit bitOf hasByte little via reaches zeros same sumA sumB blockRight historyOf vis placeRight valueRight timesRight gapsRight eventRight tailRight slotRight lengthRight openingIn openingsRight termsRight headerRight blocksRight wrongPosition wrongSet onRing byteQuestions setQuestions questions littleBytes bits setBytes slotBytes figureBytes openingBytes withTerms withSlots sealed unsealed recordBytes firstLeft first rb ss ob so ar step hb through candidate lastBelow lastWrite expected wrongRead wrong rule breaks verdict numbered firstBroken judgedList judged predicateJudgment packedJudgments callAt callsFrom callsOf reached refusal copiesOf allCopies afterCopy afterCopies copied effect afterCall run total doneAnswer answer answers rank recorded storeRecord rehearsalRefusal storeAfter recordOf outstanding puts toldDone toldCopies member historyOfEvents right allRight
 test cs = allRight cs
 
 empty-hold : allRight ofEmpty ≡ true
@@ -69,10 +70,41 @@ copies-hold : allRight ofCopies ≡ true
 unfolding test
 copies-hold = refl
 
+block0-hold : allRight ofBlock0 ≡ true
+unfolding test
+block0-hold = refl
+
+zeros-hold : allRight ofZeros ≡ true
+unfolding test
+zeros-hold = refl
+
+second-hold : allRight ofSecond ≡ true
+unfolding test
+second-hold = refl
+
+first-hold : allRight ofFirst ≡ true
+unfolding test
+first-hold = refl
+
+openings-hold : allRight ofOpenings ≡ true
+unfolding test
+openings-hold = refl
+
+refusals-hold : allRight ofRefusals ≡ true
+unfolding test
+refusals-hold = refl
+
 pub edges-hold : allRight edges ≡ true
 edges-hold =
-    all-append ofEmpty (ofRing ++ (ofHistories ++ (ofListing ++ (ofDeliveries ++ (ofCloses ++ ofCopies))))) empty-hold
-    (all-append ofRing (ofHistories ++ (ofListing ++ (ofDeliveries ++ (ofCloses ++ ofCopies)))) ring-hold
-    (all-append ofHistories (ofListing ++ (ofDeliveries ++ (ofCloses ++ ofCopies))) histories-hold
-    (all-append ofListing (ofDeliveries ++ (ofCloses ++ ofCopies)) listing-hold
-    (all-append ofDeliveries (ofCloses ++ ofCopies) deliveries-hold (all-append ofCloses ofCopies closes-hold copies-hold)))))
+    also ofEmpty _ empty-hold
+    (also ofRing _ ring-hold
+    (also ofHistories _ histories-hold
+    (also ofListing _ listing-hold
+    (also ofDeliveries _ deliveries-hold
+    (also ofCloses _ closes-hold
+    (also ofCopies _ copies-hold
+    (also ofBlock0 _ block0-hold
+    (also ofZeros _ zeros-hold
+    (also ofSecond _ second-hold
+    (also ofFirst _ first-hold
+    (also ofOpenings ofRefusals openings-hold refusals-hold)))))))))))

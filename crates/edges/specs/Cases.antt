@@ -1,14 +1,15 @@
 -- The table: a history, a record's bytes, or a script, with a question and its answer.
-use mathlib.Core.Bool.{Bool, true, _&&_}
+use mathlib.Core.Bool.{Bool, true, cond, _&&_}
 use mathlib.Core.List.{List, [], _∷_, _++_}
 use Prim.Native.Nat.{ℕ, _+_, _*_}
 use lib.Dec.{eqb}
-use lib.ListN.{drop, take}
+use lib.ListN.{drop, take, replicate}
+use lib.Seq.{sets}
 use Rattle.rows.specs.Octets.{little}
-use Rattle.record.specs.Layout.{gcr1, same}
-use Rattle.record.specs.History.{History}
-use Rattle.record.specs.Encode.{recordBytes}
-use Rattle.consistency.specs.Reads.{none, value}
+use Rattle.record.specs.Layout.{gcr1, gcr2, editionOf, same}
+use Rattle.record.specs.History.{History, under}
+use Rattle.record.specs.Encode.{openingBytes, sealed, unsealed, recordBytes}
+use Rattle.record.specs.Terms.{Held, none, value, Terms}
 use Rattle.consistency.specs.Predicates.{numbered, verdict}
 use Rattle.judge.specs.Judgments.{predicateJudgment, packedJudgment, packedJudgments}
 use Rattle.judge.specs.Lists.{packedVerdict}
@@ -16,8 +17,15 @@ use Rattle.store.specs.Store.{fresh}
 use Rattle.store.specs.Calls.{callsOf}
 use Rattle.store.specs.Rules.{deliveries, copiesByCloses, answers}
 use Rattle.store.specs.Outstanding.{puts, outstanding, toldDone, toldCopies}
-use Rattle.store.specs.Rehearsal.{storeAfter, recordOf}
+use Rattle.store.specs.Rehearsal.{rehearsalRefusal, termsOf, storeAfter, recordOf}
 use Rattle.edges.specs.Events.{event, aRead, aWrite, returned, pending, historyOfEvents}
+
+-- 132 bytes of openings: none, and one of one object
+abbrev pub noOpenings : List ℕ
+noOpenings = replicate 132 0
+
+abbrev pub opening : ℕ → ℕ → ℕ → Held
+opening object v o = cond (eqb o object) (value v) none
 
 pub data Case : Type 0 where
   -- the check sums A and B of a one-block record
@@ -27,24 +35,31 @@ pub data Case : Type 0 where
   -- what a judging call answers of a record's bytes, all questions asked, as the host's number: for a predicate, and for all thirteen
   ruled : (s : List ℕ) (predicate answer : ℕ) → Case
   thirteen : (s : List ℕ) (numbers : List ℕ) → Case
-  -- the answer of call k of a script, all eight bytes
-  answered : (sites : ℕ) (script : List ℕ) (k : ℕ) (answer : List ℕ) → Case
+  -- the answer of call k of a script from these openings, all eight bytes
+  answeredFrom : (openings : List ℕ) (sites : ℕ) (script : List ℕ) (k : ℕ) (answer : List ℕ) → Case
+  -- what refuses a rehearsal of an empty script, by its openings and the length of the record buffer
+  admitted : (openings : List ℕ) (sites room number : ℕ) → Case
   -- after a script: its puts, done deliveries, copies delivered by closes, by the rules and by the answers, and copies outstanding
   counted : (sites : ℕ) (script : List ℕ) (put delivered closed left : ℕ) → Case
 
 unfoldable pub right : Case → Bool
 right (checked s a b) = eqb (little 2 s 508) a && eqb (little 2 s 510) b
 right (decided h p answer) = eqb (packedVerdict (verdict (numbered p) h)) answer
-right (ruled s p answer) = eqb (packedJudgment (predicateJudgment gcr1 1024 p s)) answer
-right (thirteen s numbers) = same (packedJudgments gcr1 1024 13 s) numbers
-right (answered n script k answer) = same (take 8 (drop (8 * k) (answers n fresh (callsOf script)))) answer
+right (ruled s p answer) = eqb (packedJudgment (predicateJudgment (editionOf s) 1024 p s)) answer
+right (thirteen s numbers) = same (packedJudgments (editionOf s) 1024 13 s) numbers
+right (answeredFrom openings n script k answer) = same (take 8 (drop (8 * k) (answers n (fresh (termsOf openings)) (callsOf script)))) answer
+right (admitted openings n room number) = eqb (rehearsalRefusal n openings [] (replicate room 0) []) number
 right (counted n script put delivered closed left) =
-    same (puts (storeAfter n script) ∷ deliveries n fresh (callsOf script) ∷ copiesByCloses n fresh (callsOf script) ∷ []) (put ∷ delivered ∷ closed ∷ [])
-    && (same (told 1 ∷ told 3 ∷ toldCopies script (answers n fresh (callsOf script)) ∷ []) (put ∷ delivered ∷ closed ∷ [])
-    && eqb (outstanding n (storeAfter n script)) left)
+    same (puts (storeAfter n noOpenings script) ∷ deliveries n (fresh (termsOf noOpenings)) (callsOf script) ∷ copiesByCloses n (fresh (termsOf noOpenings)) (callsOf script) ∷ []) (put ∷ delivered ∷ closed ∷ [])
+    && (same (told 1 ∷ told 3 ∷ toldCopies script (answers n (fresh (termsOf noOpenings)) (callsOf script)) ∷ []) (put ∷ delivered ∷ closed ∷ [])
+    && eqb (outstanding n (storeAfter n noOpenings script)) left)
   where
     told : ℕ → ℕ
-    told kind = toldDone kind script (answers n fresh (callsOf script))
+    told kind = toldDone kind script (answers n (fresh (termsOf noOpenings)) (callsOf script))
+
+-- with no openings
+abbrev answered : ℕ → List ℕ → ℕ → List ℕ → Case
+answered = answeredFrom noOpenings
 
 unfoldable pub allRight : List Case → Bool
 allRight [] = true
@@ -194,6 +209,24 @@ found e v = 0 ∷ 1 ∷ e ∷ 0 ∷ v ∷ 0 ∷ 0 ∷ 0 ∷ []
 abbrev closeDone : ℕ → List ℕ
 closeDone copies = 0 ∷ 1 ∷ 0 ∷ 0 ∷ copies ∷ 0 ∷ 0 ∷ 0 ∷ []
 
+-- ---- openings
+
+-- an opening of one object
+abbrev sevenAt : ℕ → Terms
+sevenAt object = record { opening = opening object 7 }
+
+-- a returned read of an object that holds 7, and sees no write
+abbrev readOf7 : ℕ → History
+readOf7 object = historyOfEvents (event aRead 0 object (value 7) 0 (returned 0 1) [] ∷ [])
+
+-- a block 0 of `GCR2`, with one more byte and its check
+abbrev block0 : ℕ → ℕ → List ℕ
+block0 at x = sealed 1 (sets (unsealed gcr2 1 noEvents) at (x ∷ []))
+
+-- a put over an opening; a get at a site before it comes there, and after
+abbrev overOpening : List ℕ
+overOpening = putCall 0 3 9 (getCall 1 3 (deliverCall 0 1 (getCall 1 3 (getCall 0 4 []))))
+
 abbrev pub ofEmpty : List Case
 ofEmpty =
     checked (recordBytes gcr1 1 noEvents) 29851 34610
@@ -211,6 +244,11 @@ ofHistories =
     ∷ decided (pendingWrite (0 ∷ 1 ∷ [])) 2 (broken 0 1)
     ∷ decided loneRead 1 met
     ∷ decided loneReadOf0 1 (broken 1 1)
+    ∷ decided (under (sevenAt 0) (readOf7 0)) 1 met
+    ∷ decided (under (sevenAt 0) loneRead) 1 (broken 0 0)
+    ∷ decided (under (sevenAt 1) (readOf7 0)) 1 (broken 0 0)
+    ∷ decided (under (record { opening = opening 0 0 }) loneReadOf0) 1 met
+    ∷ decided (under (record { opening = opening 0 0 }) loneRead) 1 (broken 0 0)
     ∷ decided forgetful 9 met
     ∷ decided forgetful 5 (broken 0 2)
     ∷ decided foresight 10 (broken 0 0)
@@ -218,7 +256,7 @@ ofHistories =
 
 abbrev pub ofListing : List Case
 ofListing =
-    thirteen (recordOf 2 listing) (met ∷ broken 0 1 ∷ broken 2 3 ∷ met ∷ met ∷ met ∷ met ∷ met ∷ met ∷ met ∷ met ∷ met ∷ broken 0 1 ∷ [])
+    thirteen (recordOf 2 noOpenings listing) (met ∷ broken 0 1 ∷ broken 2 3 ∷ met ∷ met ∷ met ∷ met ∷ met ∷ met ∷ met ∷ met ∷ met ∷ broken 0 1 ∷ [])
     ∷ answered 2 listing 0 (putDone 0)
     ∷ answered 2 listing 1 (putDone 1)
     ∷ answered 2 listing 2 deliveryDone
@@ -261,6 +299,44 @@ ofCopies =
     ∷ counted 2 wrongCloses 0 0 0 0
     ∷ []
 
+abbrev pub ofBlock0 : List Case
+ofBlock0 =
+    ruled (block0 12 1) 1 met
+    ∷ ruled (block0 16 1) 1 (refused 5 0)
+    ∷ ruled (block0 143 1) 1 (refused 5 0)
+    ∷ []
+
+abbrev pub ofZeros : List Case
+ofZeros =
+    ruled (block0 8 1) 1 (refused 5 0)
+    ∷ ruled (block0 144 1) 1 (refused 5 0)
+    ∷ ruled (block0 3 51) 1 (refused 5 0)
+    ∷ []
+
+-- one event in either edition, of which the first has no room for the opening
+abbrev pub ofSecond : List Case
+ofSecond = ruled (recordBytes gcr2 1 (under (sevenAt 31) (readOf7 31))) 1 met ∷ []
+
+abbrev pub ofFirst : List Case
+ofFirst = ruled (recordBytes gcr1 1 (under (sevenAt 31) (readOf7 31))) 1 (broken 0 0) ∷ []
+
+abbrev pub ofOpenings : List Case
+ofOpenings =
+    answeredFrom (openingBytes (opening 3 7)) 2 overOpening 1 (found 1 7)
+    ∷ answeredFrom (openingBytes (opening 3 7)) 2 overOpening 3 (found 2 9)
+    ∷ answeredFrom (openingBytes (opening 4 0)) 2 overOpening 4 (found 3 0)
+    ∷ answered 2 overOpening 4 (putDone 3)
+    ∷ []
+
+abbrev pub ofRefusals : List Case
+ofRefusals =
+    admitted (openingBytes (opening 31 7)) 1 19456 0
+    ∷ admitted (sets noOpenings 131 (1 ∷ [])) 1 19456 40
+    ∷ admitted (replicate 131 0) 1 19456 40
+    ∷ admitted (replicate 133 0) 1 19455 22
+    ∷ admitted (replicate 133 0) 9 19456 20
+    ∷ []
+
 -- the table, in parts that the checker computes one by one
 abbrev pub edges : List Case
-edges = ofEmpty ++ (ofRing ++ (ofHistories ++ (ofListing ++ (ofDeliveries ++ (ofCloses ++ ofCopies)))))
+edges = ofEmpty ++ (ofRing ++ (ofHistories ++ (ofListing ++ (ofDeliveries ++ (ofCloses ++ (ofCopies ++ (ofBlock0 ++ (ofZeros ++ (ofSecond ++ (ofFirst ++ (ofOpenings ++ ofRefusals)))))))))))

@@ -5,9 +5,7 @@ use Prim.Native.Nat.{ℕ}
 use lib.Dec.{eqb}
 use lib.ListN.{length, getD}
 use Rattle.record.specs.History.{History}
-use Rattle.consistency.specs.Reads.{Held, none, value}
-use Rattle.store.specs.Rules.{valueOr0}
-use Rattle.store.specs.Recorded.{isValue}
+use Rattle.record.specs.Terms.{Held, none, value, isValue, valueOr0, bare}
 
 pub data Kind : Type 0 where
   aRead : Kind
@@ -66,4 +64,5 @@ historyOfEvents es = record {
   start = λ e. startOf (getD es e nothing .time);
   return = λ e. returnOf (getD es e nothing .time);
   sees = λ e b. member (getD es e nothing .sees) b;
+  terms = bare;
 }

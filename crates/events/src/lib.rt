@@ -1,8 +1,11 @@
-// The fields of an event, read from its four words. The reader loads these words, and the judge reads fields from them.
+// The fields of an event, read from its four words, and openings, read from block 0's. The reader loads these words, and the judge reads from them.
 ghost use mathlib.Core.Path.{_≡_};
-ghost use Prim.Native.Nat.{_+_, _*_, _≤_};
+ghost use mathlib.Core.Bool.{_&&_};
+ghost use Prim.Native.Nat.{_+_, _*_, _≤_, _<_};
+ghost use lib.Dec.{ltb};
 ghost use lib.ListN.{length};
-ghost use Rattle.record.specs.Words.{isWriteIn, siteIn, objectIn, isPendingIn, valueIn, isPresentIn, positionIn, startIn, returnIn};
+ghost use Rattle.rows.specs.Row.{has};
+ghost use Rattle.record.specs.Words.{isWriteIn, siteIn, objectIn, isPendingIn, valueIn, isPresentIn, positionIn, startIn, returnIn, figureIn};
 
 pub fn is_write(l: &[u64], e: usize) -> bool
     requires { ⌜ 4 * e + 4 ≤ length (now l) ⌝ }
@@ -65,4 +68,27 @@ pub fn return_time(l: &[u64], e: usize) -> u64
     ensures { λ r. ⌜ r ≡ returnIn (now (l .entry)) e ⌝ }
 {
     l[4 * e + 3]
+}
+
+// Whether object o has an opening, by the words of block 0's terms.
+pub fn has_opening(terms: &[u64], o: usize) -> bool
+    requires { ⌜ 17 ≤ length (now terms) ⌝ }
+    ensures { λ r. ⌜ r ≡ ltb o 32 && has (now (terms .entry)) (32 + o) ⌝ }
+{
+    if 32 <= o {
+        return false;
+    }
+    rows::test(terms, 32 + o)
+}
+
+// The value of its opening.
+pub fn opening(terms: &[u64], o: usize) -> u64
+    requires { ⌜ (17 ≤ length (now terms)) × (o < 32) ⌝ }
+    ensures { λ r. ⌜ r ≡ figureIn (now (terms .entry)) o ⌝ }
+{
+    let word = terms[1 + o / 2];
+    if o % 2 == 0 {
+        return word % 4294967296;
+    }
+    word / 4294967296
 }

@@ -2,14 +2,14 @@
 use judge::Judgment;
 use judge::packing;
 ghost use mathlib.Core.Path.{_≡_};
-ghost use Rattle.record.specs.Layout.{gcr1};
+ghost use Rattle.record.specs.Layout.{editionOf};
 ghost use Rattle.record.specs.Questions.{reading, packedReading};
 ghost use Rattle.judge.specs.Judgments.{predicateJudgment, modelJudgment, packedJudgment, packedJudgments, laidOver};
 
 // Judges a model, with the work memory inside.
 #[no_mangle]
 pub extern "C" fn gcr_judge_model(model: u32, s: &[u8]) -> u64
-    ensures { λ r. ⌜ r ≡ packedJudgment (modelJudgment gcr1 1024 model (now (s .entry))) ⌝ }
+    ensures { λ r. ⌜ r ≡ packedJudgment (modelJudgment (editionOf (now (s .entry))) 1024 model (now (s .entry))) ⌝ }
 {
     let mut work = [0u64; 1024];
     packing::pack(judge::judge_model(model as usize, s, &mut work))
@@ -18,7 +18,7 @@ pub extern "C" fn gcr_judge_model(model: u32, s: &[u8]) -> u64
 // The same of one predicate.
 #[no_mangle]
 pub extern "C" fn gcr_judge_predicate(predicate: u32, s: &[u8]) -> u64
-    ensures { λ r. ⌜ r ≡ packedJudgment (predicateJudgment gcr1 1024 predicate (now (s .entry))) ⌝ }
+    ensures { λ r. ⌜ r ≡ packedJudgment (predicateJudgment (editionOf (now (s .entry))) 1024 predicate (now (s .entry))) ⌝ }
 {
     let mut work = [0u64; 1024];
     packing::pack(judge::judge_predicate(predicate as usize, s, &mut work))
@@ -38,8 +38,8 @@ fn put_over(v: &[u64], out: &mut [u64])
 // Judges all thirteen predicates: the answer is the reading's number, and the numbers of the thirteen judgments go over the front of `out`.
 #[no_mangle]
 pub extern "C" fn gcr_judge_all(s: &[u8], out: &mut [u64]) -> u64
-    ensures { λ r. ⌜ r ≡ packedReading (reading gcr1 1024 (now (s .entry))) ⌝ }
-    ensures { λ _. ⌜ now (out .exit) ≡ laidOver (packedJudgments gcr1 1024 13 (now (s .entry))) (now (out .entry)) ⌝ }
+    ensures { λ r. ⌜ r ≡ packedReading (reading (editionOf (now (s .entry))) 1024 (now (s .entry))) ⌝ }
+    ensures { λ _. ⌜ now (out .exit) ≡ laidOver (packedJudgments (editionOf (now (s .entry))) 1024 13 (now (s .entry))) (now (out .entry)) ⌝ }
 {
     let mut work = [0u64; 1024];
     let all = judge::judge_all(s, &mut work);

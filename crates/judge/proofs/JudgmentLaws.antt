@@ -12,7 +12,7 @@ use lib.Seq.{take-all}
 use native.Mathlib.Numerals.{add-one}
 use Rattle.rows.proofs.Tests.{split}
 use Rattle.rows.proofs.FrontLaws.{replicate-more}
-use Rattle.record.specs.Layout.{gcr1, countIn}
+use Rattle.record.specs.Layout.{editionOf, countIn}
 use Rattle.record.specs.History.{History, historyOf, Agree}
 use Rattle.record.specs.Questions.{numberOf, placeOf, questions, reading}
 use Rattle.record.specs.declared.Reading.{Reading}
@@ -35,31 +35,31 @@ use Rattle.judge.proofs.ReadsBack.{Fitting}
 
 -- ---- questions 3 to 10, and then a list
 
-module _ (s ps : List ℕ) (r : Reading) (asked : r ≡ questions gcr1 s) where
-  pub list-refused : numberOf r ≢ 0 → Refused r ≡ judgedList gcr1 s ps
+module _ (s ps : List ℕ) (r : Reading) (asked : r ≡ questions (editionOf s) s) where
+  pub list-refused : numberOf r ≢ 0 → Refused r ≡ judgedList (editionOf s) s ps
   unfolding judgedList
   list-refused f = rw (← asked, ne-eqb (numberOf r) 0 f)
 
-  pub list-judged : numberOf r ≡ 0 → (o : Outcome) → o ≡ firstBroken ps (historyOf gcr1 s) → Judged o ≡ judgedList gcr1 s ps
+  pub list-judged : numberOf r ≡ 0 → (o : Outcome) → o ≡ firstBroken ps (historyOf (editionOf s) s) → Judged o ≡ judgedList (editionOf s) s ps
   unfolding judgedList
   list-judged z o e = rw (← asked, eq-eqb (numberOf r) 0 z, e)
 
 -- ---- questions 1 and 2 before them
 
 module _ (words number : ℕ) (s ps : List ℕ) where
-  pub judged-short : words < 1024 → Refused ShortWork ≡ judged gcr1 words number s ps
+  pub judged-short : words < 1024 → Refused ShortWork ≡ judged (editionOf s) words number s ps
   unfolding judged
   judged-short h = rw (lt-leb 1024 words h)
 
-  pub judged-low : 1024 ≤ words → number < 1 → NoSuchNumber ≡ judged gcr1 words number s ps
+  pub judged-low : 1024 ≤ words → number < 1 → NoSuchNumber ≡ judged (editionOf s) words number s ps
   unfolding judged
   judged-low h k = rw (le-leb 1024 words h, lt-leb 1 number k)
 
-  pub judged-high : 1024 ≤ words → 13 < number → NoSuchNumber ≡ judged gcr1 words number s ps
+  pub judged-high : 1024 ≤ words → 13 < number → NoSuchNumber ≡ judged (editionOf s) words number s ps
   unfolding judged
   judged-high h k = let l : 1 ≤ number = omega arith in rw (le-leb 1024 words h, le-leb 1 number l, lt-leb number 13 k)
 
-  pub judged-list : 1024 ≤ words → 1 ≤ number → number ≤ 13 → judgedList gcr1 s ps ≡ judged gcr1 words number s ps
+  pub judged-list : 1024 ≤ words → 1 ≤ number → number ≤ 13 → judgedList (editionOf s) s ps ≡ judged (editionOf s) words number s ps
   unfolding judged
   judged-list h l k = rw (le-leb 1024 words h, le-leb 1 number l, le-leb number 13 k)
 
@@ -92,23 +92,23 @@ verdict-packed : (p : ℕ) (v : Verdict) → packedVerdict v ≡ packedJudgment 
 verdict-packed p Met = refl
 verdict-packed p (Broken a b) = refl
 
-module _ (words : ℕ) (s : List ℕ) (r : Reading) (asked : r ≡ reading gcr1 words s) where
+module _ (words : ℕ) (s : List ℕ) (r : Reading) (asked : r ≡ reading (editionOf s) words s) where
   -- a record that is not read has the same judgment for every number
-  predicate-refused : numberOf r ≢ 0 → (p : ℕ) → 1 ≤ p → p ≤ 13 → predicateJudgment gcr1 words p s ≡ Refused r
+  predicate-refused : numberOf r ≢ 0 → (p : ℕ) → 1 ≤ p → p ≤ 13 → predicateJudgment (editionOf s) words p s ≡ Refused r
   unfolding predicateJudgment
   predicate-refused f p i j = split (leb 1024 words) long short
     where
-      short : leb 1024 words ≡ false → judged gcr1 words p s (p ∷ []) ≡ Refused r
+      short : leb 1024 words ≡ false → judged (editionOf s) words p s (p ∷ []) ≡ Refused r
       short t =
           let l = leb-false 1024 words t in
-          sym (judged-short words p s (p ∷ []) l) ∙ ap Refused (sym (asked ∙ reading-short gcr1 words s l))
+          sym (judged-short words p s (p ∷ []) l) ∙ ap Refused (sym (asked ∙ reading-short (editionOf s) words s l))
 
-      long : leb 1024 words ≡ true → judged gcr1 words p s (p ∷ []) ≡ Refused r
+      long : leb 1024 words ≡ true → judged (editionOf s) words p s (p ∷ []) ≡ Refused r
       long t =
           let l = leb-true 1024 words t in
-          sym (list-refused s (p ∷ []) r (asked ∙ reading-long gcr1 words s l) f ∙ judged-list words p s (p ∷ []) l i j)
+          sym (list-refused s (p ∷ []) r (asked ∙ reading-long (editionOf s) words s l) f ∙ judged-list words p s (p ∷ []) l i j)
 
-  pub judgments-refused : numberOf r ≢ 0 → (k : ℕ) → k ≤ 13 → replicate k (packedJudgment (Refused r)) ≡ packedJudgments gcr1 words k s
+  pub judgments-refused : numberOf r ≢ 0 → (k : ℕ) → k ≤ 13 → replicate k (packedJudgment (Refused r)) ≡ packedJudgments (editionOf s) words k s
   unfolding packedJudgments
   judgments-refused f zero l = refl
   judgments-refused f (suc k) l =
@@ -116,23 +116,23 @@ module _ (words : ℕ) (s : List ℕ) (r : Reading) (asked : r ≡ reading gcr1 
       ap (λ (j : ℕ). replicate j x) (sym (add-one k)) ∙ replicate-more k x
       ∙ ap₂ (λ (m : List ℕ) (j : Judgment). m ++ (packedJudgment j ∷ [])) (judgments-refused f k (omega arith)) (sym (predicate-refused f (k + 1) (omega arith) (omega arith)))
 
-  predicate-judged : numberOf r ≡ 0 → (p : ℕ) → 1 ≤ p → p ≤ 13 → predicateJudgment gcr1 words p s ≡ Judged (firstBroken (p ∷ []) (historyOf gcr1 s))
+  predicate-judged : numberOf r ≡ 0 → (p : ℕ) → 1 ≤ p → p ≤ 13 → predicateJudgment (editionOf s) words p s ≡ Judged (firstBroken (p ∷ []) (historyOf (editionOf s) s))
   unfolding predicateJudgment
   predicate-judged z p i j = split (leb 1024 words) long short
     where
-      short : leb 1024 words ≡ false → judged gcr1 words p s (p ∷ []) ≡ Judged (firstBroken (p ∷ []) (historyOf gcr1 s))
-      short t = absurd (omega (arith, z, ap numberOf (asked ∙ reading-short gcr1 words s (leb-false 1024 words t))))
+      short : leb 1024 words ≡ false → judged (editionOf s) words p s (p ∷ []) ≡ Judged (firstBroken (p ∷ []) (historyOf (editionOf s) s))
+      short t = absurd (omega (arith, z, ap numberOf (asked ∙ reading-short (editionOf s) words s (leb-false 1024 words t))))
 
-      long : leb 1024 words ≡ true → judged gcr1 words p s (p ∷ []) ≡ Judged (firstBroken (p ∷ []) (historyOf gcr1 s))
+      long : leb 1024 words ≡ true → judged (editionOf s) words p s (p ∷ []) ≡ Judged (firstBroken (p ∷ []) (historyOf (editionOf s) s))
       long t =
           let l = leb-true 1024 words t in
-          sym (list-judged s (p ∷ []) r (asked ∙ reading-long gcr1 words s l) z (firstBroken (p ∷ []) (historyOf gcr1 s)) refl ∙ judged-list words p s (p ∷ []) l i j)
+          sym (list-judged s (p ∷ []) r (asked ∙ reading-long (editionOf s) words s l) z (firstBroken (p ∷ []) (historyOf (editionOf s) s)) refl ∙ judged-list words p s (p ∷ []) l i j)
 
-  pub judgments-judged : numberOf r ≡ 0 → (k : ℕ) → k ≤ 13 → packedVerdicts k (historyOf gcr1 s) ≡ packedJudgments gcr1 words k s
+  pub judgments-judged : numberOf r ≡ 0 → (k : ℕ) → k ≤ 13 → packedVerdicts k (historyOf (editionOf s) s) ≡ packedJudgments (editionOf s) words k s
   unfolding packedVerdicts packedJudgments firstBroken
   judgments-judged z zero l = refl
   judgments-judged z (suc k) l =
-      let v : Verdict = verdict (numbered (k + 1)) (historyOf gcr1 s) in
+      let v : Verdict = verdict (numbered (k + 1)) (historyOf (editionOf s) s) in
       ap₂ (λ (m : List ℕ) (x : ℕ). m ++ (x ∷ [])) (judgments-judged z k (omega arith))
       (verdict-packed (k + 1) v ∙ ap packedJudgment (sym (predicate-judged z (k + 1) (omega arith) (omega arith))))
 
@@ -189,30 +189,30 @@ outcome-fits n h AllMet f = tt
 outcome-fits n h (BrokenAt p a b) f = (omega (arith, f .0), omega (arith, f .1))
 
 module _ (s : List ℕ) where
-  questions-place : placeOf (questions gcr1 s) < 1024
+  questions-place : placeOf (questions (editionOf s) s) < 1024
   unfolding reading
   questions-place = place-small 1024 s
 
-  passed-fits : (ps : List ℕ) → questions gcr1 s ≡ Passed → Fitting (Judged (firstBroken ps (historyOf gcr1 s)))
+  passed-fits : (ps : List ℕ) → questions (editionOf s) s ≡ Passed → Fitting (Judged (firstBroken ps (historyOf (editionOf s) s)))
   unfolding historyOf
-  passed-fits ps q = outcome-fits (countIn s) (passed-count s q) (firstBroken ps (historyOf gcr1 s)) (broken-below (historyOf gcr1 s) ps)
+  passed-fits ps q = outcome-fits (countIn s) (passed-count s q) (firstBroken ps (historyOf (editionOf s) s)) (broken-below (historyOf (editionOf s) s) ps)
 
-  pub judged-fits : (words number : ℕ) (ps : List ℕ) → Fitting (judged gcr1 words number s ps)
+  pub judged-fits : (words number : ℕ) (ps : List ℕ) → Fitting (judged (editionOf s) words number s ps)
   unfolding judged judgedList
   judged-fits words number ps =
-      let r : Reading = questions gcr1 s in
-      let o : Outcome = firstBroken ps (historyOf gcr1 s) in
+      let r : Reading = questions (editionOf s) s in
+      let o : Outcome = firstBroken ps (historyOf (editionOf s) s) in
       let after : Judgment = pick (eqb (numberOf r) 0) (Judged o) (Refused r) in
       pick-into Fitting (leb 1024 words) (pick (isNumber number) after NoSuchNumber) (Refused ShortWork) (λ t.
       pick-into Fitting (isNumber number) after NoSuchNumber (λ u.
       pick-into Fitting (eqb (numberOf r) 0) (Judged o) (Refused r) (λ x. passed-fits ps (number-passed r (eqb-true (numberOf r) 0 x))) (λ x. questions-place))
       (λ u. tt)) (λ t. omega arith)
 
-  pub predicate-fits : (words p : ℕ) → Fitting (predicateJudgment gcr1 words p s)
+  pub predicate-fits : (words p : ℕ) → Fitting (predicateJudgment (editionOf s) words p s)
   unfolding predicateJudgment
   predicate-fits words p = judged-fits words p (p ∷ [])
 
-  pub model-fits : (words m : ℕ) → Fitting (modelJudgment gcr1 words m s)
+  pub model-fits : (words m : ℕ) → Fitting (modelJudgment (editionOf s) words m s)
   unfolding modelJudgment
   model-fits words m = judged-fits words m (listOf m)
 

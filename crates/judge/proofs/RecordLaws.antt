@@ -8,33 +8,33 @@ use borrow.Author.Tests.{eq-eqb}
 use lib.Dec.{leb}
 use lib.ListN.{length, take, drop, take-append-drop, length-append}
 use lib.Seq.{take-at}
-use Rattle.record.specs.Layout.{gcr1, countIn, workWords}
-use Rattle.record.specs.History.{historyOf, Agree}
+use Rattle.record.specs.Layout.{editionOf, countIn, workWords}
+use Rattle.record.specs.History.{historyOf, under, Agree}
 use Rattle.record.specs.Questions.{numberOf, ask, questions, reading}
-use Rattle.record.specs.Words.{slotWords, headWords, visibleWords, workAfter, historyFrom}
+use Rattle.record.specs.Words.{slotWords, headWords, visibleWords, workAfter, historyFrom, termsWords, termsFrom}
 use Rattle.record.specs.declared.Reading.the-variants.{Passed, ShortWork}
 use Rattle.record.proofs.StoresLaws.{Bytes}
 use Rattle.record.proofs.SlotWords.{length-slot-words}
 use Rattle.record.proofs.WorkLaws.{length-visible}
 use Rattle.record.proofs.WordsLaws.{words-agree}
-use Rattle.record.proofs.QuestionsAnswered.{number-passed, passed-count, passed-blocks, passed-site, passed-position, passed-distinct, passed-graph}
+use Rattle.record.proofs.QuestionsAnswered.{number-passed, passed-count, passed-terms, passed-blocks, passed-site, passed-position, passed-distinct, passed-graph}
 use Rattle.events.specs.Given.{Given}
 
--- the words l and v, four an event each, have the n events of the record s
-pub record Told (s : List ℕ) (n : ℕ) (l v : List ℕ) : Type 0 where
+-- the words l and v, four an event each, have the n events of the record s, and q its terms
+pub record Told (s : List ℕ) (n : ℕ) (l v q : List ℕ) : Type 0 where
   pub given : Given n 4 l v
-  pub agree : Agree (historyOf gcr1 s) (historyFrom n 4 l v)
+  pub agree : Agree (historyOf (editionOf s) s) (under (termsFrom q) (historyFrom n 4 l v))
 
 -- where the work slice was long enough too
-pub reading-passed : (w : ℕ) (s : List ℕ) → numberOf (reading gcr1 w s) ≡ 0 → questions gcr1 s ≡ Passed
+pub reading-passed : (w : ℕ) (s : List ℕ) → numberOf (reading (editionOf s) w s) ≡ 0 → questions (editionOf s) s ≡ Passed
 unfolding reading
-reading-passed w s e = go (leb (workWords gcr1) w) e
+reading-passed w s e = go (leb (workWords (editionOf s)) w) e
   where
-    go : (t : Bool) → numberOf (ask t ShortWork (questions gcr1 s)) ≡ 0 → questions gcr1 s ≡ Passed
-    go true e = number-passed (questions gcr1 s) e
+    go : (t : Bool) → numberOf (ask t ShortWork (questions (editionOf s) s)) ≡ 0 → questions (editionOf s) s ≡ Passed
+    go true e = number-passed (questions (editionOf s) s) e
     go false e = absurd (omega arith)
 
-module _ (s : List ℕ) (passed : questions gcr1 s ≡ Passed) where
+module _ (s : List ℕ) (passed : questions (editionOf s) s ≡ Passed) where
   -- ---- what the loading of words asks of the record
 
   pub passed-long : 512 ≤ length s
@@ -49,31 +49,32 @@ module _ (s : List ℕ) (passed : questions gcr1 s ≡ Passed) where
 
   -- ---- the work slice
 
-  pub work-visible : (number : ℕ) (w v : List ℕ) → number ≡ 0 → v ≡ workAfter gcr1 number s w → take 1024 v ≡ visibleWords gcr1 s
+  pub work-visible : (number : ℕ) (w v : List ℕ) → number ≡ 0 → v ≡ workAfter (editionOf s) number s w → take 1024 v ≡ visibleWords (editionOf s) s
   unfolding workAfter
   work-visible number w v z e =
-      let left : v ≡ visibleWords gcr1 s ++ drop 1024 w = rw (eq-eqb number 0 z) at e in
-      ap (take 1024) left ∙ take-at (visibleWords gcr1 s) (drop 1024 w) 1024 (length-visible gcr1 s (passed-count s passed))
+      let left : v ≡ visibleWords (editionOf s) s ++ drop 1024 w = rw (eq-eqb number 0 z) at e in
+      ap (take 1024) left ∙ take-at (visibleWords (editionOf s) s) (drop 1024 w) 1024 (length-visible (editionOf s) s (passed-count s passed))
 
   -- ---- the words: four an event loaded over d, and a slice that begins with the visible sets
 
-  module _ (bytes : Bytes s) (n : ℕ) (counted : n ≡ countIn s) (d l v : List ℕ)
-      (loaded : l ≡ slotWords gcr1 0 4 s n ++ drop (n * 4) d) (begins : take 1024 v ≡ visibleWords gcr1 s) where
-    heads : l ≡ headWords gcr1 s ++ drop (n * 4) d
+  module _ (bytes : Bytes s) (n : ℕ) (counted : n ≡ countIn s) (d l v q : List ℕ)
+      (loaded : l ≡ slotWords (editionOf s) 0 4 s n ++ drop (n * 4) d) (begins : take 1024 v ≡ visibleWords (editionOf s) s)
+      (terms : q ≡ termsWords s) where
+    heads : l ≡ headWords (editionOf s) s ++ drop (n * 4) d
     unfolding headWords
-    heads = loaded ∙ ap (λ (k : ℕ). slotWords gcr1 0 4 s k ++ drop (n * 4) d) counted
+    heads = loaded ∙ ap (λ (k : ℕ). slotWords (editionOf s) 0 4 s k ++ drop (n * 4) d) counted
 
-    sets : v ≡ visibleWords gcr1 s ++ drop 1024 v
+    sets : v ≡ visibleWords (editionOf s) s ++ drop 1024 v
     sets = sym (take-append-drop 1024 v) ∙ ap (λ (t : List ℕ). t ++ drop 1024 v) begins
 
-    same : Agree (historyOf gcr1 s) (historyFrom n 4 l v)
-    same = rw (counted, heads, sets) (words-agree s bytes (passed-count s passed) (drop (n * 4) d) (drop 1024 v))
+    same : Agree (historyOf (editionOf s) s) (under (termsFrom q) (historyFrom n 4 l v))
+    same = rw (counted, heads, sets, terms) (words-agree s bytes (passed-count s passed) (passed-terms s passed) (drop (n * 4) d) (drop 1024 v))
 
-    pub words-told : Told s n l v
+    pub words-told : Told s n l v q
     unfolding historyOf historyFrom
     words-told = record {
       given = record {
-        heads = omega (arith, ap length loaded, length-append (slotWords gcr1 0 4 s n) (drop (n * 4) d), length-slot-words gcr1 0 4 s n);
+        heads = omega (arith, ap length loaded, length-append (slotWords (editionOf s) 0 4 s n) (drop (n * 4) d), length-slot-words (editionOf s) 0 4 s n);
         narrow = omega arith;
         rows = rw (counted, sets) (passed-graph s passed bytes (drop 1024 v));
         sites = λ e i. omega (arith, passed-site s passed e (omega arith), same .site e (omega arith));

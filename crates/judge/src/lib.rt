@@ -10,7 +10,7 @@ ghost use mathlib.Core.Path.{_≡_};
 ghost use mathlib.Core.List.{[], _∷_};
 ghost use Prim.Native.Nat.{_≤_};
 ghost use lib.ListN.{length, take};
-ghost use Rattle.record.specs.Layout.{gcr1};
+ghost use Rattle.record.specs.Layout.{editionOf};
 ghost use Rattle.record.specs.History.{historyOf};
 ghost use Rattle.record.specs.Questions.{numberOf, reading, questions};
 ghost use Rattle.record.specs.Words.{visibleWords, workAfter};
@@ -34,22 +34,24 @@ pub struct AllJudged {
 
 // The outcome of a list of predicates, of a record that passed; v begins with its visible sets.
 fn outcome_of(list: [u8; 4], s: &[u8], v: &[u64]) -> Outcome
-    requires { ⌜ questions gcr1 (now s) ≡ Reading.Passed ⌝ }
-    requires { ⌜ take 1024 (now v) ≡ visibleWords gcr1 (now s) ⌝ }
+    requires { ⌜ questions (editionOf (now s)) (now s) ≡ Reading.Passed ⌝ }
+    requires { ⌜ take 1024 (now v) ≡ visibleWords (editionOf (now s)) (now s) ⌝ }
     requires { ⌜ Numbers list ⌝ }
-    ensures { λ r. ⌜ r ≡ firstBroken (upToZero list) (historyOf gcr1 (now (s .entry))) ⌝ }
+    ensures { λ r. ⌜ r ≡ firstBroken (upToZero list) (historyOf (editionOf (now (s .entry))) (now (s .entry))) ⌝ }
 {
     let n = reader::header::count(s);
     let mut l = [0u64; 1024];
     reader::words::load(s, n, 0, 4, &mut l);
-    lists::first_broken(list, &l, v, n)
+    let mut terms = [0u64; 17];
+    reader::words::load_terms(s, &mut terms);
+    lists::first_broken(list, &l, v, &terms, n)
 }
 
 // Questions 3 to 10, then a list of predicates.
 fn judge_list(list: [u8; 4], s: &[u8], work: &mut [u64]) -> Judgment
     requires { ⌜ (1024 ≤ length (now work)) × Numbers list ⌝ }
-    ensures { λ r. ⌜ r ≡ judgedList gcr1 (now (s .entry)) (upToZero list) ⌝ }
-    ensures { λ r. ⌜ now (work .exit) ≡ workAfter gcr1 (refusedNumber r) (now (s .entry)) (now (work .entry)) ⌝ }
+    ensures { λ r. ⌜ r ≡ judgedList (editionOf (now (s .entry))) (now (s .entry)) (upToZero list) ⌝ }
+    ensures { λ r. ⌜ now (work .exit) ≡ workAfter (editionOf (now (s .entry))) (refusedNumber r) (now (s .entry)) (now (work .entry)) ⌝ }
 {
     let reading = reader::ask(s, work);
     if record::number(reading) != 0 {
@@ -60,9 +62,9 @@ fn judge_list(list: [u8; 4], s: &[u8], work: &mut [u64]) -> Judgment
 
 // Judges a predicate by its number.
 pub fn judge_predicate(number: usize, s: &[u8], work: &mut [u64]) -> Judgment
-    ensures { λ r. ⌜ r ≡ predicateJudgment gcr1 (length (now (work .entry))) number (now (s .entry)) ⌝ }
-    ensures { λ r. ⌜ Exact gcr1 (length (now (work .entry))) number (number ∷ []) (now (s .entry)) r ⌝ }
-    ensures { λ r. ⌜ now (work .exit) ≡ workAfter gcr1 (refusedNumber r) (now (s .entry)) (now (work .entry)) ⌝ }
+    ensures { λ r. ⌜ r ≡ predicateJudgment (editionOf (now (s .entry))) (length (now (work .entry))) number (now (s .entry)) ⌝ }
+    ensures { λ r. ⌜ Exact (editionOf (now (s .entry))) (length (now (work .entry))) number (number ∷ []) (now (s .entry)) r ⌝ }
+    ensures { λ r. ⌜ now (work .exit) ≡ workAfter (editionOf (now (s .entry))) (refusedNumber r) (now (s .entry)) (now (work .entry)) ⌝ }
 {
     if work.len() < 1024 {
         return Judgment::Refused(Reading::ShortWork);
@@ -79,9 +81,9 @@ pub fn judge_predicate(number: usize, s: &[u8], work: &mut [u64]) -> Judgment
 
 // Judges a model by its number.
 pub fn judge_model(number: usize, s: &[u8], work: &mut [u64]) -> Judgment
-    ensures { λ r. ⌜ r ≡ modelJudgment gcr1 (length (now (work .entry))) number (now (s .entry)) ⌝ }
-    ensures { λ r. ⌜ Exact gcr1 (length (now (work .entry))) number (listOf number) (now (s .entry)) r ⌝ }
-    ensures { λ r. ⌜ now (work .exit) ≡ workAfter gcr1 (refusedNumber r) (now (s .entry)) (now (work .entry)) ⌝ }
+    ensures { λ r. ⌜ r ≡ modelJudgment (editionOf (now (s .entry))) (length (now (work .entry))) number (now (s .entry)) ⌝ }
+    ensures { λ r. ⌜ Exact (editionOf (now (s .entry))) (length (now (work .entry))) number (listOf number) (now (s .entry)) r ⌝ }
+    ensures { λ r. ⌜ now (work .exit) ≡ workAfter (editionOf (now (s .entry))) (refusedNumber r) (now (s .entry)) (now (work .entry)) ⌝ }
 {
     if work.len() < 1024 {
         return Judgment::Refused(Reading::ShortWork);
@@ -97,9 +99,9 @@ pub fn judge_model(number: usize, s: &[u8], work: &mut [u64]) -> Judgment
 
 // Reads a record once and judges all thirteen predicates.
 pub fn judge_all(s: &[u8], work: &mut [u64]) -> AllJudged
-    ensures { λ r. ⌜ r .reading ≡ reading gcr1 (length (now (work .entry))) (now (s .entry)) ⌝ }
-    ensures { λ r. ⌜ r .judgments ≡ packedJudgments gcr1 (length (now (work .entry))) 13 (now (s .entry)) ⌝ }
-    ensures { λ r. ⌜ now (work .exit) ≡ workAfter gcr1 (numberOf (r .reading)) (now (s .entry)) (now (work .entry)) ⌝ }
+    ensures { λ r. ⌜ r .reading ≡ reading (editionOf (now (s .entry))) (length (now (work .entry))) (now (s .entry)) ⌝ }
+    ensures { λ r. ⌜ r .judgments ≡ packedJudgments (editionOf (now (s .entry))) (length (now (work .entry))) 13 (now (s .entry)) ⌝ }
+    ensures { λ r. ⌜ now (work .exit) ≡ workAfter (editionOf (now (s .entry))) (numberOf (r .reading)) (now (s .entry)) (now (work .entry)) ⌝ }
 {
     let reading = reader::read(s, work);
     if record::number(reading) != 0 {
@@ -112,6 +114,8 @@ pub fn judge_all(s: &[u8], work: &mut [u64]) -> AllJudged
     let n = reader::header::count(s);
     let mut l = [0u64; 1024];
     reader::words::load(s, n, 0, 4, &mut l);
-    let judgments = thirteen::verdicts(&l, work, n);
+    let mut terms = [0u64; 17];
+    reader::words::load_terms(s, &mut terms);
+    let judgments = thirteen::verdicts(&l, work, &terms, n);
     AllJudged { reading, judgments }
 }

@@ -6,7 +6,9 @@ use consistency::Verdict;
 use tables::groups;
 ghost use mathlib.Core.Path.{_≡_};
 ghost use Prim.Native.Nat.{_≤_};
-ghost use Rattle.record.specs.Words.{historyFrom};
+ghost use lib.ListN.{length};
+ghost use Rattle.record.specs.History.{under};
+ghost use Rattle.record.specs.Words.{historyFrom, termsFrom};
 ghost use Rattle.consistency.specs.Predicates.{numbered};
 ghost use Rattle.consistency.specs.Models.{listOf, firstBroken};
 ghost use Rattle.events.specs.Given.{Given};
@@ -60,9 +62,9 @@ pub fn by_number(k: u8) -> Predicate
 }
 
 // The first broken predicate of a list, with its pair.
-pub fn first_broken(list: [u8; 4], l: &[u64], v: &[u64], n: usize) -> Outcome
-    requires { ⌜ Given n 4 (now l) (now v) × Numbers list ⌝ }
-    ensures { λ r. ⌜ r ≡ firstBroken (upToZero list) (historyFrom n 4 (now (l .entry)) (now (v .entry))) ⌝ }
+pub fn first_broken(list: [u8; 4], l: &[u64], v: &[u64], terms: &[u64], n: usize) -> Outcome
+    requires { ⌜ Given n 4 (now l) (now v) × Numbers list × (17 ≤ length (now terms)) ⌝ }
+    ensures { λ r. ⌜ r ≡ firstBroken (upToZero list) (under (termsFrom (now (terms .entry))) (historyFrom n 4 (now (l .entry)) (now (v .entry)))) ⌝ }
 {
     let mut groups = [0u64; 1036];
     groups::fill(l, n, 4, &mut groups);
@@ -74,7 +76,7 @@ pub fn first_broken(list: [u8; 4], l: &[u64], v: &[u64], n: usize) -> Outcome
             return Outcome::AllMet;
         }
         let p = by_number(number);
-        let found = prepared::judge(p, l, v, n, &groups, &t);
+        let found = prepared::judge(p, l, v, terms, n, &groups, &t);
         if let Verdict::Broken(a, b) = found {
             return Outcome::BrokenAt(number as usize, a, b);
         }

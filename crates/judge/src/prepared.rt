@@ -12,7 +12,8 @@ ghost use mathlib.Core.Bool.{true};
 ghost use Prim.Native.Nat.{_*_, _≤_};
 ghost use lib.ListN.{length, drop};
 ghost use Rattle.rows.specs.Row.{rowAt};
-ghost use Rattle.record.specs.Words.{historyFrom};
+ghost use Rattle.record.specs.History.{under};
+ghost use Rattle.record.specs.Words.{historyFrom, termsFrom};
 ghost use Rattle.consistency.specs.FirstPair.{first};
 ghost use Rattle.consistency.specs.Predicates.{verdict};
 ghost use Rattle.events.specs.Given.{Given, Groups};
@@ -110,16 +111,24 @@ fn within_vis(
 }
 
 // The verdict of one predicate.
-pub fn judge(p: Predicate, l: &[u64], v: &[u64], n: usize, groups: &[u64], t: &[u64]) -> Verdict
-    requires { ⌜ Given n 4 (now l) (now v) × Groups n 4 (now l) (now groups) ⌝ }
+pub fn judge(
+    p: Predicate,
+    l: &[u64],
+    v: &[u64],
+    terms: &[u64],
+    n: usize,
+    groups: &[u64],
+    t: &[u64],
+) -> Verdict
+    requires { ⌜ Given n 4 (now l) (now v) × Groups n 4 (now l) (now groups) × (17 ≤ length (now terms)) ⌝ }
     requires { ⌜ Prepared n 4 (historyFrom n 4 (now l) (now v)) (now t) ⌝ }
-    ensures { λ r. ⌜ r ≡ verdict p (historyFrom n 4 (now (l .entry)) (now (v .entry))) ⌝ }
+    ensures { λ r. ⌜ r ≡ verdict p (under (termsFrom (now (terms .entry))) (historyFrom n 4 (now (l .entry)) (now (v .entry)))) ⌝ }
 {
     let size = n * 4;
     let ar = AR * size;
     let end = ar + size;
     match p {
-        Predicate::RVal => reads::wrong_values(l, v, n, 4, &t[ar..end], groups),
+        Predicate::RVal => reads::wrong_values(l, v, terms, n, 4, &t[ar..end], groups),
         Predicate::SingleOrder => order::first_misplaced(false, l, v, n, 4, &t[ar..end], groups),
         Predicate::RealTime => within_ar(RB, EVERY, EVERY, n, groups, t),
         Predicate::RealTimeWrites => within_ar(RB, WRITES, EVERY, n, groups, t),

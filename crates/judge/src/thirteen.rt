@@ -5,7 +5,9 @@ use consistency::Verdict;
 use tables::groups;
 ghost use mathlib.Core.Path.{_≡_};
 ghost use Prim.Native.Nat.{_≤_};
-ghost use Rattle.record.specs.Words.{historyFrom};
+ghost use lib.ListN.{length};
+ghost use Rattle.record.specs.History.{under};
+ghost use Rattle.record.specs.Words.{historyFrom, termsFrom};
 ghost use Rattle.judge.specs.Lists.{packedVerdict, packedVerdicts};
 ghost use Rattle.events.specs.Given.{Given};
 
@@ -21,9 +23,9 @@ fn pack(v: Verdict) -> u64
 }
 
 // The numbers of the thirteen verdicts, in the paper's order.
-pub fn verdicts(l: &[u64], v: &[u64], n: usize) -> [u64; 13]
-    requires { ⌜ Given n 4 (now l) (now v) ⌝ }
-    ensures { λ r. ⌜ r ≡ packedVerdicts 13 (historyFrom n 4 (now (l .entry)) (now (v .entry))) ⌝ }
+pub fn verdicts(l: &[u64], v: &[u64], terms: &[u64], n: usize) -> [u64; 13]
+    requires { ⌜ Given n 4 (now l) (now v) × (17 ≤ length (now terms)) ⌝ }
+    ensures { λ r. ⌜ r ≡ packedVerdicts 13 (under (termsFrom (now (terms .entry))) (historyFrom n 4 (now (l .entry)) (now (v .entry)))) ⌝ }
 {
     let mut groups = [0u64; 1036];
     groups::fill(l, n, 4, &mut groups);
@@ -32,7 +34,7 @@ pub fn verdicts(l: &[u64], v: &[u64], n: usize) -> [u64; 13]
     let mut answers = [0u64; 13];
     for k in 0..13 {
         let p = lists::by_number(k as u8 + 1);
-        let found = prepared::judge(p, l, v, n, &groups, &t);
+        let found = prepared::judge(p, l, v, terms, n, &groups, &t);
         answers[k] = pack(found);
     }
     answers

@@ -1,16 +1,17 @@
 -- What the words of events say, in the terms in which code reads them. Assumes nothing.
 use mathlib.Core.Path.{_≡_, ap, ap₂, _∙_}
-use mathlib.Core.Bool.{Bool, true, false}
+use mathlib.Core.Bool.{Bool, true, false, _&&_}
 use mathlib.Core.List.{List}
 use Prim.Native.Nat.{ℕ, _+_, _*_, _<_, _≤_}
 use native.Mathlib.Omega.{arith}
 use borrow.Author.Tests.{lt-ltb, le-ltb}
-use lib.Dec.{eqb}
+use lib.Dec.{eqb, ltb}
 use lib.ListN.{length}
 use Rattle.rows.specs.Row.{has}
 use Rattle.rows.proofs.TableLaws.{row-room}
-use Rattle.record.specs.History.{vis}
-use Rattle.record.specs.Words.{objectIn, positionIn, historyFrom}
+use Rattle.record.specs.Terms.{none, value, Terms}
+use Rattle.record.specs.History.{under, vis}
+use Rattle.record.specs.Words.{objectIn, positionIn, historyFrom, figureIn, openingFrom}
 use Rattle.consistency.specs.Relations.{ob, ar}
 use Rattle.consistency.specs.Reads.{held, sameHeld, leftBy}
 use Rattle.events.specs.Given.{Groups, fieldsOf}
@@ -37,12 +38,22 @@ module _ (n w : ℕ) (l v : List ℕ) where
   unfolding ar historyFrom
   is-placed a b x y p q h = lt-ltb (positionIn l a) (positionIn l b) (omega arith)
 
-  -- the fields are all that these read
-  pub held-test : (e : ℕ) (x : Last) (t : Bool) → t ≡ sameHeld (held (fieldsOf l) e) (leftBy (fieldsOf l) x)
-      → t ≡ sameHeld (held (historyFrom n w l v) e) (leftBy (historyFrom n w l v) x)
+  -- the fields and the terms are all that these read
+  pub held-test : (T : Terms) (e : ℕ) (x : Last) (t : Bool) → t ≡ sameHeld (held (fieldsOf l) e) (leftBy (under T (fieldsOf l)) e x)
+      → t ≡ sameHeld (held (under T (historyFrom n w l v)) e) (leftBy (under T (historyFrom n w l v)) e x)
   unfolding historyFrom
-  held-test e Nothing t q = q
-  held-test e (At x) t q = q
+  held-test T e Nothing t q = q
+  held-test T e (At x) t q = q
+
+-- ---- object o's opening in the words of terms
+
+pub no-opening : (q : List ℕ) (o : ℕ) → ltb o 32 && has q (32 + o) ≡ false → openingFrom q o ≡ none
+unfolding openingFrom
+no-opening q o e = rw e
+
+pub an-opening : (q : List ℕ) (o : ℕ) → ltb o 32 && has q (32 + o) ≡ true → openingFrom q o ≡ value (figureIn q o)
+unfolding openingFrom
+an-opening q o e = rw e
 
 -- each row of the groups lies within them
 pub group-room : (n w : ℕ) (l g : List ℕ) → Groups n w l g → (k : ℕ) → k < 259 → k * w + w ≤ length g

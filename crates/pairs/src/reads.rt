@@ -3,11 +3,12 @@ use consistency::Last;
 use consistency::Verdict;
 ghost use mathlib.Core.Path.{_≡_};
 ghost use mathlib.Core.Bool.{true};
-ghost use Prim.Native.Nat.{ℕ, _*_, _^_, _<_, _≤_};
+ghost use Prim.Native.Nat.{ℕ, _+_, _*_, _^_, _<_, _≤_};
 ghost use lib.ListN.{length};
 ghost use Rattle.rows.specs.Row.{has};
 ghost use Rattle.rows.specs.Relation.{Table};
-ghost use Rattle.record.specs.Words.{positionIn, historyFrom};
+ghost use Rattle.record.specs.History.{under};
+ghost use Rattle.record.specs.Words.{objectIn, positionIn, historyFrom, openingFrom, termsFrom};
 ghost use Rattle.consistency.specs.FirstPair.{first};
 ghost use Rattle.consistency.specs.Relations.{ar};
 ghost use Rattle.consistency.specs.Reads.{lastWrite, leftBy, held, sameHeld, lastOr, wrong};
@@ -102,14 +103,29 @@ fn last_write(
     last_of(l, n, w, ars, &mut seen[0..w])
 }
 
-// Whether a read holds what the last write that it sees left.
-fn is_held(l: &[u64], n: usize, e: usize, found: Last) -> bool
-    requires { ⌜ 4 * n ≤ length (now l) ⌝ }
+// Whether a read holds its object's opening, or none where there is none.
+fn holds_opening(l: &[u64], terms: &[u64], e: usize) -> bool
+    requires { ⌜ (4 * e + 4 ≤ length (now l)) × (17 ≤ length (now terms)) ⌝ }
+    ensures { λ r. ⌜ r ≡ sameHeld (held (fieldsOf (now (l .entry))) e) (openingFrom (now (terms .entry)) (objectIn (now (l .entry)) e)) ⌝ }
+{
+    let o = events::object(l, e) as usize;
+    if !events::has_opening(terms, o) {
+        return !events::is_present(l, e);
+    }
+    if !events::is_present(l, e) {
+        return false;
+    }
+    events::value(l, e) == events::opening(terms, o)
+}
+
+// Whether a read holds what the last write that it sees left, or its object's opening where it sees none.
+fn is_held(l: &[u64], terms: &[u64], n: usize, e: usize, found: Last) -> bool
+    requires { ⌜ (4 * n ≤ length (now l)) × (17 ≤ length (now terms)) ⌝ }
     requires { ⌜ (e < n) × FoundBelow n found ⌝ }
-    ensures { λ r. ⌜ r ≡ sameHeld (held (fieldsOf (now (l .entry))) e) (leftBy (fieldsOf (now (l .entry))) found) ⌝ }
+    ensures { λ r. ⌜ r ≡ sameHeld (held (fieldsOf (now (l .entry))) e) (leftBy (under (termsFrom (now (terms .entry))) (fieldsOf (now (l .entry)))) e found) ⌝ }
 {
     match found {
-        Last::Nothing => !events::is_present(l, e),
+        Last::Nothing => holds_opening(l, terms, e),
         Last::At(x) => {
             if !events::is_present(l, e) {
                 return false;
@@ -132,20 +148,21 @@ fn last_or(e: usize, found: Last) -> usize
 pub fn wrong_values(
     l: &[u64],
     v: &[u64],
+    terms: &[u64],
     n: usize,
     w: usize,
     ars: &[u64],
     groups: &[u64],
 ) -> Verdict
-    requires { ⌜ Given n w (now l) (now v) × Groups n w (now l) (now groups) ⌝ }
+    requires { ⌜ Given n w (now l) (now v) × Groups n w (now l) (now groups) × (17 ≤ length (now terms)) ⌝ }
     requires { ⌜ Table n w (ar (fieldsOf (now l))) (now ars) × (n * w ≤ length (now ars)) ⌝ }
-    ensures { λ r. ⌜ r ≡ first n (wrong (historyFrom n w (now (l .entry)) (now (v .entry)))) ⌝ }
+    ensures { λ r. ⌜ r ≡ first n (wrong (under (termsFrom (now (terms .entry))) (historyFrom n w (now (l .entry)) (now (v .entry))))) ⌝ }
 {
     for e in 0..n {
         if !events::is_write(l, e) {
             if !events::is_pending(l, e) {
                 let found = last_write(l, v, n, w, ars, groups, e);
-                if !is_held(l, n, e, found) {
+                if !is_held(l, terms, n, e, found) {
                     return Verdict::Broken(e, last_or(e, found));
                 }
             }

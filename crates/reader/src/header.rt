@@ -1,14 +1,15 @@
 // Questions 3 and 5: the record's length and block 0.
 use record::layout;
+use record::openings;
 use rows::octets;
 ghost use mathlib.Core.Path.{_≡_};
 ghost use Prim.Native.Nat.{_≤_};
 ghost use lib.ListN.{length, take};
-ghost use Rattle.record.specs.Layout.{gcr1, countIn, sitesIn, same};
-ghost use Rattle.record.specs.Questions.{lengthRight, headerRight};
+ghost use Rattle.record.specs.Layout.{editionOf, countIn, sitesIn, same};
+ghost use Rattle.record.specs.Questions.{lengthRight, termsRight, headerRight};
 
 pub fn length_holds(s: &[u8]) -> bool
-    ensures { λ r. ⌜ r ≡ lengthRight gcr1 (now (s .entry)) ⌝ }
+    ensures { λ r. ⌜ r ≡ lengthRight (editionOf (now (s .entry))) (now (s .entry)) ⌝ }
 {
     if s.len() < 512 {
         return false;
@@ -34,11 +35,10 @@ fn sites(s: &[u8]) -> usize
     s[6] as usize
 }
 
-fn has_letters(s: &[u8]) -> bool
+fn has_letters(s: &[u8], letters: [u8; 4]) -> bool
     requires { ⌜ 512 ≤ length (now s) ⌝ }
-    ensures { λ r. ⌜ r ≡ same (take 4 (now (s .entry))) (gcr1 .letters) ⌝ }
+    ensures { λ r. ⌜ r ≡ same (take 4 (now (s .entry))) letters ⌝ }
 {
-    let letters = layout::LETTERS;
     if s[0] != letters[0] {
         return false;
     }
@@ -51,11 +51,39 @@ fn has_letters(s: &[u8]) -> bool
     s[3] == letters[3]
 }
 
+// Whether the letters are an edition's.
+fn is_edition(s: &[u8]) -> bool
+    requires { ⌜ 512 ≤ length (now s) ⌝ }
+    ensures { λ r. ⌜ r ≡ same (take 4 (now (s .entry))) (editionOf (now (s .entry)) .letters) ⌝ }
+{
+    if has_letters(s, layout::GCR2) {
+        return true;
+    }
+    has_letters(s, layout::GCR1)
+}
+
+// The bytes behind the sites.
+fn terms_hold(s: &[u8]) -> bool
+    requires { ⌜ 512 ≤ length (now s) ⌝ }
+    ensures { λ r. ⌜ r ≡ termsRight (editionOf (now (s .entry))) (now (s .entry)) ⌝ }
+{
+    if !has_letters(s, layout::GCR2) {
+        return layout::is_zero(s, 7, 501);
+    }
+    if !layout::is_zero(s, 7, 5) {
+        return false;
+    }
+    if !openings::hold(s, 12) {
+        return false;
+    }
+    layout::is_zero(s, 144, 364)
+}
+
 pub fn header_holds(s: &[u8]) -> bool
     requires { ⌜ 512 ≤ length (now s) ⌝ }
-    ensures { λ r. ⌜ r ≡ headerRight gcr1 (now (s .entry)) ⌝ }
+    ensures { λ r. ⌜ r ≡ headerRight (editionOf (now (s .entry))) (now (s .entry)) ⌝ }
 {
-    if !has_letters(s) {
+    if !is_edition(s) {
         return false;
     }
     if 256 < count(s) {
@@ -68,5 +96,5 @@ pub fn header_holds(s: &[u8]) -> bool
     if 8 < sites {
         return false;
     }
-    layout::is_zero(s, 7, 501)
+    terms_hold(s)
 }

@@ -10,13 +10,13 @@ use record::Reading;
 ghost use mathlib.Core.Path.{_≡_};
 ghost use Prim.Native.Nat.{_≤_};
 ghost use lib.ListN.{length};
-ghost use Rattle.record.specs.Layout.{gcr1};
+ghost use Rattle.record.specs.Layout.{editionOf};
 ghost use Rattle.record.specs.Questions.{numberOf, byteQuestions, questions, reading};
 ghost use Rattle.record.specs.Words.{workAfter};
 
 // Questions 3 to 8, asked of the bytes alone.
 fn ask_bytes(s: &[u8]) -> Reading
-    ensures { λ r. ⌜ r ≡ byteQuestions gcr1 (now (s .entry)) ⌝ }
+    ensures { λ r. ⌜ r ≡ byteQuestions (editionOf (now (s .entry))) (now (s .entry)) ⌝ }
 {
     if !header::length_holds(s) {
         return Reading::WrongLength;
@@ -47,8 +47,8 @@ fn ask_bytes(s: &[u8]) -> Reading
 // Questions 3 to 10, over a work slice that is long enough.
 pub fn ask(s: &[u8], work: &mut [u64]) -> Reading
     requires { ⌜ 1024 ≤ length (now work) ⌝ }
-    ensures { λ r. ⌜ r ≡ questions gcr1 (now (s .entry)) ⌝ }
-    ensures { λ r. ⌜ now (work .exit) ≡ workAfter gcr1 (numberOf r) (now (s .entry)) (now (work .entry)) ⌝ }
+    ensures { λ r. ⌜ r ≡ questions (editionOf (now (s .entry))) (now (s .entry)) ⌝ }
+    ensures { λ r. ⌜ now (work .exit) ≡ workAfter (editionOf (now (s .entry))) (numberOf r) (now (s .entry)) (now (work .entry)) ⌝ }
 {
     let bytes = ask_bytes(s);
     if record::number(bytes) != 0 {
@@ -61,8 +61,8 @@ pub fn ask(s: &[u8], work: &mut [u64]) -> Reading
 
 // Question 1, then 3 to 10.
 pub fn read(s: &[u8], work: &mut [u64]) -> Reading
-    ensures { λ r. ⌜ r ≡ reading gcr1 (length (now (work .entry))) (now (s .entry)) ⌝ }
-    ensures { λ r. ⌜ now (work .exit) ≡ workAfter gcr1 (numberOf r) (now (s .entry)) (now (work .entry)) ⌝ }
+    ensures { λ r. ⌜ r ≡ reading (editionOf (now (s .entry))) (length (now (work .entry))) (now (s .entry)) ⌝ }
+    ensures { λ r. ⌜ now (work .exit) ≡ workAfter (editionOf (now (s .entry))) (numberOf r) (now (s .entry)) (now (work .entry)) ⌝ }
 {
     if work.len() < 1024 {
         return Reading::ShortWork;

@@ -5,7 +5,7 @@ ghost use mathlib.Core.Path.{_≡_};
 ghost use Prim.Native.Nat.{_+_, _*_, _/_, _≤_, _<_};
 ghost use lib.ListN.{length};
 ghost use Rattle.rows.specs.Lowest.{lowest};
-ghost use Rattle.record.specs.Layout.{gcr1, countIn};
+ghost use Rattle.record.specs.Layout.{editionOf, countIn};
 ghost use Rattle.record.specs.History.{historyOf};
 ghost use Rattle.record.specs.Questions.{wrongPosition};
 
@@ -14,7 +14,7 @@ pub fn wrong_position(s: &[u8], n: usize) -> usize
     requires { ⌜ n ≡ countIn (now s) ⌝ }
     requires { ⌜ 512 * (1 + (n + 6) / 7) ≤ length (now s) ⌝ }
     requires { ⌜ n ≤ 512 ⌝ }
-    ensures { λ r. ⌜ r ≡ lowest n (wrongPosition (historyOf gcr1 (now (s .entry)))) ⌝ }
+    ensures { λ r. ⌜ r ≡ lowest n (wrongPosition (historyOf (editionOf (now (s .entry))) (now (s .entry)))) ⌝ }
 {
     let mut taken = [0u64; 8];
     let mut at: usize = 512;

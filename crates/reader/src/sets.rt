@@ -8,7 +8,7 @@ ghost use mathlib.Core.List.{_++_};
 ghost use Prim.Native.Nat.{_+_, _*_, _/_, _≤_, min};
 ghost use lib.ListN.{length, drop};
 ghost use Rattle.rows.specs.Lowest.{lowest};
-ghost use Rattle.record.specs.Layout.{gcr1, countIn};
+ghost use Rattle.record.specs.Layout.{editionOf, countIn};
 ghost use Rattle.record.specs.History.{historyOf, vis};
 ghost use Rattle.record.specs.Questions.{numberOf, wrongSet, setQuestions};
 ghost use Rattle.record.specs.Words.{slotWords, workAfter};
@@ -19,8 +19,8 @@ fn load_sets(s: &[u8], n: usize, table: &mut [u64]) -> usize
     requires { ⌜ n ≤ 256 ⌝ }
     requires { ⌜ 512 * (1 + (n + 6) / 7) ≤ length (now s) ⌝ }
     requires { ⌜ n * 4 ≤ length (now table) ⌝ }
-    ensures { λ r. ⌜ r ≡ lowest n (wrongSet 4 n (vis (historyOf gcr1 (now (s .entry))))) ⌝ }
-    ensures { λ r. ⌜ now (table .exit) ≡ slotWords gcr1 32 4 (now (s .entry)) (min n (r + 1)) ++ drop (min n (r + 1) * 4) (now (table .entry)) ⌝ }
+    ensures { λ r. ⌜ r ≡ lowest n (wrongSet 4 n (vis (historyOf (editionOf (now (s .entry))) (now (s .entry))))) ⌝ }
+    ensures { λ r. ⌜ now (table .exit) ≡ slotWords (editionOf (now (s .entry))) 32 4 (now (s .entry)) (min n (r + 1)) ++ drop (min n (r + 1) * 4) (now (table .entry)) ⌝ }
 {
     let mut below = [0u64; 4];
     rows::fill_below(&mut below, n);
@@ -45,8 +45,8 @@ pub fn ask(s: &[u8], n: usize, table: &mut [u64]) -> Reading
     requires { ⌜ (n ≡ countIn (now s)) × (n ≤ 256) ⌝ }
     requires { ⌜ 512 * (1 + (n + 6) / 7) ≤ length (now s) ⌝ }
     requires { ⌜ 1024 ≤ length (now table) ⌝ }
-    ensures { λ r. ⌜ r ≡ setQuestions gcr1 n (vis (historyOf gcr1 (now (s .entry)))) ⌝ }
-    ensures { λ r. ⌜ now (table .exit) ≡ workAfter gcr1 (numberOf r) (now (s .entry)) (now (table .entry)) ⌝ }
+    ensures { λ r. ⌜ r ≡ setQuestions (editionOf (now (s .entry))) n (vis (historyOf (editionOf (now (s .entry))) (now (s .entry)))) ⌝ }
+    ensures { λ r. ⌜ now (table .exit) ≡ workAfter (editionOf (now (s .entry))) (numberOf r) (now (s .entry)) (now (table .entry)) ⌝ }
 {
     let set = load_sets(s, n, table);
     if set < n {

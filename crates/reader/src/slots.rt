@@ -7,7 +7,7 @@ ghost use mathlib.Core.Bool.{not};
 ghost use Prim.Native.Nat.{ℕ, _+_, _*_, _-_, _/_, _≤_, _<_};
 ghost use lib.ListN.{length};
 ghost use Rattle.rows.specs.Lowest.{lowest};
-ghost use Rattle.record.specs.Layout.{gcr1, countIn, slotAt};
+ghost use Rattle.record.specs.Layout.{editionOf, countIn, slotAt};
 ghost use Rattle.record.specs.Slots.{placeRight, valueRight, timesRight, gapsRight, eventRight, tailRight, slotRight};
 ghost use Rattle.record.specs.Questions.{slotsIn};
 
@@ -88,7 +88,7 @@ fn event_holds(s: &[u8], at: usize) -> bool
 // 128 bytes or more into its block, so that one mask tells them apart.
 fn tail_holds(s: &[u8], at: usize) -> bool
     requires { ⌜ at + 128 ≤ length (now s) ⌝ }
-    ensures { λ r. ⌜ ((e : ℕ) → at ≡ slotAt gcr1 e → r ≡ tailRight gcr1 (now (s .entry)) e) ⌝ }
+    ensures { λ r. ⌜ ((e : ℕ) → at ≡ slotAt (editionOf (now (s .entry))) e → r ≡ tailRight (editionOf (now (s .entry))) (now (s .entry)) e) ⌝ }
 {
     if 128 <= (at + 128) % 512 {
         return true;
@@ -99,9 +99,9 @@ fn tail_holds(s: &[u8], at: usize) -> bool
 // Slot e, which starts at `at`.
 fn slot_holds(s: &[u8], n: usize, e: usize, at: usize) -> bool
     requires { ⌜ n ≡ countIn (now s) ⌝ }
-    requires { ⌜ at ≡ slotAt gcr1 e ⌝ }
+    requires { ⌜ at ≡ slotAt (editionOf (now s)) e ⌝ }
     requires { ⌜ 512 * (1 + e / 7) + 512 ≤ length (now s) ⌝ }
-    ensures { λ r. ⌜ r ≡ slotRight gcr1 (now (s .entry)) e ⌝ }
+    ensures { λ r. ⌜ r ≡ slotRight (editionOf (now (s .entry))) (now (s .entry)) e ⌝ }
 {
     if e < n {
         if !event_holds(s, at) {
@@ -119,7 +119,7 @@ fn slot_holds(s: &[u8], n: usize, e: usize, at: usize) -> bool
 pub fn wrong_slot(s: &[u8], n: usize) -> usize
     requires { ⌜ n ≡ countIn (now s) ⌝ }
     requires { ⌜ 512 ≤ length (now s) ⌝ }
-    ensures { λ r. ⌜ r ≡ lowest (slotsIn gcr1 (now (s .entry))) (λ e. not (slotRight gcr1 (now (s .entry)) e)) ⌝ }
+    ensures { λ r. ⌜ r ≡ lowest (slotsIn (editionOf (now (s .entry))) (now (s .entry))) (λ e. not (slotRight (editionOf (now (s .entry))) (now (s .entry)) e)) ⌝ }
 {
     let slots = 7 * (s.len() / 512 - 1);
     let mut at: usize = 512;

@@ -1,19 +1,19 @@
-// A record's slots as 64-bit words, from which judges read fields.
+// A record as 64-bit words, from which judges read fields.
 use record::layout;
 use rows::octets;
 ghost use mathlib.Core.Path.{_≡_};
 ghost use mathlib.Core.List.{_++_};
 ghost use Prim.Native.Nat.{_+_, _*_, _/_, _≤_};
 ghost use lib.ListN.{length, drop};
-ghost use Rattle.record.specs.Layout.{gcr1};
-ghost use Rattle.record.specs.Words.{slotWords};
+ghost use Rattle.record.specs.Layout.{editionOf};
+ghost use Rattle.record.specs.Words.{slotWords, termsWords};
 
 // w words from byte `off` of each of the first n slots.
 pub fn load(s: &[u8], n: usize, off: usize, w: usize, out: &mut [u64])
     requires { ⌜ 512 * (1 + (n + 6) / 7) ≤ length (now s) ⌝ }
     requires { ⌜ off + 8 * w ≤ 64 ⌝ }
     requires { ⌜ n * w ≤ length (now out) ⌝ }
-    ensures { λ _. ⌜ now (out .exit) ≡ slotWords gcr1 off w (now (s .entry)) n ++ drop (n * w) (now (out .entry)) ⌝ }
+    ensures { λ _. ⌜ now (out .exit) ≡ slotWords (editionOf (now (s .entry))) off w (now (s .entry)) n ++ drop (n * w) (now (out .entry)) ⌝ }
 {
     let mut slot: usize = 512;
     for e in 0..n {
@@ -22,4 +22,12 @@ pub fn load(s: &[u8], n: usize, off: usize, w: usize, out: &mut [u64])
         octets::load(&mut out[at..end], s, slot + off);
         slot = layout::next_slot(slot);
     }
+}
+
+// What block 0 says beside count and sites, as 17 words.
+pub fn load_terms(s: &[u8], out: &mut [u64])
+    requires { ⌜ (512 ≤ length (now s)) × (length (now out) ≡ 17) ⌝ }
+    ensures { λ _. ⌜ now (out .exit) ≡ termsWords (now (s .entry)) ⌝ }
+{
+    octets::load(out, s, 8);
 }

@@ -1,6 +1,6 @@
 -- The record of a well-formed history passes every check, and says what the history says. Assumes nothing.
 use mathlib.Core.Path.{_≡_, refl, sym, ap, ap₂, _∙_}
-use mathlib.Core.Bool.{Bool, true, false, not, cond, _&&_, _||_}
+use mathlib.Core.Bool.{Bool, true, false, not, cond, _&&_, _||_, true≢false}
 use mathlib.Core.List.{List, [], _∷_, _++_}
 use Prim.Native.Nat.{ℕ, _+_, _*_, _-_, _/_, _%_, _<_, _≤_}
 use native.Mathlib.Omega.{arith}
@@ -11,24 +11,26 @@ use lib.Seq.{ext-getD, getD-take, length-take-le}
 use borrow.Author.Tests.{eq-eqb, ne-eqb, eqb-true, lt-ltb, le-ltb, le-leb, lt-leb, leb-true}
 use Rattle.rows.specs.Octets.{hasByte}
 use Rattle.rows.specs.Relation.{Rel}
-use Rattle.rows.proofs.Tests.{tell, never, and-both, and-left, and-right, or-elim, or-right}
+use Rattle.rows.proofs.Tests.{split, tell, never, and-both, and-left, and-right, or-elim, or-right}
 use Rattle.rows.proofs.LowestLaws.{none-some}
 use Rattle.rows.proofs.ReachLaws.{reaches-same}
 use Rattle.record.specs.declared.Reading.{Reading}
 use Rattle.record.specs.declared.Reading.the-variants.{Passed, WrongLength, WrongCheck, WrongHeader, WrongBlocks, WrongSlot, WrongPosition, WrongSet, OnRing}
-use Rattle.record.specs.Layout.{Layout, gcr1, byte, countIn, sitesIn, slotAt, tailAt, zeros, same}
+use Rattle.record.specs.Layout.{Layout, edition, gcr2, editionOf, byte, countIn, sitesIn, slotAt, tailAt, zeros, same}
+use Rattle.record.specs.Terms.{none, openingIn, openingsRight, termsIn, SameTerms}
 use Rattle.record.specs.Blocks.{blockRight}
 use Rattle.record.specs.History.{History, historyOf, vis, Agree}
 use Rattle.record.specs.Slots.{eventRight, tailRight, slotRight}
-use Rattle.record.specs.Questions.{lengthRight, headerRight, blocksRight, slotsIn, wrongPosition, wrongSet, onRing, andThen, byteQuestions, setQuestions, questions}
+use Rattle.record.specs.Questions.{lengthRight, termsRight, headerRight, blocksRight, slotsIn, wrongPosition, wrongSet, onRing, andThen, byteQuestions, setQuestions, questions}
 use Rattle.record.specs.Encode.{littleBytes, blocksFor, recordBytes}
 use Rattle.record.specs.WellFormed.{WellFormed}
 use Rattle.record.proofs.AskLaws.{ask-yes, each-yes}
 use Rattle.record.proofs.StoresLaws.{Stands, stands-head, stands-front, stands-back, Bytes}
 use Rattle.record.proofs.NumberBytes.{length-little, little-stands, zeros-stand, bit-is}
-use Rattle.record.proofs.SoundLayout.{Sound, gcr1-sound, blocks-most}
+use Rattle.record.proofs.OpeningLaws.{opening-back, openings-pass}
+use Rattle.record.proofs.SoundLayout.{Sound, edition-sound, blocks-most}
 use Rattle.record.proofs.SlotImage.{Laid, slot-laid, event-laid}
-use Rattle.record.proofs.ImageLaws.{length-record, record-right, header-stands, slot-stands, header-rest, slot-empty, tail-empty, bytes-record}
+use Rattle.record.proofs.ImageLaws.{length-record, record-right, header-stands, openings-stand, slot-stands, header-rest, slot-empty, tail-empty, bytes-record}
 
 same-list : (l : List ℕ) → same l l ≡ true
 unfolding same
@@ -76,6 +78,34 @@ module _ (L : Layout) (ok : Sound L) (sites : ℕ) (h : History) (good : WellFor
   unfolding historyOf
   sees-back e b l m = ap (λ (t : Bool). t && hasByte s (slotAt L e + 32) b) (lt-ltb b (64 * L .row) m) ∙ laid e l .sees b m
 
+  -- ---- what block 0 says of terms
+
+  terms-back : SameTerms (h .terms) (termsIn L (recordBytes L sites h))
+  terms-back = record {
+    opening = λ o.
+        split (L .openings)
+        (λ e.
+        sym (ap (λ (b : Bool). cond b (openingIn s 12 o) none) e
+        ∙ opening-back (h .terms .opening) s 12 (good .terms .value) (openings-stand L ok h sites e) (good .terms .above) o))
+        (λ e. good .terms .lacking e o ∙ sym (ap (λ (b : Bool). cond b (openingIn s 12 o) none) e));
+  }
+
+  terms-yes : termsRight L (recordBytes L sites h) ≡ true
+  unfolding termsRight
+  terms-yes =
+      let with : Bool = zeros 5 s 7 && (openingsRight s 12 && zeros 364 s 144) in
+      split (L .openings)
+      (λ e.
+      ap (λ (b : Bool). cond b with (zeros 501 s 7)) e
+      ∙ (and-both (zeros 5 s 7) (openingsRight s 12 && zeros 364 s 144)
+      (zeros-stand 5 s 7 (λ j l. header-rest L ok h sites (7 + j) (omega arith) (omega arith) (λ o x y. omega arith)))
+      (and-both (openingsRight s 12) (zeros 364 s 144)
+      (openings-pass (h .terms .opening) s 12 (good .terms .value) (openings-stand L ok h sites e))
+      (zeros-stand 364 s 144 (λ j l. header-rest L ok h sites (144 + j) (omega arith) (omega arith) (λ o x y. omega arith))))))
+      (λ e.
+      ap (λ (b : Bool). cond b with (zeros 501 s 7)) e
+      ∙ (zeros-stand 501 s 7 (λ j l. header-rest L ok h sites (7 + j) (omega arith) (omega arith) (λ o. absurd (true≢false (sym o ∙ e))))))
+
   pub encoded-agrees : Agree h (historyOf L (recordBytes L sites h))
   unfolding historyOf
   encoded-agrees = record {
@@ -90,6 +120,7 @@ module _ (L : Layout) (ok : Sound L) (sites : ℕ) (h : History) (good : WellFor
     start = λ e l. sym (laid e l .start);
     return = λ e l. sym (laid e l .return);
     sees = λ e b l m. sym (sees-back e b l (omega (arith, good .count, ok .wide)));
+    terms = terms-back;
   }
 
   -- ---- questions 3 to 6
@@ -112,18 +143,21 @@ module _ (L : Layout) (ok : Sound L) (sites : ℕ) (h : History) (good : WellFor
   checks-yes : (k : ℕ) → k < length (recordBytes L sites h) / 512 → not (blockRight (recordBytes L sites h) k) ≡ false
   checks-yes k l = ap not (record-right L ok h sites k (omega (arith, blocks-back)))
 
+  letters-yes : same (take 4 (recordBytes L sites h)) (L .letters) ≡ true
+  letters-yes = ap (λ (l : List ℕ). same l (L .letters)) letters-back ∙ same-list (L .letters)
+
   header-yes : headerRight L (recordBytes L sites h) ≡ true
   unfolding headerRight
   header-yes =
-      and-both (same (take 4 s) (L .letters)) (leb (countIn s) (L .events) && (leb 1 (sitesIn s) && (leb (sitesIn s) 8 && zeros 501 s 7)))
-      (ap (λ (l : List ℕ). same l (L .letters)) letters-back ∙ same-list (L .letters))
-      (and-both (leb (countIn s) (L .events)) (leb 1 (sitesIn s) && (leb (sitesIn s) 8 && zeros 501 s 7))
+      and-both (same (take 4 s) (L .letters)) (leb (countIn s) (L .events) && (leb 1 (sitesIn s) && (leb (sitesIn s) 8 && termsRight L s)))
+      letters-yes
+      (and-both (leb (countIn s) (L .events)) (leb 1 (sitesIn s) && (leb (sitesIn s) 8 && termsRight L s))
       (le-leb (countIn s) (L .events) (omega (arith, count-back, good .count)))
-      (and-both (leb 1 (sitesIn s)) (leb (sitesIn s) 8 && zeros 501 s 7)
+      (and-both (leb 1 (sitesIn s)) (leb (sitesIn s) 8 && termsRight L s)
       (le-leb 1 (sitesIn s) (omega (arith, sites-back, good .least)))
-      (and-both (leb (sitesIn s) 8) (zeros 501 s 7)
+      (and-both (leb (sitesIn s) 8) (termsRight L s)
       (le-leb (sitesIn s) 8 (omega (arith, sites-back, good .most)))
-      (zeros-stand 501 s 7 (header-rest L ok h sites)))))
+      terms-yes)))
 
   blocks-yes : blocksRight L (recordBytes L sites h) ≡ true
   unfolding blocksRight
@@ -235,6 +269,10 @@ encoded L ok sites h good = record {
   bytes = bytes-record L ok h sites good;
 }
 
--- in the edition `GCR1`
-pub gcr1-encoded : (sites : ℕ) (h : History) → WellFormed gcr1 sites h → Encoded gcr1 sites h
-gcr1-encoded = encoded gcr1 gcr1-sound
+-- a `GCR2`
+pub gcr2-encoded : (sites : ℕ) (h : History) → WellFormed gcr2 sites h → Encoded gcr2 sites h
+gcr2-encoded = encoded gcr2 (edition-sound true)
+
+-- its letters say so
+pub gcr2-back : (sites : ℕ) (h : History) → WellFormed gcr2 sites h → editionOf (recordBytes gcr2 sites h) ≡ gcr2
+gcr2-back sites h good = ap edition (letters-yes gcr2 (edition-sound true) sites h good)

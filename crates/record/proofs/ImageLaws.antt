@@ -1,22 +1,47 @@
 -- The bytes of a record, found by place: block 0, the slots, and zero everywhere else but in the checks. Assumes nothing.
 use mathlib.Core.Path.{_≡_, refl, sym, _∙_}
-use mathlib.Core.Bool.{true}
+use mathlib.Core.Bool.{Bool, true, false}
 use mathlib.Core.List.{List, [], _∷_, _++_}
 use Prim.Native.Nat.{ℕ, zero, suc, _+_, _*_, _-_, _%_, _<_, _≤_}
 use native.Mathlib.Omega.{arith}
 use native.Mathlib.Decide.{decLt}
 use lib.ListN.{length, getD, replicate, length-append, length-replicate}
 use lib.Seq.{sets, length-sets}
+use Rattle.rows.proofs.Tests.{split}
 use Rattle.record.specs.Layout.{Layout, byte, slotAt, tailAt}
 use Rattle.record.specs.Blocks.{blockRight}
+use Rattle.record.specs.Terms.{Terms}
 use Rattle.record.specs.History.{History}
 use Rattle.record.specs.WellFormed.{WellFormed}
-use Rattle.record.specs.Encode.{littleBytes, slotBytes, blocksFor, headerBytes, withSlots, unsealed, recordBytes}
+use Rattle.record.specs.Encode.{littleBytes, slotBytes, blocksFor, headerBytes, openingBytes, withTerms, withSlots, unsealed, recordBytes}
 use Rattle.record.proofs.StoresLaws.{Stands, Outside, getD-sets-outside, getD-sets-inside, zero-at, Bytes, bytes-nil, bytes-cons, bytes-append, bytes-zero, bytes-sets}
 use Rattle.record.proofs.NumberBytes.{length-little, bytes-little}
+use Rattle.record.proofs.OpeningLaws.{length-openings, bytes-openings}
 use Rattle.record.proofs.SealLaws.{length-sealed, sealed-outside, sealed-right, bytes-sealed}
 use Rattle.record.proofs.SoundLayout.{Sound, slot-unchecked, slots-apart, tail-apart, slot-inside}
 use Rattle.record.proofs.SlotImage.{length-slot, bytes-slot}
+
+-- ---- the terms written
+
+module _ (L : Layout) (t : Terms) (s : List ℕ) where
+  length-terms : length (withTerms L t s) ≡ length s
+  unfolding withTerms
+  length-terms = split (L .openings) (λ e. rw e (length-sets s 12 (openingBytes (t .opening)))) (λ e. rw e)
+
+  terms-outside : (p : ℕ) → (L .openings ≡ true → Outside p 12 132) → getD (withTerms L t s) p 0 ≡ getD s p 0
+  unfolding withTerms
+  terms-outside p out =
+      split (L .openings)
+      (λ e. rw e (getD-sets-outside (openingBytes (t .opening)) s 12 p (rw length-openings (out e))))
+      (λ e. rw e)
+
+  terms-inside : L .openings ≡ true → 144 ≤ length s → Stands (withTerms L t s) 12 (openingBytes (t .opening))
+  unfolding withTerms
+  terms-inside e long = rw e (getD-sets-inside (openingBytes (t .opening)) s 12 (omega (arith, length-openings (t .opening))))
+
+  bytes-terms : Bytes s → Bytes (withTerms L t s)
+  unfolding withTerms
+  bytes-terms b = split (L .openings) (λ e. rw e (bytes-sets (openingBytes (t .opening)) s 12 b (bytes-openings (t .opening)))) (λ e. rw e b)
 
 module _ (L : Layout) (ok : Sound L) (h : History) where
   pub slot-size : (e : ℕ) → length (slotBytes L h e) ≡ L .slot
@@ -81,12 +106,19 @@ module _ (L : Layout) (ok : Sound L) (h : History) where
           ok .letters,
         )
 
-    pub length-begun : length (sets blank 0 header) ≡ 512 * blocksFor L n
-    length-begun = length-sets blank 0 header ∙ length-replicate {A = ℕ} (512 * blocksFor L n) 0
+    pub length-blank : length (sets blank 0 header) ≡ 512 * blocksFor L n
+    length-blank = length-sets blank 0 header ∙ length-replicate {A = ℕ} (512 * blocksFor L n) 0
+
+    -- block 0
+    abbrev begun : List ℕ
+    begun = withTerms L (h .terms) (sets blank 0 header)
+
+    pub length-begun : length begun ≡ 512 * blocksFor L n
+    length-begun = length-terms L (h .terms) (sets blank 0 header) ∙ length-blank
 
     pub length-unsealed : length (unsealed L sites h) ≡ 512 * blocksFor L n
     unfolding unsealed
-    length-unsealed = length-slots n (sets blank 0 header) ∙ length-begun
+    length-unsealed = length-slots n begun ∙ length-begun
 
     pub length-record : length (recordBytes L sites h) ≡ 512 * blocksFor L (h .count)
     unfolding recordBytes
@@ -98,19 +130,27 @@ module _ (L : Layout) (ok : Sound L) (h : History) where
 
     -- a byte that is no check's and no slot's
     begun-at : (p : ℕ) → p % 512 < 508 → ((e : ℕ) → e < n → Outside p (slotAt L e) (L .slot))
-        → byte (recordBytes L sites h) p ≡ byte (sets blank 0 header) p
+        → byte (recordBytes L sites h) p ≡ byte (withTerms L (h .terms) (sets (replicate (512 * blocksFor L (h .count)) 0) 0 (headerBytes L (h .count) sites))) p
     unfolding recordBytes unsealed
-    begun-at p free out = sealed-outside (blocksFor L n) (unsealed L sites h) p free ∙ slots-outside n (sets blank 0 header) p out
+    begun-at p free out = sealed-outside (blocksFor L n) (unsealed L sites h) p free ∙ slots-outside n begun p out
 
     pub header-stands : Stands (recordBytes L sites h) 0 (headerBytes L (h .count) sites)
     header-stands j l =
         begun-at (0 + j) (omega (arith, length-header)) (λ e m x y. omega (arith, length-header))
+        ∙ terms-outside L (h .terms) (sets blank 0 header) (0 + j) (λ o x y. omega (arith, length-header))
         ∙ getD-sets-inside header blank 0 (omega (arith, length-header, length-replicate {A = ℕ} (512 * blocksFor L n) 0)) j l
 
-    -- nor of block 0's first seven
-    pub zero-elsewhere : (p : ℕ) → 7 ≤ p → p % 512 < 508 → ((e : ℕ) → e < h .count → Outside p (slotAt L e) (L .slot)) → byte (recordBytes L sites h) p ≡ 0
-    zero-elsewhere p past free out =
+    pub openings-stand : L .openings ≡ true → Stands (recordBytes L sites h) 12 (openingBytes (h .terms .opening))
+    openings-stand o j l =
+        begun-at (12 + j) (omega (arith, length-openings (h .terms .opening))) (λ e m x y. omega (arith, length-openings (h .terms .opening)))
+        ∙ terms-inside L (h .terms) (sets blank 0 header) o (omega (arith, length-blank)) j l
+
+    -- nor of block 0's first seven, nor the openings'
+    pub zero-elsewhere : (p : ℕ) → 7 ≤ p → (L .openings ≡ true → Outside p 12 132) → p % 512 < 508
+        → ((e : ℕ) → e < h .count → Outside p (slotAt L e) (L .slot)) → byte (recordBytes L sites h) p ≡ 0
+    zero-elsewhere p past apart free out =
         begun-at p free out
+        ∙ terms-outside L (h .terms) (sets blank 0 header) p apart
         ∙ getD-sets-outside header blank 0 p (λ x y. omega (arith, length-header))
         ∙ zero-at (512 * blocksFor L n) p
 
@@ -118,24 +158,26 @@ module _ (L : Layout) (ok : Sound L) (h : History) where
     unfolding recordBytes unsealed
     slot-stands e l j q =
         sealed-outside (blocksFor L n) (unsealed L sites h) (slotAt L e + j) (slot-unchecked L ok e j (omega (arith, slot-size e)))
-        ∙ slots-inside n (sets blank 0 header) (λ d m. omega (arith, length-begun, slot-inside L ok n d m)) e l j q
+        ∙ slots-inside n begun (λ d m. omega (arith, length-begun, slot-inside L ok n d m)) e l j q
 
-    pub header-rest : (j : ℕ) → j < 501 → byte (recordBytes L sites h) (7 + j) ≡ 0
-    header-rest j l = zero-elsewhere (7 + j) (omega arith) (omega arith) (λ e m x y. omega arith)
+    -- the bytes of block 0 behind the sites
+    pub header-rest : (p : ℕ) → 7 ≤ p → p < 508 → (L .openings ≡ true → Outside p 12 132) → byte (recordBytes L sites h) p ≡ 0
+    header-rest p past l apart = zero-elsewhere p past apart (omega arith) (λ e m x y. omega arith)
 
     pub slot-empty : (e j : ℕ) → h .count ≤ e → j < L .slot → byte (recordBytes L sites h) (slotAt L e + j) ≡ 0
     slot-empty e j past l =
-        zero-elsewhere (slotAt L e + j) (omega arith) (slot-unchecked L ok e j l) (λ d m. slots-apart L ok e d j l (λ x. omega arith))
+        zero-elsewhere (slotAt L e + j) (omega arith) (λ o x y. omega arith) (slot-unchecked L ok e j l) (λ d m. slots-apart L ok e d j l (λ x. omega arith))
 
     pub tail-empty : (e j : ℕ) → j < 508 - L .slot * L .perBlock → byte (recordBytes L sites h) (tailAt L e + j) ≡ 0
-    tail-empty e j l = zero-elsewhere (tailAt L e + j) (omega arith) (omega (arith, ok .room)) (λ d m. tail-apart L ok d e j l)
+    tail-empty e j l = zero-elsewhere (tailAt L e + j) (omega arith) (λ o x y. omega arith) (omega (arith, ok .room)) (λ d m. tail-apart L ok d e j l)
 
     pub bytes-record : WellFormed L sites h → Bytes (recordBytes L sites h)
     unfolding recordBytes unsealed
     bytes-record good =
         bytes-sealed (blocksFor L n) (unsealed L sites h)
-        (bytes-slots n (sets blank 0 header)
+        (bytes-slots n begun
+        (bytes-terms L (h .terms) (sets blank 0 header)
         (bytes-sets header blank 0 (bytes-zero (512 * blocksFor L n))
         (bytes-append (L .letters) (littleBytes 2 n ++ (sites ∷ [])) (ok .letterBytes)
-        (bytes-append (littleBytes 2 n) (sites ∷ []) (bytes-little 2 n) (bytes-cons sites [] (omega (arith, good .most)) bytes-nil))))
+        (bytes-append (littleBytes 2 n) (sites ∷ []) (bytes-little 2 n) (bytes-cons sites [] (omega (arith, good .most)) bytes-nil)))))
         (λ e l. bytes-slot L sites h e (omega (arith, good .most)) (good .event e l)))

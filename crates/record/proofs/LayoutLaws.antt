@@ -1,15 +1,16 @@
 -- Laws of bytes that are zero, and of the four letters that begin a record. Assumes nothing.
-use mathlib.Core.Path.{_≡_, ap, sym, _∙_}
-use mathlib.Core.Bool.{Bool, _&&_, and-true, and-assoc}
+use mathlib.Core.Path.{_≡_, refl, sym, ap, ap₂, _∙_}
+use mathlib.Core.Bool.{Bool, true, false, _&&_, and-true, and-assoc, true≢false}
 use mathlib.Core.List.{List, [], _∷_}
 use Prim.Native.Nat.{ℕ, zero, suc, _+_, _-_, _<_, _≤_}
 use native.Mathlib.Nat.{sub-zero, add-zero}
 use native.Mathlib.Omega.{arith}
-use borrow.Author.Tests.{ne-eqb}
+use borrow.Author.Tests.{eqb-true, ne-eqb}
 use lib.Bits.{bitOr, or-zero-l, or-add-and, and-le-r}
 use lib.Dec.{eqb}
 use lib.ListN.{length, take}
-use Rattle.record.specs.Layout.{byte, zeros, same}
+use Rattle.rows.proofs.Tests.{and-left, and-right}
+use Rattle.record.specs.Layout.{edition, gcr1, gcr2, editionOf, byte, zeros, same}
 
 -- ---- a loop's turn: `all` is the bytes passed, put together, and k - i are left
 
@@ -38,11 +39,43 @@ zeros-end k s at i all h = let none : k - i ≡ 0 = omega arith in rw (none, and
 -- ---- the letters
 
 -- four bytes compared with four letters, one after the other
-pub same-four : (s : List ℕ) (a b c d : ℕ) → 4 ≤ length s
+four : (s : List ℕ) (a b c d : ℕ) → 4 ≤ length s
     → same (take 4 s) (a ∷ b ∷ c ∷ d ∷ []) ≡ eqb (byte s 0) a && (eqb (byte s 1) b && (eqb (byte s 2) c && eqb (byte s 3) d))
 unfolding same
-same-four [] a b c d h = absurd (omega arith)
-same-four (x ∷ []) a b c d h = absurd (omega arith)
-same-four (x ∷ y ∷ []) a b c d h = absurd (omega arith)
-same-four (x ∷ y ∷ z ∷ []) a b c d h = absurd (omega arith)
-same-four (x ∷ y ∷ z ∷ w ∷ s) a b c d h = ap (λ (t : Bool). eqb x a && (eqb y b && (eqb z c && t))) (and-true (eqb w d))
+four [] a b c d h = absurd (omega arith)
+four (x ∷ []) a b c d h = absurd (omega arith)
+four (x ∷ y ∷ []) a b c d h = absurd (omega arith)
+four (x ∷ y ∷ z ∷ []) a b c d h = absurd (omega arith)
+four (x ∷ y ∷ z ∷ w ∷ s) a b c d h = ap (λ (t : Bool). eqb x a && (eqb y b && (eqb z c && t))) (and-true (eqb w d))
+
+pub same-four : (s letters : List ℕ) → 4 ≤ length s → length letters ≡ 4
+    → same (take 4 s) letters ≡ eqb (byte s 0) (byte letters 0) && (eqb (byte s 1) (byte letters 1) && (eqb (byte s 2) (byte letters 2) && eqb (byte s 3) (byte letters 3)))
+same-four s [] h k = absurd (omega arith)
+same-four s (a ∷ []) h k = absurd (omega arith)
+same-four s (a ∷ b ∷ []) h k = absurd (omega arith)
+same-four s (a ∷ b ∷ c ∷ []) h k = absurd (omega arith)
+same-four s (a ∷ b ∷ c ∷ d ∷ []) h k = four s a b c d h
+same-four s (a ∷ b ∷ c ∷ d ∷ e ∷ l) h k = absurd (omega arith)
+
+-- ---- which edition a record is of
+
+-- its letters are those of `GCR2`, or else compared with those of `GCR1`
+pub second-edition : (s : List ℕ) → same (take 4 s) (gcr2 .letters) ≡ true → same (take 4 s) (editionOf s .letters) ≡ true
+second-edition s e = ap (λ (b : Bool). same (take 4 s) (edition b .letters)) e ∙ e
+
+pub first-edition : (s : List ℕ) → same (take 4 s) (gcr2 .letters) ≡ false → same (take 4 s) (editionOf s .letters) ≡ same (take 4 s) (gcr1 .letters)
+first-edition s e = ap (λ (b : Bool). same (take 4 s) (edition b .letters)) e
+
+-- two lists that are the same to a test are one
+same-one : (l m : List ℕ) → same l m ≡ true → l ≡ m
+unfolding same
+same-one [] [] e = refl
+same-one [] (y ∷ m) e = absurd (true≢false (sym e))
+same-one (x ∷ l) [] e = absurd (true≢false (sym e))
+same-one (x ∷ l) (y ∷ m) e =
+    ap₂ (λ (a : ℕ) (r : List ℕ). a ∷ r) (eqb-true x y (and-left (eqb x y) (same l m) e)) (same-one l m (and-right (eqb x y) (same l m) e))
+
+-- a `GCR1` is no `GCR2`
+pub one-edition : (s : List ℕ) → same (take 4 s) (gcr1 .letters) ≡ true → same (take 4 s) (gcr2 .letters) ≡ false
+unfolding same
+one-edition s e = ap (λ (l : List ℕ). same l (gcr2 .letters)) (same-one (take 4 s) (gcr1 .letters) e)

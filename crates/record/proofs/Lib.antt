@@ -4,6 +4,7 @@ pub mod SumLaws
 pub mod SlotLaws
 pub mod StoresLaws
 pub mod NumberBytes
+pub mod OpeningLaws
 pub mod SealLaws
 pub mod SoundLayout
 pub mod SlotImage

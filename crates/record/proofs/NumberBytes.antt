@@ -13,8 +13,8 @@ use Rattle.rows.specs.Octets.{little, hasByte}
 use Rattle.rows.proofs.Digits.{digit-zero, digit-suc}
 use Rattle.record.specs.Layout.{byte, zeros}
 use Rattle.record.specs.Encode.{littleBytes, bit, bits, setBytes}
-use Rattle.rows.proofs.Tests.{and-both}
-use borrow.Author.Tests.{eq-eqb}
+use Rattle.rows.proofs.Tests.{and-both, and-left, and-right}
+use borrow.Author.Tests.{eq-eqb, eqb-true}
 use Rattle.record.proofs.StoresLaws.{Stands, stands-head, stands-tail, Bytes, bytes-nil, bytes-cons}
 
 -- ---- numbers
@@ -55,6 +55,16 @@ zeros-stand (suc k) s at h =
     and-both (eqb (byte s at) 0) (zeros k s (at + 1))
     (eq-eqb (byte s at) 0 (let here : at ≡ at + 0 = omega arith in rw here (h 0 (omega arith))))
     (zeros-stand k s (at + 1) (λ j l. let next : at + 1 + j ≡ at + suc j = omega arith in rw next (h (suc j) (omega arith))))
+
+-- and zero bytes are found
+pub zeros-byte : (k : ℕ) (s : List ℕ) (at j : ℕ) → zeros k s at ≡ true → j < k → getD s (at + j) 0 ≡ 0
+unfolding zeros
+zeros-byte zero s at j h l = absurd (omega arith)
+zeros-byte (suc k) s at zero h l =
+    let here : at + zero ≡ at = omega arith in rw here (eqb-true (byte s at) 0 (and-left (eqb (byte s at) 0) (zeros k s (at + 1)) h))
+zeros-byte (suc k) s at (suc j) h l =
+    let next : at + suc j ≡ at + 1 + j = omega arith in
+    rw next (zeros-byte k s (at + 1) j (and-right (eqb (byte s at) 0) (zeros k s (at + 1)) h) (omega arith))
 
 -- ---- sets
 

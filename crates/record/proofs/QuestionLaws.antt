@@ -1,5 +1,5 @@
 -- Laws of questions 3 to 10: in order, what each answer says, and what follows from a yes. Assumes nothing.
-use mathlib.Core.Path.{_≡_, refl, sym, _∙_, subst}
+use mathlib.Core.Path.{_≡_, refl, sym, ap, _∙_, subst}
 use mathlib.Core.Logic.{_≢_}
 use mathlib.Core.Bool.{Bool, true, false, not, cond, _&&_}
 use mathlib.Core.List.{List}
@@ -12,11 +12,12 @@ use Rattle.rows.specs.Relation.{Rel}
 use Rattle.rows.proofs.Tests.{and-left, and-right}
 use Rattle.record.specs.declared.Reading.{Reading}
 use Rattle.record.specs.declared.Reading.the-variants.{Passed, ShortWork, WrongLength, WrongCheck, WrongHeader, WrongBlocks, WrongSlot, WrongPosition, WrongSet, OnRing}
-use Rattle.record.specs.Layout.{Layout, byte, countIn, sitesIn, slotAt, zeros, same, workWords}
+use Rattle.record.specs.Layout.{Layout, gcr2, editionOf, byte, countIn, sitesIn, slotAt, zeros, same, workWords}
+use Rattle.record.specs.Terms.{openingsRight}
 use Rattle.record.specs.Blocks.{blockRight}
 use Rattle.record.specs.History.{historyOf, vis}
 use Rattle.record.specs.Slots.{placeRight, valueRight, timesRight, gapsRight, eventRight, tailRight, slotRight}
-use Rattle.record.specs.Questions.{numberOf, lengthRight, headerRight, blocksRight, slotsIn, wrongPosition, wrongSet, onRing, ask, askEach, byteQuestions, setQuestions, questions, reading}
+use Rattle.record.specs.Questions.{numberOf, lengthRight, termsRight, headerRight, blocksRight, slotsIn, wrongPosition, wrongSet, onRing, ask, askEach, byteQuestions, setQuestions, questions, reading}
 use Rattle.record.specs.Answers.{LowestWrong, ChecksRight, SlotsRight, SetsRight, RingsRight, BytesRight}
 use Rattle.record.proofs.AskLaws.{ask-yes, ask-no, ask-into, each-into}
 
@@ -39,18 +40,27 @@ module _ (L : Layout) (s : List ℕ) where
   pub header-says : headerRight L s ≡ true → countIn s ≤ L .events
   unfolding headerRight
   header-says t =
-      let rest : Bool = leb 1 (sitesIn s) && (leb (sitesIn s) 8 && zeros 501 s 7) in
+      let rest : Bool = leb 1 (sitesIn s) && (leb (sitesIn s) 8 && termsRight L s) in
       leb-true (countIn s) (L .events) (and-left (leb (countIn s) (L .events)) rest (and-right (same (take 4 s) (L .letters)) (leb (countIn s) (L .events) && rest) t))
 
   pub sites-say : headerRight L s ≡ true → sitesIn s ≤ 8
   unfolding headerRight
   sites-say t =
-      let tail : Bool = leb (sitesIn s) 8 && zeros 501 s 7 in
+      let tail : Bool = leb (sitesIn s) 8 && termsRight L s in
       let rest : Bool = leb 1 (sitesIn s) && tail in
       leb-true (sitesIn s) 8
-      (and-left (leb (sitesIn s) 8) (zeros 501 s 7)
+      (and-left (leb (sitesIn s) 8) (termsRight L s)
       (and-right (leb 1 (sitesIn s)) tail
       (and-right (leb (countIn s) (L .events)) rest (and-right (same (take 4 s) (L .letters)) (leb (countIn s) (L .events) && rest) t))))
+
+  pub terms-say : headerRight L s ≡ true → termsRight L s ≡ true
+  unfolding headerRight
+  terms-say t =
+      let tail : Bool = leb (sitesIn s) 8 && termsRight L s in
+      let rest : Bool = leb 1 (sitesIn s) && tail in
+      and-right (leb (sitesIn s) 8) (termsRight L s)
+      (and-right (leb 1 (sitesIn s)) tail
+      (and-right (leb (countIn s) (L .events)) rest (and-right (same (take 4 s) (L .letters)) (leb (countIn s) (L .events) && rest) t)))
 
   -- an event's site is below the site count
   pub slot-site : (e : ℕ) → e < countIn s → slotRight L s e ≡ true → byte s (slotAt L e + 1) < sitesIn s
@@ -76,6 +86,15 @@ module _ (L : Layout) (s : List ℕ) where
   pub blocks-no : (n : ℕ) → n ≡ countIn s → blocksIn s ≢ 1 + (n + (L .perBlock - 1)) / L .perBlock → blocksRight L s ≡ false
   unfolding blocksRight
   blocks-no n q e = rw (← q) (ne-eqb (length s / 512) (1 + (n + (L .perBlock - 1)) / L .perBlock) e)
+
+-- block 0 behind the sites, by the record's edition
+pub terms-first : (s : List ℕ) → same (take 4 s) (gcr2 .letters) ≡ false → termsRight (editionOf s) s ≡ zeros 501 s 7
+unfolding termsRight
+terms-first s e = ap (λ (b : Bool). cond b (zeros 5 s 7 && (openingsRight s 12 && zeros 364 s 144)) (zeros 501 s 7)) e
+
+pub terms-second : (s : List ℕ) → same (take 4 s) (gcr2 .letters) ≡ true → termsRight (editionOf s) s ≡ zeros 5 s 7 && (openingsRight s 12 && zeros 364 s 144)
+unfolding termsRight
+terms-second s e = ap (λ (b : Bool). cond b (zeros 5 s 7 && (openingsRight s 12 && zeros 364 s 144)) (zeros 501 s 7)) e
 
 -- ---- questions 3 to 8, from each on, with an answer `end` where all get a yes
 

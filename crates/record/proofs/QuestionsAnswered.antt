@@ -17,11 +17,11 @@ use Rattle.rows.proofs.TableLaws.{row-within}
 use Rattle.rows.proofs.ReachLaws.{reaches-sound, reaches-complete, table-graph}
 use Rattle.record.specs.declared.Reading.{Reading}
 use Rattle.record.specs.declared.Reading.the-variants.{Passed, ShortWork, WrongLength, WrongCheck, WrongHeader, WrongBlocks, WrongSlot, WrongPosition, WrongSet, OnRing}
-use Rattle.record.specs.Layout.{Layout, gcr1, countIn, slotAt, workWords}
+use Rattle.record.specs.Layout.{Layout, editionOf, countIn, slotAt, workWords}
 use Rattle.record.specs.Blocks.{blockRight}
 use Rattle.record.specs.History.{History, historyOf, vis}
 use Rattle.record.specs.Slots.{slotRight}
-use Rattle.record.specs.Questions.{numberOf, placeOf, lengthRight, headerRight, blocksRight, slotsIn, wrongPosition, wrongSet, onRing, ask, askEach, andThen, byteQuestions, setQuestions, questions, reading, packedReading}
+use Rattle.record.specs.Questions.{termsRight, numberOf, placeOf, lengthRight, headerRight, blocksRight, slotsIn, wrongPosition, wrongSet, onRing, ask, askEach, andThen, byteQuestions, setQuestions, questions, reading, packedReading}
 use Rattle.record.specs.Answers.{LowestWrong, ChecksRight, SlotsRight, SetsRight, BytesRight, Passes, Tells}
 use Rattle.record.specs.Words.{visibleWords}
 use Rattle.record.specs.Encode.{blocksFor}
@@ -31,7 +31,7 @@ use Rattle.record.proofs.WordsLaws.{visible-vis}
 use Rattle.record.proofs.PositionLaws.{position-says, positions-distinct}
 use Rattle.record.proofs.SetLaws.{set-inside}
 use Rattle.record.proofs.AskLaws.{ask-yes, ask-no, ask-into, each-yes, each-first, ask-then, each-then}
-use Rattle.record.proofs.QuestionLaws.{blocksIn, length-says, header-says, sites-say, slot-site, blocks-say, fromPositions, fromSlots, fromBlocks, fromHeader, fromChecks, fromLength, BytesAnswer, bytes-asked, bytes-answered, SetsAnswer, sets-answered}
+use Rattle.record.proofs.QuestionLaws.{blocksIn, length-says, header-says, terms-say, sites-say, slot-site, blocks-say, fromPositions, fromSlots, fromBlocks, fromHeader, fromChecks, fromLength, BytesAnswer, bytes-asked, bytes-answered, SetsAnswer, sets-answered}
 
 -- ---- each answer
 
@@ -183,58 +183,61 @@ unfolding vis historyOf
 vis-within L s a b t = ltb-true a (64 * L .row) (and-left (ltb a (64 * L .row)) (hasByte s (slotAt L b + 32) a) t)
 
 -- what those who read a record of the edition `GCR1` use
-module _ (s : List ℕ) (passed : questions gcr1 s ≡ Passed) where
-  right : Passes gcr1 s
-  right = passed-right gcr1 s passed
+module _ (s : List ℕ) (passed : questions (editionOf s) s ≡ Passed) where
+  right : Passes (editionOf s) s
+  right = passed-right (editionOf s) s passed
 
   abbrev n : ℕ
   n = countIn s
 
   abbrev h : History
-  h = historyOf gcr1 s
+  h = historyOf (editionOf s) s
 
   pub passed-count : countIn s ≤ 256
-  passed-count = header-says gcr1 s (right .bytes .header)
+  passed-count = header-says (editionOf s) s (right .bytes .header)
 
-  pub passed-blocks : length s ≡ 512 * blocksFor gcr1 (countIn s)
-  passed-blocks = omega (arith, length-says gcr1 s (right .bytes .length), blocks-say gcr1 s (right .bytes .blocks))
+  pub passed-terms : termsRight (editionOf s) s ≡ true
+  passed-terms = terms-say (editionOf s) s (right .bytes .header)
 
-  pub passed-site : (e : ℕ) → e < countIn s → historyOf gcr1 s .site e < 8
+  pub passed-blocks : length s ≡ 512 * blocksFor (editionOf s) (countIn s)
+  passed-blocks = omega (arith, length-says (editionOf s) s (right .bytes .length), blocks-say (editionOf s) s (right .bytes .blocks))
+
+  pub passed-site : (e : ℕ) → e < countIn s → historyOf (editionOf s) s .site e < 8
   unfolding historyOf
   passed-site e l =
-      omega (arith, sites-say gcr1 s (right .bytes .header), slot-site gcr1 s e l (right .bytes .slots e (omega (arith, passed-blocks))))
+      omega (arith, sites-say (editionOf s) s (right .bytes .header), slot-site (editionOf s) s e l (right .bytes .slots e (omega (arith, passed-blocks))))
 
-  pub passed-position : (e : ℕ) → e < countIn s → historyOf gcr1 s .position e < countIn s
+  pub passed-position : (e : ℕ) → e < countIn s → historyOf (editionOf s) s .position e < countIn s
   unfolding historyOf
   passed-position e l = position-says h e (right .bytes .positions e l) .0
 
-  pub passed-distinct : (d e : ℕ) → d < countIn s → e < countIn s → historyOf gcr1 s .position d ≡ historyOf gcr1 s .position e → d ≡ e
+  pub passed-distinct : (d e : ℕ) → d < countIn s → e < countIn s → historyOf (editionOf s) s .position d ≡ historyOf (editionOf s) s .position e → d ≡ e
   unfolding historyOf
   passed-distinct = positions-distinct h (right .bytes .positions)
 
   -- visible sets have events below n, and not the event itself
-  pub passed-inside : (e b : ℕ) → e < countIn s → vis (historyOf gcr1 s) b e ≡ true → (b < countIn s) × (b ≡ e → ⊥)
-  passed-inside e b l t = set-inside 4 n (vis h) e (right .sets e l) b (vis-within gcr1 s b e t) t
+  pub passed-inside : (e b : ℕ) → e < countIn s → vis (historyOf (editionOf s) s) b e ≡ true → (b < countIn s) × (b ≡ e → ⊥)
+  passed-inside e b l t = set-inside 4 n (vis h) e (right .sets e l) b (vis-within (editionOf s) s b e t) t
 
-  pub passed-ringless : (e : ℕ) → e < countIn s → Steps (countIn s) (vis (historyOf gcr1 s)) e e → ⊥
+  pub passed-ringless : (e : ℕ) → e < countIn s → Steps (countIn s) (vis (historyOf (editionOf s) s)) e e → ⊥
   passed-ringless e l = no-steps n (vis h) e (right .rings e l)
 
   -- the visible words are vis in rows, whatever follows them
   module _ (bytes : Bytes s) (rest : List ℕ) where
-    pub passed-table : Table (countIn s) 4 (vis (historyOf gcr1 s)) (visibleWords gcr1 s ++ rest)
+    pub passed-table : Table (countIn s) 4 (vis (historyOf (editionOf s) s)) (visibleWords (editionOf s) s ++ rest)
     passed-table b l =
-        let g : List ℕ = visibleWords gcr1 s ++ rest in
+        let g : List ℕ = visibleWords (editionOf s) s ++ rest in
         row-of n (λ a. vis h a b) (rowAt g 4 b)
         (λ x t.
         let k : x < 256 = row-within g 4 b x t in
-        let v : vis h x b ≡ true = sym (visible-vis gcr1 s bytes rest x b k l) ∙ t in
+        let v : vis h x b ≡ true = sym (visible-vis (editionOf s) s bytes rest x b k l) ∙ t in
         (passed-inside b x l v .0, v))
-        (λ x k t. visible-vis gcr1 s bytes rest x b (omega (arith, passed-count)) l ∙ t)
+        (λ x k t. visible-vis (editionOf s) s bytes rest x b (omega (arith, passed-count)) l ∙ t)
 
-    pub passed-graph : Graph (visibleWords gcr1 s ++ rest) (countIn s) 4
+    pub passed-graph : Graph (visibleWords (editionOf s) s ++ rest) (countIn s) 4
     passed-graph =
-        table-graph n 4 (vis h) (visibleWords gcr1 s ++ rest) passed-table
-        (omega (arith, length-append (visibleWords gcr1 s) rest, length-visible gcr1 s passed-count, passed-count)) passed-count (omega arith)
+        table-graph n 4 (vis h) (visibleWords (editionOf s) s ++ rest) passed-table
+        (omega (arith, length-append (visibleWords (editionOf s) s) rest, length-visible (editionOf s) s passed-count, passed-count)) passed-count (omega arith)
 
 -- ---- a number and a place that a host's number has room for
 
@@ -263,21 +266,21 @@ number-passed (WrongPosition k) e = absurd (omega arith)
 number-passed (WrongSet k) e = absurd (omega arith)
 number-passed (OnRing k) e = absurd (omega arith)
 
-pub place-small : (w : ℕ) (s : List ℕ) → placeOf (reading gcr1 w s) < 1024
+pub place-small : (w : ℕ) (s : List ℕ) → placeOf (reading (editionOf s) w s) < 1024
 unfolding reading
-place-small w s = ask-into (λ r. placeOf r < 1024) (leb (workWords gcr1) w) ShortWork (questions gcr1 s) (λ t. omega arith) (λ t. small (questions gcr1 s) (answered gcr1 s))
+place-small w s = ask-into (λ r. placeOf r < 1024) (leb (workWords (editionOf s)) w) ShortWork (questions (editionOf s) s) (λ t. omega arith) (λ t. small (questions (editionOf s) s) (answered (editionOf s) s))
   where
-    small : (r : Reading) → Tells gcr1 s r → placeOf r < 1024
+    small : (r : Reading) → Tells (editionOf s) s r → placeOf r < 1024
     small Passed a = omega arith
     small ShortWork a = omega arith
     small WrongLength a = omega arith
-    small (WrongCheck k) a = omega (arith, a .1 .within, length-says gcr1 s (a .0))
+    small (WrongCheck k) a = omega (arith, a .1 .within, length-says (editionOf s) s (a .0))
     small WrongHeader a = omega arith
     small WrongBlocks a = omega arith
-    small (WrongSlot e) a = omega (arith, a .4 .within, length-says gcr1 s (a .0))
-    small (WrongPosition e) a = omega (arith, a .5 .within, header-says gcr1 s (a .2))
-    small (WrongSet e) a = omega (arith, a .1 .within, header-says gcr1 s (a .0 .header))
-    small (OnRing e) a = omega (arith, a .2 .within, header-says gcr1 s (a .0 .header))
+    small (WrongSlot e) a = omega (arith, a .4 .within, length-says (editionOf s) s (a .0))
+    small (WrongPosition e) a = omega (arith, a .5 .within, header-says (editionOf s) s (a .2))
+    small (WrongSet e) a = omega (arith, a .1 .within, header-says (editionOf s) s (a .0 .header))
+    small (OnRing e) a = omega (arith, a .2 .within, header-says (editionOf s) s (a .0 .header))
 
 pub packed-passed : (r : Reading) → numberOf r ≡ 0 → packedReading r ≡ 0
 unfolding packedReading

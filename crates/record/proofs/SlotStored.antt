@@ -7,7 +7,7 @@ use lib.ListN.{replicate}
 use lib.Seq.{sets}
 use Rattle.rows.specs.Row.{has}
 use Rattle.record.specs.declared.Slot.{Slot}
-use Rattle.record.specs.Layout.{gcr1}
+use Rattle.record.specs.Layout.{gcr2}
 use Rattle.record.specs.History.{History}
 use Rattle.record.specs.Encode.{littleBytes, bit, setBytes, slotBytes, SlotOf}
 use Rattle.record.proofs.WordBytes.{little-bytes-join, little-bytes-cons, little-then, set-bytes-same}
@@ -38,7 +38,7 @@ second-word-bytes a x p q =
 module _ (h : History) (e : ℕ) (x : Slot) (of : SlotOf h e x) (v w : ℕ)
     (first : littleBytes 8 v ≡ bit (x .write) ∷ x .site ∷ x .object ∷ bit (x .pending) ∷ littleBytes 4 (x .value))
     (second : littleBytes 8 w ≡ bit (x .present) ∷ 0 ∷ (littleBytes 2 (x .position) ++ replicate 4 0)) where
-  slot-words : littleBytes 8 v ++ (littleBytes 8 w ++ (littleBytes 8 (x .start) ++ (littleBytes 8 (x .returned) ++ setBytes 32 (has (x .sees))))) ≡ slotBytes gcr1 h e
+  slot-words : littleBytes 8 v ++ (littleBytes 8 w ++ (littleBytes 8 (x .start) ++ (littleBytes 8 (x .returned) ++ setBytes 32 (has (x .sees))))) ≡ slotBytes gcr2 h e
   unfolding slotBytes
   slot-words =
       rw (
@@ -60,7 +60,7 @@ module _ (h : History) (e : ℕ) (x : Slot) (of : SlotOf h e x) (v w : ℕ)
   -- stored one after the other
   pub slot-stored : (s s₁ s₂ s₃ s₄ s₅ : List ℕ) (at : ℕ) → s₁ ≡ sets s at (littleBytes 8 v) → s₂ ≡ sets s₁ (at + 8) (littleBytes 8 w)
       → s₃ ≡ sets s₂ (at + 16) (littleBytes 8 (x .start)) → s₄ ≡ sets s₃ (at + 24) (littleBytes 8 (x .returned))
-      → s₅ ≡ sets s₄ (at + 32) (setBytes 32 (has (x .sees))) → s₅ ≡ sets s at (slotBytes gcr1 h e)
+      → s₅ ≡ sets s₄ (at + 32) (setBytes 32 (has (x .sees))) → s₅ ≡ sets s at (slotBytes gcr2 h e)
   slot-stored s s₁ s₂ s₃ s₄ s₅ at e₁ e₂ e₃ e₄ e₅ =
       let sees : List ℕ = setBytes 32 (has (x .sees)) in
       let d : List ℕ = littleBytes 8 (x .returned) ++ sees in

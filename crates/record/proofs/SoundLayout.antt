@@ -1,13 +1,14 @@
 -- What the laws ask of a layout, and where its slots lie: apart from each other, before the checks, inside the record. Assumes nothing.
 use mathlib.Core.Path.{_≡_, refl, sym, ap, ap₂, _∙_}
-use mathlib.Core.List.{[], _∷_}
+use mathlib.Core.Bool.{Bool, true, false, cond}
+use mathlib.Core.List.{List, [], _∷_}
 use Prim.Native.Nat.{ℕ, suc, _+_, _*_, _-_, _/_, _%_, _^_, _<_, _≤_}
 use native.Mathlib.Nat.{mul-add, div-self, mod-self, div-eq-of-lt, mod-eq-of-lt, mul-add-div-right, mul-add-mod-self-right, mod-lt, mul-suc, mul-le-mul-left, div-add-mod', lt-div-mul-add, div-lt-iff-lt-mul, le-div-iff-mul-le, div-mul-le-self}
 use native.Mathlib.Omega.{arith}
 use native.Mathlib.Decide.{decLt}
 use borrow.Author.Tests.{eq-eqb, ne-eqb}
 use lib.ListN.{length}
-use Rattle.record.specs.Layout.{Layout, gcr1, slotAt, nextSlot, tailAt}
+use Rattle.record.specs.Layout.{Layout, edition, editionOf, slotAt, nextSlot, tailAt}
 use Rattle.record.specs.Encode.{blocksFor}
 use Rattle.record.proofs.StoresLaws.{Outside, Bytes, bytes-nil, bytes-cons}
 
@@ -24,11 +25,16 @@ pub record Sound (L : Layout) : Type 0 where
   pub counted : L .events < 256 ^ 2
   pub longest : 512 * blocksFor L (L .events) ≤ L .longest
 
-pub gcr1-sound : Sound gcr1
-gcr1-sound = record {
+last-letter : (opens : Bool) → cond opens 50 49 < 256
+last-letter true = omega arith
+last-letter false = omega arith
+
+pub edition-sound : (opens : Bool) → Sound (edition opens)
+edition-sound opens = record {
   letters = refl;
-  letterBytes = bytes-cons 71 (67 ∷ 82 ∷ 49 ∷ []) (omega arith)
-      (bytes-cons 67 (82 ∷ 49 ∷ []) (omega arith) (bytes-cons 82 (49 ∷ []) (omega arith) (bytes-cons 49 [] (omega arith) bytes-nil)));
+  letterBytes = bytes-cons 71 (67 ∷ 82 ∷ cond opens 50 49 ∷ []) (omega arith)
+      (bytes-cons 67 (82 ∷ cond opens 50 49 ∷ []) (omega arith)
+      (bytes-cons 82 (cond opens 50 49 ∷ []) (omega arith) (bytes-cons (cond opens 50 49) [] (last-letter opens) bytes-nil)));
   slot = refl;
   some = omega arith;
   room = omega arith;
@@ -36,6 +42,10 @@ gcr1-sound = record {
   counted = omega arith;
   longest = omega arith;
 }
+
+-- a record's own edition
+pub sound-of : (s : List ℕ) → Sound (editionOf s)
+sound-of s = edition-sound (editionOf s .openings)
 
 module _ (L : Layout) (ok : Sound L) where
   -- slots of one block, one after the other

@@ -1,9 +1,10 @@
 -- Bytes after stores: what is stored stands where it was stored, and every other byte is as it was. Assumes nothing.
 use mathlib.Core.Path.{_≡_, refl, sym, ap, _∙_}
 use mathlib.Core.List.{List, [], _∷_, _++_}
-use Prim.Native.Nat.{ℕ, zero, suc, _+_, _<_, _≤_}
+use Prim.Native.Nat.{ℕ, zero, suc, _+_, _-_, _<_, _≤_}
 use native.Mathlib.Nat.{add-zero, add-suc, suc-add}
 use native.Mathlib.Omega.{arith}
+use native.Mathlib.Decide.{decLt}
 use lib.ListN.{length, getD, set, replicate, length-set, length-append, List·getD-append}
 use lib.Seq.{sets, getD-set-same, getD-set-other, getD-append-add, set-append-left}
 
@@ -66,6 +67,25 @@ stands-head s at x l h = let here : at ≡ at + 0 = omega arith in rw here (h 0 
 
 pub stands-tail : (s : List ℕ) (at x : ℕ) (l : List ℕ) → Stands s at (x ∷ l) → Stands s (at + 1) l
 stands-tail s at x l h = stands-back s at (x ∷ []) l 1 refl h
+
+-- what stands, put together
+pub stands-append : (s : List ℕ) (at : ℕ) (a b : List ℕ) (off : ℕ) → length a ≡ off → Stands s at a → Stands s (at + off) b → Stands s at (a ++ b)
+stands-append s at a b off e f g j k = elim (decLt j (length a)) [
+  | yes l ↦ f j l ∙ sym (List·getD-append a b 0 j l)
+  | no m ↦
+      let i : ℕ = j - length a in
+      let split : j ≡ length a + i = omega arith in
+      let place : at + j ≡ at + off + i = omega arith in
+      ap (λ (p : ℕ). getD s p 0) place ∙ g i (omega (arith, length-append a b)) ∙ sym (getD-append-add a b i 0)
+      ∙ ap (λ (p : ℕ). getD (a ++ b) p 0) (sym split)
+]
+
+pub stands-cons : (s : List ℕ) (at x : ℕ) (l : List ℕ) → getD s at 0 ≡ x → Stands s (at + 1) l → Stands s at (x ∷ l)
+stands-cons s at x l e f = stands-append s at (x ∷ []) l 1 refl first f
+  where
+    first : Stands s at (x ∷ [])
+    first zero k = let here : at + 0 ≡ at = omega arith in rw here e
+    first (suc j) k = absurd (omega arith)
 
 -- a list of zeros
 pub zero-at : (n p : ℕ) → getD {A = ℕ} (replicate n 0) p 0 ≡ 0

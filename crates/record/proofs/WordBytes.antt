@@ -1,5 +1,5 @@
 -- Numbers and sets as bytes, put together: of a number's parts, of a set's words, and in a list by one store after the other. Assumes nothing.
-use mathlib.Core.Path.{_≡_, refl, sym, ap, ap₂, _∙_}
+use mathlib.Core.Path.{_≡_, refl, sym, ap, ap₂, _∙_, subst}
 use mathlib.Core.Bool.{Bool}
 use mathlib.Core.List.{List, [], _∷_, _++_, append-nil}
 use Prim.Native.Nat.{ℕ, zero, suc, _+_, _*_, _/_, _%_, _^_, _<_}
@@ -11,11 +11,12 @@ use lib.ListN.{getD}
 use lib.Seq.{sets}
 use lib.Pow.{shr-shr, mod-pow-add}
 use Rattle.rows.specs.Row.{digit, bitOf, has}
+use Rattle.rows.specs.Octets.{little, hasByte}
 use Rattle.rows.proofs.Tests.{split}
 use Rattle.rows.proofs.Digits.{digit-zero, digit-suc, one-bit, none-bit}
 use Rattle.rows.proofs.RowLaws.{has-word}
 use Rattle.record.specs.Encode.{littleBytes, bit, bits, setBytes}
-use Rattle.record.proofs.StoresLaws.{sets-then}
+use Rattle.record.proofs.StoresLaws.{sets-then, Stands, stands-cons, Bytes}
 use Rattle.record.proofs.NumberBytes.{length-little}
 
 -- ---- numbers
@@ -113,6 +114,36 @@ set-bytes-word zero x = refl
 set-bytes-word (suc k) x =
     ap₂ (λ (b : ℕ) (l : List ℕ). b ∷ l) (bits-of 8 x)
     (set-bytes-same k (λ b. bitOf x (8 + b)) (bitOf (x / 256)) (λ b l. bit-above x 8 b) ∙ set-bytes-word k (x / 256))
+
+-- ---- what was read from bytes, as bytes again
+
+module _ (s : List ℕ) (bytes : Bytes s) where
+  pub little-read : (k at : ℕ) → Stands s at (littleBytes k (little k s at))
+  unfolding little littleBytes
+  little-read zero at = λ j h. absurd (omega arith)
+  little-read (suc k) at =
+      subst (Stands s at) (sym (little-bytes-cons k (getD s at 0) (little k s (at + 1)) (bytes at)))
+      (stands-cons s at (getD s at 0) (littleBytes k (little k s (at + 1))) refl (little-read k (at + 1)))
+
+  first-byte : (at : ℕ) → getD s at 0 ≡ bits 8 (hasByte s at)
+  unfolding hasByte
+  first-byte at =
+      let small : getD s at 0 % 2 ^ 8 ≡ getD s at 0 = omega (arith, bytes at) in
+      sym (bits-same 8 (hasByte s at) (bitOf (getD s at 0))
+      (λ j l. ap₂ (λ (p i : ℕ). bitOf (getD s p 0) i) (omega arith) (omega arith))
+      ∙ bits-of 8 (getD s at 0) ∙ small)
+
+  next-bytes : (at b : ℕ) → hasByte s at (8 + b) ≡ hasByte s (at + 1) b
+  unfolding hasByte
+  next-bytes at b = ap₂ (λ (p i : ℕ). bitOf (getD s p 0) i) (omega arith) (omega arith)
+
+  pub set-read : (k at : ℕ) → Stands s at (setBytes k (hasByte s at))
+  unfolding setBytes
+  set-read zero at = λ j h. absurd (omega arith)
+  set-read (suc k) at =
+      subst (λ (l : List ℕ). Stands s at (bits 8 (hasByte s at) ∷ l))
+      (sym (set-bytes-same k (λ b. hasByte s at (8 + b)) (hasByte s (at + 1)) (λ b l. next-bytes at b)))
+      (stands-cons s at (bits 8 (hasByte s at)) (setBytes k (hasByte s (at + 1))) (first-byte at) (set-read k (at + 1)))
 
 -- the bytes of a row's w words from word i on
 abbrev pub wordBytes : ℕ → ℕ → List ℕ → List ℕ

@@ -1,19 +1,28 @@
 -- The events read from words are those of the record's bytes: four words hold a slot's first 32 bytes, the others its visible set. Assumes nothing.
-use mathlib.Core.Path.{_≡_, refl, sym, ap, _∙_}
+use mathlib.Core.Path.{_≡_, refl, sym, ap, ap₂, _∙_}
+use mathlib.Core.Bool.{true}
 use mathlib.Core.List.{List, _++_, append-assoc}
 use Prim.Native.Nat.{ℕ, _+_, _*_, _-_, _/_, _%_, _^_, _<_, _≤_}
 use native.Mathlib.Nat.{zero-add, add-mul-div-left, div-eq-of-lt, add-mul-mod-self-left, mod-eq-of-lt}
 use native.Mathlib.Omega.{arith}
+use native.Mathlib.Decide.{decLt}
+use borrow.Author.Tests.{eqb-true, eqb-false, lt-ltb, le-ltb}
 use lib.Dec.{eqb}
 use lib.ListN.{getD, replicate}
-use Rattle.rows.specs.Octets.{little}
+use Rattle.rows.specs.Octets.{little, hasByte, words}
+use Rattle.rows.specs.Row.{bitOf, has}
 use Rattle.rows.specs.Relation.{related}
-use Rattle.rows.proofs.ByteLaws.{little-join, little-lt, getD-words}
+use Rattle.rows.proofs.Tests.{split}
+use Rattle.rows.proofs.Digits.{bit-of-zero}
+use Rattle.rows.proofs.ByteLaws.{little-join, little-lt, getD-words, has-words}
 use Rattle.rows.proofs.TableLaws.{getD-row}
-use Rattle.record.specs.Layout.{Layout, gcr1, countIn, slotAt}
-use Rattle.record.specs.History.{historyOf, vis, Agree}
-use Rattle.record.specs.Words.{slotWords, visibleWords, headWords, historyFrom}
+use Rattle.record.specs.Layout.{Layout, editionOf, countIn, slotAt, zeros}
+use Rattle.record.specs.Terms.{none, termsIn, SameTerms, openingIn}
+use Rattle.record.specs.History.{historyOf, under, vis, Agree}
+use Rattle.record.specs.Questions.{termsRight}
+use Rattle.record.specs.Words.{slotWords, visibleWords, headWords, historyFrom, termsWords, figureIn, openingFrom, termsFrom}
 use Rattle.record.proofs.StoresLaws.{Bytes}
+use Rattle.record.proofs.NumberBytes.{zeros-byte}
 use Rattle.record.proofs.SlotWords.{row-slot-words, related-vis}
 
 -- ---- parts of a little-endian number
@@ -37,6 +46,40 @@ module _ (s : List ℕ) (bytes : Bytes s) where
   -- k bytes from byte j on
   little-part : (j k i at : ℕ) → little (j + (k + i)) s at / 256 ^ j % 256 ^ k ≡ little k s (at + j)
   little-part j k i at = ap (λ (x : ℕ). x % 256 ^ k) (little-high j (k + i) at) ∙ little-low k i (at + j)
+
+  -- ---- openings
+
+  -- the word in which object o's value stands
+  figure-word : (o : ℕ) → o < 32 → figureIn (words 17 s 8) o ≡ little 4 s (12 + 4 + 4 * o)
+  figure-word o l =
+      let at : ℕ = 8 + 8 * (1 + o / 2) in
+      let found : getD (words 17 s 8) (1 + o / 2) 0 ≡ little 8 s at = getD-words 17 s 8 (1 + o / 2) (omega arith) in
+      split (eqb (o % 2) 0)
+      (λ e. rw (e, found) (little-low 4 4 at ∙ ap (little 4 s) (omega (arith, eqb-true (o % 2) 0 e))))
+      (λ e.
+      let odd : o % 2 ≡ 0 → ⊥ = eqb-false (o % 2) 0 e in
+      rw (e, found) (little-high 4 4 at ∙ ap (little 4 s) (omega arith)))
+
+  opening-bit : (o : ℕ) → o < 32 → has (words 17 s 8) (32 + o) ≡ hasByte s 12 o
+  unfolding hasByte
+  opening-bit o l = has-words s bytes 17 8 (32 + o) (omega arith) ∙ ap₂ (λ (p i : ℕ). bitOf (getD s p 0) i) (omega arith) (omega arith)
+
+  words-opening : (o : ℕ) → openingFrom (termsWords s) o ≡ openingIn s 12 o
+  unfolding openingFrom openingIn termsWords
+  words-opening o = elim (decLt o 32) [
+    | yes l ↦ rw (lt-ltb o 32 l, opening-bit o l, figure-word o l)
+    | no g ↦ rw (le-ltb o 32 (omega arith))
+  ]
+
+  zeros-none : (o : ℕ) → zeros 501 s 7 ≡ true → openingIn s 12 o ≡ none
+  unfolding openingIn hasByte
+  zeros-none o z = elim (decLt o 32) [
+    | yes l ↦
+        let place : 12 + o / 8 ≡ 7 + (5 + o / 8) = omega arith in
+        let empty : getD s (12 + o / 8) 0 ≡ 0 = rw place (zeros-byte 501 s 7 (5 + o / 8) z (omega arith)) in
+        rw (lt-ltb o 32 l, empty, bit-of-zero)
+    | no g ↦ rw (le-ltb o 32 (omega arith))
+  ]
 
 module _ (L : Layout) (s : List ℕ) (bytes : Bytes s) where
   -- ---- the first 32 bytes of a slot
@@ -74,11 +117,24 @@ module _ (L : Layout) (s : List ℕ) (bytes : Bytes s) where
       let zeros : List ℕ = replicate (L .row * (L .events - countIn s)) 0 in
       ap (λ (g : List ℕ). related g (L .row) a b) (append-assoc sets zeros rest) ∙ related-vis L s bytes (countIn s) (zeros ++ rest) a b h k
 
+  -- ---- the terms
+
+  -- where the words say nothing of openings, the edition has none
+  terms-agree : termsRight L s ≡ true → SameTerms (termsIn L s) (termsFrom (termsWords s))
+  unfolding termsRight
+  terms-agree right = record {
+    opening = λ o.
+        split (L .openings)
+        (λ e. rw e (sym (words-opening s bytes o)))
+        (λ e. rw e (sym (words-opening s bytes o ∙ zeros-none s bytes o (rw e at right))));
+  }
+
   -- ---- field by field
 
-  pub words-agree-at : countIn s ≤ 64 * L .row → (tail rest : List ℕ) → Agree (historyOf L s) (historyFrom (countIn s) (L .row) (headWords L s ++ tail) (visibleWords L s ++ rest))
+  pub words-agree-at : countIn s ≤ 64 * L .row → termsRight L s ≡ true → (tail rest : List ℕ)
+      → Agree (historyOf L s) (under (termsFrom (termsWords s)) (historyFrom (countIn s) (L .row) (headWords L s ++ tail) (visibleWords L s ++ rest)))
   unfolding historyOf historyFrom vis
-  words-agree-at wide tail rest = record {
+  words-agree-at wide right tail rest = record {
     count = refl;
     isWrite = λ e h. sym (ap (λ (x : ℕ). eqb x 1) (first-byte tail e h 0 (4 * e) (slotAt L e) (omega arith) (omega arith) (omega arith)));
     site = λ e h. sym (byte-part tail e h 0 (4 * e) (slotAt L e) (omega arith) (omega arith) (omega arith) 1 6 refl);
@@ -90,8 +146,11 @@ module _ (L : Layout) (s : List ℕ) (bytes : Bytes s) where
     start = λ e h. sym (word tail e h 2 (4 * e + 2) (slotAt L e + 16) (omega arith) (omega arith) refl);
     return = λ e h. sym (word tail e h 3 (4 * e + 3) (slotAt L e + 24) (omega arith) (omega arith) refl);
     sees = λ e b h k. sym (visible-vis rest b e (omega arith) h);
+    terms = terms-agree right;
   }
 
-pub words-agree : (s : List ℕ) → Bytes s → countIn s ≤ 256 → (tail rest : List ℕ)
-    → Agree (historyOf gcr1 s) (historyFrom (countIn s) 4 (headWords gcr1 s ++ tail) (visibleWords gcr1 s ++ rest))
-words-agree s bytes few = words-agree-at gcr1 s bytes few
+-- a record's words, whatever follows them, say what it says
+pub words-agree : (s : List ℕ) → Bytes s → countIn s ≤ 256 → termsRight (editionOf s) s ≡ true → (tail rest : List ℕ)
+    → Agree (historyOf (editionOf s) s)
+    (under (termsFrom (termsWords s)) (historyFrom (countIn s) 4 (headWords (editionOf s) s ++ tail) (visibleWords (editionOf s) s ++ rest)))
+words-agree s bytes few = words-agree-at (editionOf s) s bytes few

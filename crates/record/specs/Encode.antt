@@ -1,6 +1,6 @@
 -- The bytes of a record that says what a history says: zero bytes, block 0, each slot at its place, and then each block's check.
 use mathlib.Core.Path.{_≡_}
-use mathlib.Core.Bool.{Bool, true, false}
+use mathlib.Core.Bool.{Bool, true, false, cond}
 use mathlib.Core.List.{List, [], _∷_, _++_}
 use Prim.Native.Nat.{ℕ, zero, suc, _+_, _*_, _-_, _/_, _%_, _<_}
 use lib.ListN.{replicate}
@@ -8,6 +8,7 @@ use lib.Seq.{sets}
 use Rattle.rows.specs.Row.{has}
 use Rattle.record.specs.declared.Slot.{Slot}
 use Rattle.record.specs.Layout.{Layout, slotAt}
+use Rattle.record.specs.Terms.{Held, isValue, valueOr0, Terms}
 use Rattle.record.specs.Blocks.{sumA, sumB}
 use Rattle.record.specs.History.{History}
 
@@ -42,9 +43,22 @@ slotBytes L h e =
 abbrev pub blocksFor : Layout → ℕ → ℕ
 blocksFor L n = 1 + (n + (L .perBlock - 1)) / L .perBlock
 
--- block 0 of n events at some sites
+-- what every edition has in block 0: letters, n events, and the sites
 abbrev pub headerBytes : Layout → ℕ → ℕ → List ℕ
 headerBytes L n sites = L .letters ++ (littleBytes 2 n ++ (sites ∷ []))
+
+-- the values of k objects, 0 where there is none
+unfoldable pub figureBytes : ℕ → (ℕ → Held) → List ℕ
+figureBytes zero f = []
+figureBytes (suc k) f = littleBytes 4 (valueOr0 (f 0)) ++ figureBytes k (λ o. f (suc o))
+
+-- 132 bytes of openings
+unfoldable pub openingBytes : (ℕ → Held) → List ℕ
+openingBytes f = setBytes 4 (λ o. isValue (f o)) ++ figureBytes 32 f
+
+-- the terms written to block 0, as far as the edition has them
+unfoldable pub withTerms : Layout → Terms → List ℕ → List ℕ
+withTerms L t s = cond (L .openings) (sets s 12 (openingBytes (t .opening))) s
 
 -- the first k slots written
 unfoldable pub withSlots : Layout → History → ℕ → List ℕ → List ℕ
@@ -60,7 +74,8 @@ sealed zero s = s
 sealed (suc k) s = seal (sealed k s) k
 
 unfoldable pub unsealed : Layout → ℕ → History → List ℕ
-unsealed L sites h = withSlots L h (h .count) (sets (replicate (512 * blocksFor L (h .count)) 0) 0 (headerBytes L (h .count) sites))
+unsealed L sites h =
+    withSlots L h (h .count) (withTerms L (h .terms) (sets (replicate (512 * blocksFor L (h .count)) 0) 0 (headerBytes L (h .count) sites)))
 
 unfoldable pub recordBytes : Layout → ℕ → History → List ℕ
 recordBytes L sites h = sealed (blocksFor L (h .count)) (unsealed L sites h)

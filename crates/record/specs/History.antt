@@ -7,6 +7,7 @@ use lib.Dec.{eqb, ltb}
 use Rattle.rows.specs.Octets.{little, hasByte}
 use Rattle.rows.specs.Relation.{Rel}
 use Rattle.record.specs.Layout.{Layout, byte, countIn, slotAt}
+use Rattle.record.specs.Terms.{Terms, termsIn, SameTerms}
 
 pub record History : Type 0 where
   pub count : ℕ
@@ -22,6 +23,8 @@ pub record History : Type 0 where
   pub return : ℕ → ℕ
   -- sees e b: b is visible to e
   pub sees : ℕ → ℕ → Bool
+  -- what block 0 says beside count and sites
+  pub terms : Terms
 
 -- what the bytes of a record say
 unfoldable pub historyOf : Layout → List ℕ → History
@@ -37,13 +40,31 @@ historyOf L s = record {
   start = λ e. little 8 s (slotAt L e + 16);
   return = λ e. little 8 s (slotAt L e + 24);
   sees = λ e b. ltb b (64 * L .row) && hasByte s (slotAt L e + 32) b;
+  terms = termsIn L s;
+}
+
+-- the events of h, on other terms
+abbrev pub under : Terms → History → History
+under t h = record {
+  count = h .count;
+  isWrite = h .isWrite;
+  site = h .site;
+  object = h .object;
+  isPending = h .isPending;
+  isPresent = h .isPresent;
+  value = h .value;
+  position = h .position;
+  start = h .start;
+  return = h .return;
+  sees = h .sees;
+  terms = t;
 }
 
 -- vis: a is visible to b
 unfoldable pub vis : History → Rel
 vis h a b = h .sees b a
 
--- two histories say the same of their events
+-- two histories say the same
 pub record Agree (h k : History) : Type 0 where
   pub count : h .count ≡ k .count
   pub isWrite : (e : ℕ) → e < h .count → h .isWrite e ≡ k .isWrite e
@@ -56,3 +77,4 @@ pub record Agree (h k : History) : Type 0 where
   pub start : (e : ℕ) → e < h .count → h .start e ≡ k .start e
   pub return : (e : ℕ) → e < h .count → h .return e ≡ k .return e
   pub sees : (e b : ℕ) → e < h .count → b < h .count → h .sees e b ≡ k .sees e b
+  pub terms : SameTerms (h .terms) (k .terms)

@@ -5,7 +5,7 @@ use mathlib.Core.Bool.{Bool, true, false, cond, _&&_}
 use mathlib.Core.List.{List, [], _∷_}
 use Prim.Native.Nat.{ℕ, zero, suc, _+_, _*_, _-_, _/_, _%_}
 use lib.Dec.{eqb}
-use lib.ListN.{getD}
+use lib.ListN.{getD, take}
 use Rattle.rows.specs.Octets.{little}
 
 pub record Layout : Type 0 where
@@ -19,10 +19,19 @@ pub record Layout : Type 0 where
   -- the most events, and the longest record in bytes
   pub events : ℕ
   pub longest : ℕ
+  -- whether block 0 has openings
+  pub openings : Bool
 
--- the edition `GCR1`
+-- the editions, which differ in their letters and in whether they have openings
+abbrev pub edition : Bool → Layout
+edition opens = record { letters = 71 ∷ 67 ∷ 82 ∷ cond opens 50 49 ∷ []; slot = 64; perBlock = 7; row = 4; events = 256; longest = 19456; openings = opens }
+
+-- `GCR1`, and `GCR2`
 abbrev pub gcr1 : Layout
-gcr1 = record { letters = 71 ∷ 67 ∷ 82 ∷ 49 ∷ []; slot = 64; perBlock = 7; row = 4; events = 256; longest = 19456 }
+gcr1 = edition false
+
+abbrev pub gcr2 : Layout
+gcr2 = edition true
 
 abbrev pub byte : List ℕ → ℕ → ℕ
 byte s at = getD s at 0
@@ -57,6 +66,10 @@ same [] [] = true
 same [] (y ∷ m) = false
 same (x ∷ l) [] = false
 same (x ∷ l) (y ∷ m) = eqb x y && same l m
+
+-- the edition of a record, by its letters: `GCR2`, or else `GCR1`, of which question 5 asks whether the letters are its own
+abbrev pub editionOf : List ℕ → Layout
+editionOf s = edition (same (take 4 s) (gcr2 .letters))
 
 -- words of 64 bits that a reader is lent
 abbrev pub workWords : Layout → ℕ

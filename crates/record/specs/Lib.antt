@@ -1,5 +1,6 @@
 -- What the contracts of this crate cite.
 pub mod Layout
+pub mod Terms
 pub mod Blocks
 pub mod History
 pub mod Slots

@@ -7,6 +7,7 @@ use lib.ListN.{length, take}
 use Rattle.rows.specs.Lowest.{lowest, some}
 use Rattle.rows.specs.Relation.{Rel, reaches}
 use Rattle.record.specs.Layout.{Layout, countIn, sitesIn, zeros, same, workWords}
+use Rattle.record.specs.Terms.{openingsRight}
 use Rattle.record.specs.Blocks.{blockRight}
 use Rattle.record.specs.History.{History, historyOf, vis}
 use Rattle.record.specs.Slots.{slotRight}
@@ -42,11 +43,15 @@ placeOf (OnRing e) = e
 unfoldable pub lengthRight : Layout → List ℕ → Bool
 lengthRight L s = leb 512 (length s) && (leb (length s) (L .longest) && eqb (length s % 512) 0)
 
+-- the bytes of block 0 behind the sites, up to its check: openings in 12 to 143 where the edition has them, and zeros
+unfoldable pub termsRight : Layout → List ℕ → Bool
+termsRight L s = cond (L .openings) (zeros 5 s 7 && (openingsRight s 12 && zeros 364 s 144)) (zeros 501 s 7)
+
 -- 5: block 0
 unfoldable pub headerRight : Layout → List ℕ → Bool
 headerRight L s =
     same (take 4 s) (L .letters)
-    && (leb (countIn s) (L .events) && (leb 1 (sitesIn s) && (leb (sitesIn s) 8 && zeros 501 s 7)))
+    && (leb (countIn s) (L .events) && (leb 1 (sitesIn s) && (leb (sitesIn s) 8 && termsRight L s)))
 
 -- 6: 1 + (n/7 rounded up) blocks
 unfoldable pub blocksRight : Layout → List ℕ → Bool

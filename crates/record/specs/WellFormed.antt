@@ -4,6 +4,7 @@ use mathlib.Core.Bool.{true, false}
 use Prim.Native.Nat.{ℕ, _^_, _<_, _≤_}
 use Rattle.rows.specs.Relation.{reaches}
 use Rattle.record.specs.Layout.{Layout}
+use Rattle.record.specs.Terms.{none, valueOr0, Terms}
 use Rattle.record.specs.History.{History, vis}
 
 -- the fields of event e
@@ -19,10 +20,17 @@ pub record WellFormedEvent (sites : ℕ) (h : History) (e : ℕ) : Type 0 where
   pub pending : h .isPending e ≡ true → h .return e ≡ 0
   pub returned : h .isPending e ≡ false → h .start e ≤ h .return e
 
+-- openings of objects 0 to 31, and in an edition that has them
+pub record WellFormedTerms (L : Layout) (t : Terms) : Type 0 where
+  pub lacking : L .openings ≡ false → (o : ℕ) → t .opening o ≡ none
+  pub above : (o : ℕ) → 32 ≤ o → t .opening o ≡ none
+  pub value : (o : ℕ) → valueOr0 (t .opening o) < 2 ^ 32
+
 pub record WellFormed (L : Layout) (sites : ℕ) (h : History) : Type 0 where
   pub least : 1 ≤ sites
   pub most : sites ≤ 8
   pub count : h .count ≤ L .events
+  pub terms : WellFormedTerms L (h .terms)
   pub event : (e : ℕ) → e < h .count → WellFormedEvent sites h e
   pub position : (e : ℕ) → e < h .count → h .position e < h .count
   pub distinct : (d e : ℕ) → d < h .count → e < h .count → h .position d ≡ h .position e → d ≡ e

@@ -1,5 +1,5 @@
 -- A record as 64-bit words: what a reader leaves in the work slice, and the events read from words.
-use mathlib.Core.Bool.{Bool, cond}
+use mathlib.Core.Bool.{Bool, cond, _&&_}
 use mathlib.Core.List.{List, [], _++_}
 use Prim.Native.Nat.{ℕ, zero, suc, _+_, _*_, _-_, _/_, _%_}
 use lib.Dec.{eqb, ltb}
@@ -7,6 +7,7 @@ use lib.ListN.{getD, drop, replicate}
 use Rattle.rows.specs.Octets.{words}
 use Rattle.rows.specs.Row.{has, rowAt}
 use Rattle.record.specs.Layout.{Layout, slotAt, countIn, workWords}
+use Rattle.record.specs.Terms.{Held, none, value, Terms, bare}
 use Rattle.record.specs.History.{History}
 
 -- w words from byte `off` of each of the first n slots
@@ -57,7 +58,7 @@ startIn l e = getD l (4 * e + 2) 0
 abbrev pub returnIn : List ℕ → ℕ → ℕ
 returnIn l e = getD l (4 * e + 3) 0
 
--- n events read from words: four words l an event, and w words v of the events visible to it
+-- n events read from words: four words l an event, and w words v of the events visible to it; they tell no terms
 unfoldable pub historyFrom : ℕ → ℕ → List ℕ → List ℕ → History
 historyFrom n w l v = record {
   count = n;
@@ -71,4 +72,19 @@ historyFrom n w l v = record {
   start = startIn l;
   return = returnIn l;
   sees = λ e b. has (rowAt v w e) b;
+  terms = bare;
 }
+
+-- block 0 from byte 8 on, as 17 words
+unfoldable pub termsWords : List ℕ → List ℕ
+termsWords s = words 17 s 8
+
+-- its terms in them: object o has an opening where bit 32 + o is set, and the values stand two in a word behind that one, the even object's below
+abbrev pub figureIn : List ℕ → ℕ → ℕ
+figureIn q o = cond (eqb (o % 2) 0) (getD q (1 + o / 2) 0 % 4294967296) (getD q (1 + o / 2) 0 / 4294967296)
+
+unfoldable pub openingFrom : List ℕ → ℕ → Held
+openingFrom q o = cond (ltb o 32 && has q (32 + o)) (value (figureIn q o)) none
+
+abbrev pub termsFrom : List ℕ → Terms
+termsFrom q = record { opening = openingFrom q }

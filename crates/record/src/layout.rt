@@ -1,14 +1,17 @@
-// Where things stand in a record of edition `GCR1`.
+// Where things stand in a record, of whichever edition.
 ghost use mathlib.Core.Path.{_≡_};
 ghost use Prim.Native.Nat.{_+_, _≤_, _<_, _^_};
 ghost use lib.ListN.{length};
-ghost use Rattle.record.specs.Layout.{gcr1, slotAt, nextSlot, zeros};
+ghost use Rattle.record.specs.Layout.{gcr2, slotAt, nextSlot, zeros};
 
-pub const LETTERS: [u8; 4] = *b"GCR1";
+// The letters of the editions.
+pub const GCR1: [u8; 4] = *b"GCR1";
+
+pub const GCR2: [u8; 4] = *b"GCR2";
 
 pub fn slot_at(e: usize) -> usize
-    requires { ⌜ slotAt gcr1 e < 2 ^ 64 ⌝ }
-    ensures { λ r. ⌜ r ≡ slotAt gcr1 e ⌝ }
+    requires { ⌜ slotAt gcr2 e < 2 ^ 64 ⌝ }
+    ensures { λ r. ⌜ r ≡ slotAt gcr2 e ⌝ }
 {
     512 * (1 + e / 7) + 64 * (e % 7)
 }
@@ -16,7 +19,7 @@ pub fn slot_at(e: usize) -> usize
 // Where the slot after the one at `at` starts: behind it, or 128 bytes on where the next block starts there, as it does after a block's last slot.
 pub fn next_slot(at: usize) -> usize
     requires { ⌜ at + 128 < 2 ^ 64 ⌝ }
-    ensures { λ r. ⌜ r ≡ nextSlot gcr1 at ⌝ }
+    ensures { λ r. ⌜ r ≡ nextSlot gcr2 at ⌝ }
 {
     let block = at + 128;
     if block % 512 == 0 {

@@ -1,5 +1,6 @@
 // What grain position records are: their format and the questions asked of them in specs/, what follows from these in proofs/. The code has their types, and where things stand in a record.
 pub mod layout;
+pub mod openings;
 
 ghost use mathlib.Core.Path.{_≡_};
 ghost use Rattle.record.specs.Questions.{numberOf, placeOf};

@@ -2,7 +2,7 @@
 use mathlib.Core.Path.{_≡_, refl, sym, ap, ap₂, _∙_, fun-ext}
 use mathlib.Core.Bool.{Bool, true, cond, _||_}
 use mathlib.Core.List.{List}
-use Prim.Native.Nat.{ℕ, zero, suc, _+_, _*_, _/_, _%_, _≤_, _<_}
+use Prim.Native.Nat.{ℕ, _+_, _*_, _/_, _%_, _≤_, _<_}
 use native.Mathlib.Numerals.{add-one}
 use native.Mathlib.Omega.{arith}
 use lib.Dec.{eqb, ltb}
@@ -13,7 +13,8 @@ use Rattle.rows.specs.Row.{has, rowAt}
 use Rattle.rows.proofs.Tests.{split}
 use Rattle.rows.proofs.TableLaws.{has-row-cleared}
 use Rattle.record.proofs.StoresLaws.{zero-at}
-use Rattle.store.specs.Store.{upd, Cell, empty, merge, Site, Event, Store, freshSite, noEvent, fresh}
+use Rattle.record.specs.Terms.{none, Terms}
+use Rattle.store.specs.Store.{upd, Cell, untouched, merge, Site, Event, Store, freshSite, noEvent, fresh}
 use Rattle.store.specs.Calls.{Call}
 use Rattle.store.specs.Rules.{refusal, afterDelivery, withCopy, effect, afterCall}
 use Rattle.calls.specs.Mirror.{cellOf, eventOf, siteOf, Made}
@@ -26,8 +27,9 @@ use Rattle.calls.specs.declared.Served.{Served}
 use Rattle.store.proofs.UpdateLaws.{upd-elim}
 use Rattle.calls.proofs.ServeLaws.{store-path, Found}
 
--- the arrays of a run, with the count of its events
+-- the arrays of a run, with the count of its events and the terms that it started from
 pub record Arrays : Type 0 where
+  pub terms : Terms
   pub count : ℕ
   pub events : List KeptEvent
   pub sees : List ℕ
@@ -38,7 +40,7 @@ pub record Arrays : Type 0 where
   pub puts : List ℕ
 
 abbrev pub storeIn : Arrays → Store
-storeIn z = storeOf (z .count) (z .events) (z .sees) (z .kept) (z .known) (z .cells)
+storeIn z = storeOf (z .terms) (z .count) (z .events) (z .sees) (z .kept) (z .known) (z .cells)
 
 pub record Sized (z : Arrays) : Type 0 where
   pub events : length (z .events) ≡ 256
@@ -60,43 +62,40 @@ row-other many l l′ s r h t k d = h t k ∙ rw (ne-eqb t s d) refl
 
 -- ---- the start
 
-no-cells : (n i : ℕ) → getD (replicate n noCell) i noCell ≡ noCell
-no-cells zero i = refl
-no-cells (suc n) zero = refl
-no-cells (suc n) (suc i) = no-cells n i
+-- cells that hold the openings, at each of eight sites
+abbrev pub Opened : Terms → List KeptCell → Type 0
+Opened t cells = (s o : ℕ) → s < 8 → cellsOf cells s o ≡ untouched (t .opening o)
 
-fresh-cells : (s o : ℕ) → cellsOf (replicate 256 noCell) s o ≡ empty
-fresh-cells s o =
-    split (ltb o 32) (λ t. rw t (ap cellOf (no-cells 256 (32 * s + o)))) (λ t. rw t refl)
-
-fresh-kept : (s : ℕ) → siteOf freshKept (has (rowAt (replicate 32 0) 4 s)) (cellsOf (replicate 256 noCell) s) ≡ freshSite
-fresh-kept s = λ i. record {
+fresh-kept : (t : Terms) (cells : List KeptCell) → Opened t cells → (s : ℕ) → s < 8
+    → siteOf freshKept (has (rowAt (replicate 32 0) 4 s)) (cellsOf cells s) ≡ freshSite t
+fresh-kept t cells opened s l = λ i. record {
   clock = 0;
   held = λ j. zero-at 8 j i;
   known = λ x. has-row-cleared 32 4 s x i;
-  cell = λ o. fresh-cells s o i;
+  cell = λ o. opened s o l i;
 }
 
-abbrev pub freshArrays : Arrays
-freshArrays = record {
+abbrev pub freshArrays : Terms → List KeptCell → Arrays
+freshArrays t cells = record {
+  terms = t;
   count = 0;
   events = replicate 256 freshEvent;
   sees = replicate 1024 0;
   kept = replicate 8 freshKept;
   known = replicate 32 0;
-  cells = replicate 256 noCell;
+  cells = cells;
   puts = replicate 4 0;
 }
 
-pub fresh-store : storeIn freshArrays ≡ fresh
+pub fresh-store : (t : Terms) (cells : List KeptCell) → Opened t cells → storeIn (freshArrays t cells) ≡ fresh t
 unfolding storeOf
-fresh-store =
+fresh-store t cells opened =
     store-path refl
     (fun-ext (λ e. rw (le-ltb e 0 (omega arith)) refl))
     (fun-ext (λ s.
     split (ltb s 8)
-    (λ t. rw (t, getD-replicate 8 s freshKept pastSite (ltb-true s 8 t)) (fresh-kept s))
-    (λ t. rw t refl)))
+    (λ u. rw (u, getD-replicate 8 s freshKept pastSite (ltb-true s 8 u)) (fresh-kept t cells opened s (ltb-true s 8 u)))
+    (λ u. rw u refl)))
 
 module _ (z : Arrays) where
   -- ---- what a call finds
@@ -146,19 +145,20 @@ cells-set : (cells : List KeptCell) → length cells ≡ 256 → (s o : ℕ) →
 cells-set cells size s o l m y = fun-ext (λ p.
     upd-elim (λ (z : Cell). cellsOf (set cells (32 * s + o) y) s p ≡ z) (cellsOf cells s) o (cellOf y) p
     (λ q. rw (q, lt-ltb o 32 (omega arith)) (ap cellOf (getD-set-same cells (32 * s + o) y noCell (omega arith))))
-    (λ q. ap (λ (z : KeptCell). cond (ltb p 32) (cellOf z) empty) (getD-set-other cells (32 * s + o) (32 * s + p) y noCell (λ r. q (omega arith)))))
+    (λ q. ap (λ (z : KeptCell). cond (ltb p 32) (cellOf z) (untouched none)) (getD-set-other cells (32 * s + o) (32 * s + p) y noCell (λ r. q (omega arith)))))
 
 cells-other : (cells : List KeptCell) (s o t : ℕ) → o ≤ 31 → (t ≡ s → ⊥) → (y : KeptCell) → cellsOf (set cells (32 * s + o) y) t ≡ cellsOf cells t
 cells-other cells s o t m d y = fun-ext (λ p.
     split (ltb p 32)
     (λ q.
     let k : p < 32 = ltb-true p 32 q in
-    ap (λ (z : KeptCell). cond (ltb p 32) (cellOf z) empty) (getD-set-other cells (32 * s + o) (32 * t + p) y noCell (λ r. d (omega arith))))
+    ap (λ (z : KeptCell). cond (ltb p 32) (cellOf z) (untouched none)) (getD-set-other cells (32 * s + o) (32 * t + p) y noCell (λ r. d (omega arith))))
     (λ q. rw q refl))
 
 -- the arrays with a site, its row and one of its cells replaced
 abbrev pub withSite : Arrays → ℕ → Kept → List ℕ → ℕ → KeptCell → Arrays
 withSite z s b known′ at y = record {
+  terms = z .terms;
   count = z .count;
   events = z .events;
   sees = z .sees;
@@ -171,6 +171,7 @@ withSite z s b known′ at y = record {
 -- and with one more event
 abbrev pub withMade : Arrays → KeptEvent → List ℕ → List ℕ → Arrays
 withMade z e sees′ puts′ = record {
+  terms = z .terms;
   count = z .count + 1;
   events = set (z .events) (z .count) e;
   sees = sees′;
@@ -207,7 +208,7 @@ module _ (z : Arrays) (sized : Sized z) where
   unfolding storeOf
   sites-set s o l m b y known′ r h = fun-ext (λ t.
       upd-elim
-      (λ (x : Site). cond (ltb t 8) (siteOf (getD (set (z .kept) s b) t pastSite) (has (rowAt known′ 4 t)) (cellsOf (set (z .cells) (32 * s + o) y) t)) freshSite ≡ x)
+      (λ (x : Site). cond (ltb t 8) (siteOf (getD (set (z .kept) s b) t pastSite) (has (rowAt known′ 4 t)) (cellsOf (set (z .cells) (32 * s + o) y) t)) (freshSite (z .terms)) ≡ x)
       (storeIn z .site)
       s
       (siteOf b r (upd (storeIn z .site s .cell) o (cellOf y)))

@@ -3,7 +3,7 @@ use mathlib.Core.Path.{_≡_, refl, sym, ap, ap₂, _∙_}
 use mathlib.Core.Logic.{_⊎_, inl, inr}
 use mathlib.Core.Bool.{Bool, true, false, not, cond, _&&_, _||_, and-false}
 use mathlib.Core.List.{List, _∷_, _++_}
-use Prim.Native.Nat.{ℕ, _+_, _-_, _*_, _/_, _%_, _≤_, _<_}
+use Prim.Native.Nat.{ℕ, _+_, _*_, _/_, _%_, _≤_, _<_}
 use native.Mathlib.Nat.{mul-le-mul}
 use native.Mathlib.Omega.{arith}
 use lib.Dec.{eqb, ltb}
@@ -36,6 +36,7 @@ use Rattle.rehearsal.proofs.RunLaws.{Laid, Copyable, copyable, Turned, 
 -- the arrays of z with their sites changed
 abbrev pub closingArrays : Arrays → List Kept → List ℕ → List KeptCell → Arrays
 closingArrays z kept known cells = record {
+  terms = z .terms;
   count = z .count;
   events = z .events;
   sees = z .sees;
@@ -99,9 +100,9 @@ pub copying-carried : {n : ℕ} {z : Arrays} {w before : ℕ} {kept kept′ : Li
 copying-carried p q r s h = rw (p, q, r, s) h
 
 module _ (n : ℕ) (n≤8 : n ≤ 8) (z : Arrays) (laid : Laid (z .count) (z .events) (z .sees) (z .puts))
-    (ok : StoreInv n (storeIn z .event) (storeIn z)) (bounds : Limits (storeIn z)) where
+    (ok : StoreInv n (z .terms) (storeIn z .event) (storeIn z)) (bounds : Limits (storeIn z)) where
   pub closing-start : Sized z → ClosingIn n z (z .kept) (z .known) (z .cells) 0
-  closing-start sized = record { sized = sized; closing = closing-none n (storeIn z) ok }
+  closing-start sized = record { sized = sized; closing = closing-none n (storeIn z) }
 
   -- events stay
   pub closing-limits : (kept : List Kept) (known : List ℕ) (cells : List KeptCell) (copies : ℕ) → ClosingIn n z kept known cells copies
@@ -144,7 +145,7 @@ module _ (n : ℕ) (n≤8 : n ≤ 8) (z : Arrays) (laid : Laid (z .count) (z .ev
 
       pub copying-copyable : Copyable now w t
       copying-copyable =
-          copyable n n≤8 now laid (h .here .closing .keeps) (closing-limits kept known cells (h .brought) (h .here)) w t event (put-told z laid kept known cells w ∙ isPut) (omega arith)
+          copyable n n≤8 now laid (h .here .closing .keeps ok) (closing-limits kept known cells (h .brought) (h .here)) w t event (put-told z laid kept known cells w ∙ isPut) (omega arith)
 
       abbrev e : KeptEvent
       e = getD (z .events) w pastEvent
@@ -182,7 +183,7 @@ module _ (n : ℕ) (n≤8 : n ≤ 8) (z : Arrays) (laid : Laid (z .count) (z .ev
               sized = site-sized now (h .here .sized) t b known′ (32 * t + o) y long;
               closing =
                   rw stepped
-                  (closing-more n n≤8 (storeIn z) (storeIn now) (h .brought) (h .here .closing) t l w (rw (store-count now) event)
+                  (closing-more n n≤8 (storeIn z) (storeIn now) ok (h .brought) (h .here .closing) t l w (rw (store-count now) event)
                   (lacks-told z laid kept known cells t w (omega arith) ∙ rw (isPut, lacked) refl)
                   (λ i k. lacks-told z laid kept known cells t i (omega arith) ∙ h .below i t k l));
             };
@@ -260,7 +261,7 @@ module _ (t : Turn) (h : Right t) (kind : t .c .kind ≡ 4) (done : Answered t h
       let same : callOf (t .c) ≡ close = close-call (t .c) kind in
       let number : copies ≡ copied (t .n) (st t h) (closeCopies (t .n) (st t h)) =
       closed-copies (t .n) (h .sites) (t .z) (h .inv .laid) (keeps t h) (limits t h) kept known cells copies i w told past in
-      turned t h out′ bytes wrote (closingArrays (t .z) kept known cells)
+      turned t h out′ bytes wrote (closingArrays (t .z) kept known cells) refl
       (i .sized) (h .inv .laid)
       (closed-store (t .n) (h .sites) (t .z) (h .inv .laid) (keeps t h) (limits t h) kept known cells copies i w told past
       ∙ rw same (done-step (t .z) (h .inv .sized) (t .n) close (rw same at done)))

@@ -8,7 +8,8 @@ use lib.ListN.{getD}
 use borrow.Author.Tests.{lt-ltb}
 use Rattle.rows.specs.Row.{rowAt}
 use Rattle.record.specs.Encode.{SlotOf}
-use Rattle.store.specs.Recorded.{isValue, recorded}
+use Rattle.record.specs.Terms.{isValue}
+use Rattle.store.specs.Recorded.{recorded}
 use Rattle.calls.specs.Mirror.{shownOf}
 use Rattle.calls.specs.declared.KeptEvent.{KeptEvent}
 use Rattle.rehearsal.specs.Arrays.{pastEvent, storeFrom, rankIn, slotFor}

@@ -1,5 +1,6 @@
 -- The record of a run, written in place: slot after slot, and then the whole. Assumes nothing.
 use mathlib.Core.Path.{_≡_, refl, sym, ap, _∙_}
+use mathlib.Core.Bool.{true}
 use mathlib.Core.List.{List, [], _∷_, _++_}
 use Prim.Native.Nat.{ℕ, zero, suc, _+_, _*_, _≤_, _<_}
 use native.Mathlib.Omega.{arith}
@@ -7,12 +8,13 @@ use lib.ListN.{length, getD, drop, replicate}
 use lib.Seq.{sets, ext-getD}
 use Rattle.rows.specs.Row.{rowAt}
 use Rattle.rows.proofs.TableLaws.{length-row, getD-row}
-use Rattle.record.specs.Layout.{gcr1, slotAt}
-use Rattle.record.specs.History.{History}
-use Rattle.record.specs.Encode.{slotBytes, blocksFor, headerBytes, withSlots, sealed, SlotOf}
+use Rattle.record.specs.Layout.{gcr2, slotAt}
+use Rattle.record.specs.Terms.{Terms}
+use Rattle.record.specs.History.{History, under}
+use Rattle.record.specs.Encode.{slotBytes, blocksFor, headerBytes, withTerms, withSlots, sealed, SlotOf}
 use Rattle.record.specs.declared.Slot.{Slot}
-use Rattle.record.proofs.SoundLayout.{gcr1-sound}
-use Rattle.record.proofs.WrittenLaws.{slots-none, slots-more, written}
+use Rattle.record.proofs.SoundLayout.{edition-sound}
+use Rattle.record.proofs.WrittenLaws.{slots-same, slots-none, slots-more, written}
 use Rattle.store.specs.Store.{Store}
 use Rattle.store.specs.Recorded.{recorded, storeRecord}
 use Rattle.rehearsal.specs.Arrays.{pastEvent, storeFrom, Bounded, rankIn, slotFor}
@@ -40,32 +42,35 @@ four-words g k room = ext-getD 0 _ (rowAt g 4 k) (sym (length-row g 4 k (omega a
 pub record Slotted (count : ℕ) (events : List KeptEvent) (sees rec₀ rec : List ℕ) (k : ℕ) : Type 0 where
   pub within : k ≤ count
   pub long : length rec ≡ length rec₀
-  pub written : rec ≡ withSlots gcr1 (recorded (storeFrom count events sees)) k rec₀
+  pub written : rec ≡ withSlots gcr2 (recorded (storeFrom count events sees)) k rec₀
 
 module _ (count : ℕ) (events : List KeptEvent) (sees rec₀ : List ℕ) where
   abbrev st : Store
   st = storeFrom count events sees
 
   pub slotted-none : Slotted count events sees rec₀ rec₀ 0
-  slotted-none = record { within = omega arith; long = refl; written = slots-none gcr1 (recorded st) rec₀ }
+  slotted-none = record { within = omega arith; long = refl; written = slots-none gcr2 (recorded st) rec₀ }
 
   pub slotted-more : Bounded count events → (k : ℕ) → k < count → (position : ℕ) → position ≡ rankIn st k → (row : List ℕ) → row ≡ rowAt sees 4 k
       → (x : Slot) → x ≡ slotFor k (getD events k pastEvent) row position
       → (rec rec′ : List ℕ) → Slotted count events sees rec₀ rec k → length rec′ ≡ length rec
-      → ((h : History) → SlotOf h k x → rec′ ≡ sets rec (slotAt gcr1 k) (slotBytes gcr1 h k))
+      → ((h : History) → SlotOf h k x → rec′ ≡ sets rec (slotAt gcr2 k) (slotBytes gcr2 h k))
       → Slotted count events sees rec₀ rec′ (k + 1)
   slotted-more small k next position placed row seen x slot rec rec′ s long put =
       let right : SlotOf (recorded st) k x = rw (slot, placed, seen) (slot-of count events sees k next (small .object k next)) in record {
         within = omega arith;
         long = long ∙ s .long;
-        written = slots-more gcr1 (recorded st) rec₀ rec rec′ k (s .written) (put (recorded st) right);
+        written = slots-more gcr2 (recorded st) rec₀ rec rec′ k (s .written) (put (recorded st) right);
       }
 
 -- ---- the whole
 
-pub image-written : (n : ℕ) (st : Store) (k : ℕ) (buffer s₁ s₂ s₃ s₄ : List ℕ) → k ≡ blocksFor gcr1 (st .count)
-    → s₁ ≡ replicate (512 * k) 0 ++ drop (512 * k) buffer → s₂ ≡ sets s₁ 0 (headerBytes gcr1 (st .count) n)
-    → s₃ ≡ withSlots gcr1 (recorded st) (st .count) s₂ → s₄ ≡ sealed k s₃
-    → s₄ ≡ storeRecord gcr1 n st ++ drop (512 * blocksFor gcr1 (st .count)) buffer
-unfolding storeRecord recorded
-image-written n st k buffer s₁ s₂ s₃ s₄ e₀ e₁ e₂ e₃ e₄ = written gcr1 gcr1-sound (recorded st) n k buffer s₁ s₂ s₃ s₄ e₀ e₁ e₂ e₃ e₄
+pub image-written : (n : ℕ) (t : Terms) (st : Store) (k : ℕ) (buffer s₁ s₂ s₃ s₄ s₅ : List ℕ) → k ≡ blocksFor gcr2 (st .count)
+    → s₁ ≡ replicate (512 * k) 0 ++ drop (512 * k) buffer → s₂ ≡ sets s₁ 0 (headerBytes gcr2 (st .count) n) → s₃ ≡ withTerms gcr2 t s₂
+    → s₄ ≡ withSlots gcr2 (recorded st) (st .count) s₃ → s₅ ≡ sealed k s₄
+    → s₅ ≡ storeRecord gcr2 n t st ++ drop (512 * blocksFor gcr2 (st .count)) buffer
+-- slots tell no terms
+unfolding storeRecord recorded slotBytes
+image-written n t st k buffer s₁ s₂ s₃ s₄ s₅ e₀ e₁ e₂ e₃ e₄ e₅ =
+    written gcr2 (edition-sound true) (under t (recorded st)) n k buffer s₁ s₂ s₃ s₄ s₅ e₀ e₁ e₂ e₃
+    (e₄ ∙ slots-same gcr2 (recorded st) (under t (recorded st)) (st .count) (λ e l. refl) s₃) e₅

@@ -8,8 +8,10 @@ use native.Mathlib.Omega.{arith}
 use lib.Dec.{eqb, leb}
 use lib.ListN.{length, drop, length-append}
 use borrow.Author.Tests.{eqb-true}
-use Rattle.record.specs.Layout.{gcr1}
-use Rattle.record.proofs.SoundLayout.{gcr1-sound}
+use Rattle.record.specs.Layout.{gcr2}
+use Rattle.record.specs.Terms.{openingsRight}
+use Rattle.record.specs.History.{under}
+use Rattle.record.proofs.SoundLayout.{edition-sound}
 use Rattle.record.proofs.ImageLaws.{length-record}
 use Rattle.store.specs.Store.{Store, fresh}
 use Rattle.store.specs.Calls.{callsOf}
@@ -17,7 +19,7 @@ use Rattle.store.specs.Rules.{run}
 use Rattle.record.specs.Questions.{ask}
 use Rattle.store.specs.Recorded.{recorded, storeRecord}
 use Rattle.store.specs.Outstanding.{outstanding, puts}
-use Rattle.store.specs.Rehearsal.{rehearsalRefusal, storeAfter, recordOf, recordAfter, lengthAfter, outstandingAfter}
+use Rattle.store.specs.Rehearsal.{rehearsalRefusal, termsOf, storeAfter, recordOf, recordAfter, lengthAfter, outstandingAfter}
 use Rattle.store.specs.Demand.{Rehearses}
 use Rattle.store.specs.declared.Rehearsed.{Rehearsed}
 use Rattle.store.proofs.OutstandingLaws.{puts-most}
@@ -34,53 +36,55 @@ cond-most true x m h = h refl
 cond-most false x m h = omega arith
 
 pub record SmallResult (r : Rehearsed) : Type 0 where
-  pub number : r .number ≤ 23
+  pub number : r .number ≤ 40
   pub length : r .length ≤ 19456
   pub outstanding : r .outstanding ≤ 1792
 
-module _ (n : ℕ) (script rec ans : List ℕ) where
+module _ (n : ℕ) (openings script rec ans : List ℕ) where
   abbrev passed : Bool
-  passed = eqb (rehearsalRefusal n script rec ans) 0
+  passed = eqb (rehearsalRefusal n openings script rec ans) 0
 
-  refusal-most : rehearsalRefusal n script rec ans ≤ 23
+  refusal-most : rehearsalRefusal n openings script rec ans ≤ 40
   unfolding rehearsalRefusal
   refusal-most =
-      ask-most (leb 1 n && leb n 8) 20 _ 23 (omega arith)
-      (ask-most (eqb (length script % 8) 0 && leb (length script) 32768) 21 _ 23 (omega arith)
-      (ask-most (leb 19456 (length rec)) 22 _ 23 (omega arith) (ask-most (leb (length script) (length ans)) 23 0 23 (omega arith) (omega arith))))
+      ask-most (leb 1 n && leb n 8) 20 _ 40 (omega arith)
+      (ask-most (eqb (length script % 8) 0 && leb (length script) 32768) 21 _ 40 (omega arith)
+      (ask-most (leb 19456 (length rec)) 22 _ 40 (omega arith)
+      (ask-most (leb (length script) (length ans)) 23 _ 40 (omega arith)
+      (ask-most (eqb (length openings) 132 && openingsRight openings 0) 40 0 40 (omega arith) (omega arith)))))
 
-  record-most : length (recordOf n script) ≤ 19456
+  record-most : length (recordOf n openings script) ≤ 19456
   unfolding recordOf storeRecord recorded
-  record-most = omega (arith, length-record gcr1 gcr1-sound (recorded (storeAfter n script)) n, store-few n script)
+  record-most = omega (arith, length-record gcr2 (edition-sound true) (under (termsOf openings) (recorded (storeAfter n openings script))) n, store-few n openings script)
 
-  length-most : lengthAfter n script rec ans ≤ 19456
+  length-most : lengthAfter n openings script rec ans ≤ 19456
   unfolding lengthAfter
-  length-most = cond-most passed (length (recordOf n script)) 19456 (λ t. record-most)
+  length-most = cond-most passed (length (recordOf n openings script)) 19456 (λ t. record-most)
 
-  copies-most : outstandingAfter n script rec ans ≤ 1792
+  copies-most : outstandingAfter n openings script rec ans ≤ 1792
   unfolding outstandingAfter storeAfter
   copies-most =
-      let st : Store = run n fresh (callsOf script) in
-      let few : puts st ≤ 256 = omega (arith, puts-most st, every-limits n (callsOf script) .count) in
+      let st : Store = run n (fresh (termsOf openings)) (callsOf script) in
+      let few : puts st ≤ 256 = omega (arith, puts-most st, every-limits n (termsOf openings) (callsOf script) .count) in
       cond-most passed (outstanding n st) 1792
       (λ t.
-      let n≤8 : n ≤ 8 = accepted n script rec ans (eqb-true (rehearsalRefusal n script rec ans) 0 t) .most in
+      let n≤8 : n ≤ 8 = accepted n openings script rec ans (eqb-true (rehearsalRefusal n openings script rec ans) 0 t) .most in
       let sites : n - 1 ≤ 7 = omega arith in
-      omega (arith, every-copy n n≤8 (callsOf script), mul-le-mul few sites))
+      omega (arith, every-copy n n≤8 (termsOf openings) (callsOf script), mul-le-mul few sites))
 
   -- a record is in front of the buffer that it is in
-  within : lengthAfter n script rec ans ≤ length (recordAfter n script rec ans)
+  within : lengthAfter n openings script rec ans ≤ length (recordAfter n openings script rec ans)
   unfolding lengthAfter recordAfter
   within = go passed
     where
       s : List ℕ
-      s = recordOf n script
+      s = recordOf n openings script
 
       go : (t : Bool) → cond t (length s) 0 ≤ length (cond t (s ++ drop (length s) rec) rec)
       go true = omega (arith, length-append s (drop (length s) rec))
       go false = omega arith
 
-  module _ (rec′ ans′ : List ℕ) (r : Rehearsed) (h : Rehearses n script rec ans rec′ ans′ r) where
+  module _ (rec′ ans′ : List ℕ) (r : Rehearsed) (h : Rehearses n openings script rec ans rec′ ans′ r) where
     pub result-small : SmallResult r
     result-small = record {
       number = omega (arith, h .number, refusal-most);

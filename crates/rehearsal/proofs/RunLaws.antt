@@ -18,11 +18,11 @@ use Rattle.rows.proofs.Digits.{shl-one}
 use Rattle.rows.proofs.RowLaws.{row-none, row-same, row-set, row-skip}
 use Rattle.rows.proofs.TableLaws.{length-row-le, length-row, getD-row}
 use Rattle.record.proofs.StoresLaws.{zero-at}
-use Rattle.consistency.specs.Reads.{value}
+use Rattle.record.specs.Terms.{value, Terms}
 use Rattle.store.specs.Store.{upd, Cell, merge, Site, Event, Store, fresh}
 use Rattle.store.specs.Calls.{Call, deliver, callAt, callsOf}
 use Rattle.store.specs.Rules.{reached, refusal, afterDelivery, withCopy, effect, doneAnswer, answer, afterCall, answers}
-use Rattle.store.specs.Rehearsal.{storeAfter}
+use Rattle.store.specs.Rehearsal.{termsOf, storeAfter}
 use Rattle.calls.specs.Mirror.{callOf, cellOf, shownOf, eventOf, siteOf, partOf, withCounts, Made}
 use Rattle.rehearsal.specs.Arrays.{noCell, pastEvent, pastSite, freshKept, freshEvent, Ends}
 use Rattle.calls.specs.declared.Asked.{Asked}
@@ -35,7 +35,7 @@ use Rattle.store.proofs.RunKeeps.{Doable}
 use Rattle.store.proofs.Sizes.{Limits, Sizes, sizes}
 use Rattle.store.proofs.WholeList.{storeUpTo, answersUpTo, store-none, store-more, answers-none, answers-more, up-to-keeps, up-to-limits, up-to-sizes, store-whole, answers-whole, answer-length, answers-up-to-length}
 use Rattle.calls.proofs.ServeLaws.{same-refusal, refused-before, refused-late, delivery-done, event-done, some-kind, put-fits, get-fits, deliver-fits, deliver-site, deliver-call}
-use Rattle.rehearsal.proofs.ArrayLaws.{Arrays, storeIn, Sized, fresh-store, store-count, site-at, event-at, site-found, cell-at, found, withSite, withMade, site-sized, made-sized, refused-step, done-step, copied-step, made-step}
+use Rattle.rehearsal.proofs.ArrayLaws.{Arrays, storeIn, Sized, Opened, fresh-store, store-count, site-at, event-at, site-found, cell-at, found, withSite, withMade, site-sized, made-sized, refused-step, done-step, copied-step, made-step}
 
 -- ---- stores one after the other
 
@@ -153,42 +153,44 @@ pub record Turned (n : ℕ) (script out₀ out : List ℕ) (z : Arrays) (k : ℕ
   pub within : k ≤ length script / 8
   pub sized : Sized z
   pub laid : Laid (z .count) (z .events) (z .sees) (z .puts)
-  pub store : storeIn z ≡ storeUpTo k n script
+  pub store : storeIn z ≡ storeUpTo k n (z .terms) script
   pub long : length out ≡ length out₀
-  pub written : out ≡ answersUpTo k n script ++ drop (8 * k) out₀
+  pub written : out ≡ answersUpTo k n (z .terms) script ++ drop (8 * k) out₀
 
-pub turned-none : (n : ℕ) (script out : List ℕ) (a : Kept) (x : KeptCell) (e : KeptEvent) → a ≡ freshKept → x ≡ noCell → e ≡ freshEvent
+pub turned-none : (n : ℕ) (t : Terms) (script out : List ℕ) (a : Kept) (cells : List KeptCell) (e : KeptEvent)
+    → a ≡ freshKept → length cells ≡ 256 → Opened t cells → e ≡ freshEvent
     → Turned n script out out
     (record {
+      terms = t;
       count = 0;
       events = replicate 256 e;
       sees = replicate 1024 0;
       kept = replicate 8 a;
       known = replicate 32 0;
-      cells = replicate 256 x;
+      cells = cells;
       puts = replicate 4 0;
     })
     0
-turned-none n script out a x e p q r = record {
+turned-none n t script out a cells e p q opened r = record {
   within = omega arith;
   sized = record {
     events = length-replicate 256 e;
     sees = length-replicate {A = ℕ} 1024 0;
     kept = length-replicate 8 a;
     known = length-replicate {A = ℕ} 32 0;
-    cells = length-replicate 256 x;
+    cells = q;
     puts = length-replicate {A = ℕ} 4 0;
   };
   laid = rw r laid-none;
-  store = rw (p, q, r) (fresh-store ∙ sym (store-none n script));
+  store = rw (p, r) (fresh-store t cells opened ∙ sym (store-none n t script));
   long = refl;
-  written = ap (λ (l : List ℕ). l ++ out) (sym (answers-none n script));
+  written = ap (λ (l : List ℕ). l ++ out) (sym (answers-none n t script));
 }
 
 -- the number of events stays small
 pub count-few : (n : ℕ) (script out₀ out : List ℕ) (z : Arrays) (k : ℕ) → Turned n script out₀ out z k → z .count ≤ 256
 count-few n script out₀ out z k h =
-    let limits : Limits (storeIn z) = rw (h .store) (up-to-limits k n script) in
+    let limits : Limits (storeIn z) = rw (h .store) (up-to-limits k n (z .terms) script) in
     rw (store-count z) at (limits .count)
 
 -- a turn: call k of the script, at site s and of event w, and the number that refuses it before 36 is asked, or 0
@@ -231,7 +233,7 @@ pub record Copyable (z : Arrays) (w s : ℕ) : Type 0 where
   pub present : getD (z .events) w pastEvent .present ≡ true
   pub held : (i : ℕ) → getD (getD (z .kept) s pastSite .counts) i 0 ≤ 256
 
-pub copyable : (n : ℕ) → n ≤ 8 → (z : Arrays) → Laid (z .count) (z .events) (z .sees) (z .puts) → StoreInv n (storeIn z .event) (storeIn z) → Limits (storeIn z)
+pub copyable : (n : ℕ) → n ≤ 8 → (z : Arrays) → Laid (z .count) (z .events) (z .sees) (z .puts) → StoreInv n (z .terms) (storeIn z .event) (storeIn z) → Limits (storeIn z)
     → (w s : ℕ) → w < z .count → storeIn z .event w .isPut ≡ true → s < 8 → Copyable z w s
 copyable n n≤8 z laid keeps limits w s l isPut small =
     let e : KeptEvent = getD (z .events) w pastEvent in
@@ -276,13 +278,13 @@ module _ (t : Turn) (h : Right t) where
   e = keptEvent t
 
   pub limits : Limits st
-  limits = rw (h .inv .store) (up-to-limits (t .k) (t .n) (t .script))
+  limits = rw (h .inv .store) (up-to-limits (t .k) (t .n) (t .z .terms) (t .script))
 
   pub small : Sizes st
-  small = rw (h .inv .store) (up-to-sizes (t .k) (t .n) (h .sites) (t .script))
+  small = rw (h .inv .store) (up-to-sizes (t .k) (t .n) (h .sites) (t .z .terms) (t .script))
 
-  pub keeps : StoreInv (t .n) (st .event) st
-  keeps = rw (h .inv .store) (up-to-keeps (t .k) (t .n) (h .sites) (t .script))
+  pub keeps : StoreInv (t .n) (t .z .terms) (st .event) st
+  keeps = rw (h .inv .store) (up-to-keeps (t .k) (t .n) (h .sites) (t .z .terms) (t .script))
 
   few : t .z .count ≤ 256
   few = count-few (t .n) (t .script) (t .out₀) (t .out) (t .z) (t .k) (h .inv)
@@ -349,37 +351,39 @@ module _ (t : Turn) (h : Right t) where
 
   module _ (out′ bytes : List ℕ) (wrote : out′ ≡ sets (t .out) (8 * t .k) bytes) where
     -- one call more, whichever way it went
-    pub turned : (z′ : Arrays) → Sized z′
+    pub turned : (z′ : Arrays) → z′ .terms ≡ t .z .terms → Sized z′
         → Laid (z′ .count) (z′ .events) (z′ .sees) (z′ .puts)
         → storeIn z′ ≡ afterCall (t .n) st call → bytes ≡ answer (t .n) st call
         → Turned (t .n) (t .script) (t .out₀) out′ z′ (t .k + 1)
-    turned z′ sized laid stepped answered =
+    turned z′ same sized laid stepped answered =
         let n : ℕ = t .n in
         let k : ℕ = t .k in
         let script : List ℕ = t .script in
-        let right : bytes ≡ answer n (storeUpTo k n script) (callAt script (8 * k)) = rw (← (h .inv .store), ← (h .asked)) answered in
-        let more : answersUpTo k n script ++ answer n (storeUpTo k n script) (callAt script (8 * k)) ≡ answersUpTo (k + 1) n script =
-        rw add-one (sym (answers-more k n script)) in
-        let eight : length bytes ≡ 8 = ap length right ∙ answer-length n (storeUpTo k n script) (callAt script (8 * k)) in
+        let from : Terms = t .z .terms in
+        let right : bytes ≡ answer n (storeUpTo k n from script) (callAt script (8 * k)) = rw (← (h .inv .store), ← (h .asked)) answered in
+        let more : answersUpTo k n from script ++ answer n (storeUpTo k n from script) (callAt script (8 * k)) ≡ answersUpTo (k + 1) n from script =
+        rw add-one (sym (answers-more k n from script)) in
+        let eight : length bytes ≡ 8 = ap length right ∙ answer-length n (storeUpTo k n from script) (callAt script (8 * k)) in
+        let on : storeIn z′ ≡ storeUpTo (k + 1) n from script = rw (add-one, store-more, ← (h .inv .store), ← (h .asked)) stepped in
         record {
           within = omega (arith, h .next);
           sized = sized;
           laid = laid;
-          store = rw (add-one, store-more, ← (h .inv .store), ← (h .asked)) stepped;
+          store = on ∙ ap (λ (u : Terms). storeUpTo (k + 1) n u script) (sym same);
           long = ap length wrote ∙ length-sets (t .out) (8 * k) bytes ∙ h .inv .long;
           written =
               wrote
               ∙ ap (λ (l : List ℕ). sets l (8 * k) bytes) (h .inv .written)
-              ∙ lay (answersUpTo k n script) bytes (t .out₀) k (answers-up-to-length k n script) eight (omega (arith, h .next, h .short))
+              ∙ lay (answersUpTo k n from script) bytes (t .out₀) k (answers-up-to-length k n from script) eight (omega (arith, h .next, h .short))
               ∙ ap (λ (l : List ℕ). l ++ drop (8 * (k + 1)) (t .out₀))
-              (ap (λ (b : List ℕ). answersUpTo k n script ++ b) right ∙ more);
+              (ap (λ (b : List ℕ). answersUpTo k n from script ++ b) right ∙ more ∙ ap (λ (u : Terms). answersUpTo (k + 1) n u script) (sym same));
         }
 
     pub turned-refused : (i : ℕ) → Answered i → (i ≡ 0 → ⊥) → bytes ≡ i ∷ replicate 7 0
         → Turned (t .n) (t .script) (t .out₀) out′ (t .z) (t .k + 1)
     turned-refused i is d b =
         let r : refusal (t .n) st call ≡ 0 → ⊥ = λ q. d (sym is ∙ q) in
-        turned (t .z) (h .inv .sized) (h .inv .laid) (refused-step (t .z) (h .inv .sized) (t .n) call r)
+        turned (t .z) refl (h .inv .sized) (h .inv .laid) (refused-step (t .z) (h .inv .sized) (t .n) call r)
         (b ∙ ap (λ (j : ℕ). j ∷ replicate 7 0) (sym is) ∙ sym (refused-answer (t .n) st call r))
 
     module _ (done : Answered 0) where
@@ -399,7 +403,7 @@ module _ (t : Turn) (h : Right t) where
           let site : t .s ≡ t .c .site = omega (arith, d .site, h .site, h .sites) in
           let event : t .w ≡ t .c .event = omega (arith, d .event, few, h .event) in
           let same : call ≡ deliver (t .w) (t .s) = deliver-call (t .c) kind ∙ ap₂ deliver (sym event) (sym site) in
-          turned (withSite (t .z) (t .s) b known′ (32 * t .s + o) y)
+          turned (withSite (t .z) (t .s) b known′ (32 * t .s + o) y) refl
           (site-sized (t .z) (h .inv .sized) (t .s) b known′ (32 * t .s + o) y long)
           (h .inv .laid)
           (rw object
@@ -434,7 +438,7 @@ module _ (t : Turn) (h : Right t) where
           (made st (has (rowAt (z .known) 4 (t .c .site))) (store-count z) (rw (← site) (site-found z s low-site))
           (rw (← site, ← object) (cell-at z s o low-site low))) in
           let with-site : Arrays = withSite z s (r .site) known′ (32 * s + o) (r .cell) in
-          turned (withMade with-site (r .event) sees′ puts′)
+          turned (withMade with-site (r .event) sees′ puts′) refl
           (made-sized with-site (site-sized z (h .inv .sized) s (r .site) known′ (32 * s + o) (r .cell) long) (r .event) sees′ puts′ wide four)
           (laid-more (z .count) (z .events) (z .sees) sees′ (rowAt (z .known) 4 s) (z .puts) puts′ (r .event) (h .inv .laid) (omega (arith, d .room, h .inv .sized .events)) least seen rowed)
           (made-step z (h .inv .sized) (t .n) call s o r sees′ known′ puts′ low-site low (d .room) done m rows
@@ -442,36 +446,38 @@ module _ (t : Turn) (h : Right t) where
           (b ∙ m .answer (t .n) ∙ sym (done-answer (t .n) st call done))
 
 -- the loop's variables may be given by equations
-pub carried : {n : ℕ} {script out₀ out out′ : List ℕ} {kept kept′ : List Kept} {known known′ : List ℕ} {cells cells′ : List KeptCell}
+pub carried : {n : ℕ} {terms : Terms} {script out₀ out out′ : List ℕ} {kept kept′ : List Kept} {known known′ : List ℕ} {cells cells′ : List KeptCell}
     {events events′ : List KeptEvent} {sees sees′ puts puts′ : List ℕ} {count count′ k : ℕ}
     → out ≡ out′ → kept ≡ kept′ → known ≡ known′ → cells ≡ cells′ → events ≡ events′ → sees ≡ sees′ → puts ≡ puts′ → count ≡ count′
     → Turned n script out₀ out′
-    (record { count = count′; events = events′; sees = sees′; kept = kept′; known = known′; cells = cells′; puts = puts′ })
+    (record { terms = terms; count = count′; events = events′; sees = sees′; kept = kept′; known = known′; cells = cells′; puts = puts′ })
     k
-    → Turned n script out₀ out (record { count = count; events = events; sees = sees; kept = kept; known = known; cells = cells; puts = puts }) k
+    → Turned n script out₀ out (record { terms = terms; count = count; events = events; sees = sees; kept = kept; known = known; cells = cells; puts = puts }) k
 carried p q r s t u v w h = rw (p, q, r, s, t, u, v, w) h
 
 module _ (n : ℕ) (script out₀ out : List ℕ) (z : Arrays) (k : ℕ) (h : Turned n script out₀ out z k)
     (all : k ≡ length script / 8) where
-  whole : storeIn z ≡ storeAfter n script
-  whole = h .store ∙ ap (λ (i : ℕ). storeUpTo i n script) all ∙ store-whole n script
-
-  pub whole-answers : length script % 8 ≡ 0 → out ≡ answers n fresh (callsOf script) ++ drop (length script) out₀
+  pub whole-answers : length script % 8 ≡ 0 → out ≡ answers n (fresh (z .terms)) (callsOf script) ++ drop (length script) out₀
   whole-answers q =
       let end : 8 * k ≡ length script = omega arith in
       h .written
-      ∙ ap (λ (l : List ℕ). l ++ drop (8 * k) out₀) (ap (λ (i : ℕ). answersUpTo i n script) all ∙ answers-whole n script)
-      ∙ ap (λ (i : ℕ). answers n fresh (callsOf script) ++ drop i out₀) end
+      ∙ ap (λ (l : List ℕ). l ++ drop (8 * k) out₀) (ap (λ (i : ℕ). answersUpTo i n (z .terms) script) all ∙ answers-whole n (z .terms) script)
+      ∙ ap (λ (i : ℕ). answers n (fresh (z .terms)) (callsOf script) ++ drop i out₀) end
 
-  whole-put : (e : ℕ) → e < z .count → getD (z .events) e pastEvent .put ≡ storeAfter n script .event e .isPut
-  whole-put e l = sym (ap (λ (x : Event). x .isPut) (event-at z e l)) ∙ ap (λ (st : Store). st .event e .isPut) whole
+  -- where it started from these openings
+  module _ (openings : List ℕ) (opened : z .terms ≡ termsOf openings) where
+    whole : storeIn z ≡ storeAfter n openings script
+    whole = h .store ∙ ap₂ (λ (i : ℕ) (u : Terms). storeUpTo i n u script) all opened ∙ store-whole n openings script
 
-  pub whole-ends : Ends n script (record { count = z .count; events = z .events; sees = z .sees; puts = z .puts; known = z .known })
-  whole-ends = record {
-    count = sym (store-count z) ∙ ap (λ (st : Store). st .count) whole;
-    event = λ e l. sym (event-at z e l) ∙ ap (λ (st : Store). st .event e) whole;
-    unmade = h .laid .unmade;
-    unseen = h .laid .unseen;
-    puts = row-same (z .count) (λ e. getD (z .events) e pastEvent .put) (z .puts) (h .laid .put) (λ e. storeAfter n script .event e .isPut) whole-put;
-    known = λ s l. sym (ap (λ (x : Site). x .known) (site-at z s l)) ∙ ap (λ (st : Store). st .site s .known) whole;
-  }
+    whole-put : (e : ℕ) → e < z .count → getD (z .events) e pastEvent .put ≡ storeAfter n openings script .event e .isPut
+    whole-put e l = sym (ap (λ (x : Event). x .isPut) (event-at z e l)) ∙ ap (λ (st : Store). st .event e .isPut) whole
+
+    pub whole-ends : Ends n openings script (record { count = z .count; events = z .events; sees = z .sees; puts = z .puts; known = z .known })
+    whole-ends = record {
+      count = sym (store-count z) ∙ ap (λ (st : Store). st .count) whole;
+      event = λ e l. sym (event-at z e l) ∙ ap (λ (st : Store). st .event e) whole;
+      unmade = h .laid .unmade;
+      unseen = h .laid .unseen;
+      puts = row-same (z .count) (λ e. getD (z .events) e pastEvent .put) (z .puts) (h .laid .put) (λ e. storeAfter n openings script .event e .isPut) whole-put;
+      known = λ s l. sym (ap (λ (x : Site). x .known) (site-at z s l)) ∙ ap (λ (st : Store). st .site s .known) whole;
+    }

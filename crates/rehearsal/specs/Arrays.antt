@@ -7,8 +7,8 @@ use lib.Dec.{eqb, ltb}
 use lib.ListN.{getD, replicate}
 use Rattle.rows.specs.Row.{has, rowAt, Row}
 use Rattle.record.specs.declared.Slot.{Slot}
-use Rattle.store.specs.Store.{Cell, empty, Event, Store, freshSite, noEvent}
-use Rattle.store.specs.Rules.{valueOr0}
+use Rattle.record.specs.Terms.{none, valueOr0, Terms, bare}
+use Rattle.store.specs.Store.{Cell, untouched, Event, Store, freshSite, noEvent}
 use Rattle.store.specs.Recorded.{rank}
 use Rattle.store.specs.Rehearsal.{storeAfter}
 use Rattle.calls.specs.declared.Kept.{Kept}
@@ -23,7 +23,7 @@ noCell = record { value = 0; order = 0 }
 
 -- the cells of site s: those of its 32 objects, from 32 × s on
 abbrev pub cellsOf : List KeptCell → ℕ → ℕ → Cell
-cellsOf cells s o = cond (ltb o 32) (cellOf (getD cells (32 * s + o) noCell)) empty
+cellsOf cells s o = cond (ltb o 32) (cellOf (getD cells (32 * s + o) noCell)) (untouched none)
 
 abbrev pub pastEvent : KeptEvent
 pastEvent = record { order = 0; value = 0; object = 0; put = false; present = false; needs = [] }
@@ -42,28 +42,29 @@ freshEvent = record { order = 0; value = 0; object = 0; put = false; present = f
 abbrev pub eventIn : List KeptEvent → List ℕ → ℕ → Event
 eventIn events sees e = eventOf (getD events e pastEvent) (has (rowAt sees 4 e))
 
--- the whole store: count events, what each sees in a row of four words, eight sites, what each knows in such a row, 256 cells
-unfoldable pub storeOf : ℕ → List KeptEvent → List ℕ → List Kept → List ℕ → List KeptCell → Store
-storeOf count events sees kept known cells = record {
+-- the whole store: count events, what each sees in a row of four words, eight sites, what each knows in such a row, 256 cells.
+-- Sites from 8 on are as they started
+unfoldable pub storeOf : Terms → ℕ → List KeptEvent → List ℕ → List Kept → List ℕ → List KeptCell → Store
+storeOf t count events sees kept known cells = record {
   count = count;
   event = λ e. cond (ltb e count) (eventIn events sees e) noEvent;
-  site = λ s. cond (ltb s 8) (siteOf (getD kept s pastSite) (has (rowAt known 4 s)) (cellsOf cells s)) freshSite;
+  site = λ s. cond (ltb s 8) (siteOf (getD kept s pastSite) (has (rowAt known 4 s)) (cellsOf cells s)) (freshSite t);
 }
 
 -- what a script comes to at n sites: the events of its store, behind them what the arrays start with, the puts among them, and what each site knows
-pub record Ends (n : ℕ) (script : List ℕ) (ran : Ran) : Type 0 where
-  pub count : ran .count ≡ storeAfter n script .count
-  pub event : (e : ℕ) → e < ran .count → eventIn (ran .events) (ran .sees) e ≡ storeAfter n script .event e
+pub record Ends (n : ℕ) (openings script : List ℕ) (ran : Ran) : Type 0 where
+  pub count : ran .count ≡ storeAfter n openings script .count
+  pub event : (e : ℕ) → e < ran .count → eventIn (ran .events) (ran .sees) e ≡ storeAfter n openings script .event e
   pub unmade : (e : ℕ) → ran .count ≤ e → e < 256 → getD (ran .events) e pastEvent ≡ freshEvent
   pub unseen : (e : ℕ) → ran .count ≤ e → e < 256 → rowAt (ran .sees) 4 e ≡ replicate 4 0
-  pub puts : Row (ran .count) (λ e. storeAfter n script .event e .isPut) (ran .puts)
-  pub known : (s : ℕ) → s < 8 → has (rowAt (ran .known) 4 s) ≡ storeAfter n script .site s .known
+  pub puts : Row (ran .count) (λ e. storeAfter n openings script .event e .isPut) (ran .puts)
+  pub known : (s : ℕ) → s < 8 → has (rowAt (ran .known) 4 s) ≡ storeAfter n openings script .site s .known
 
 -- ---- what is made of a run's events
 
 -- count events as a store. Its sites may be any: a record does not tell of them
 abbrev pub storeFrom : ℕ → List KeptEvent → List ℕ → Store
-storeFrom count events sees = record { count = count; event = eventIn events sees; site = λ s. freshSite }
+storeFrom count events sees = record { count = count; event = eventIn events sees; site = λ s. freshSite bare }
 
 abbrev pub ranStore : Ran → Store
 ranStore ran = storeFrom (ran .count) (ran .events) (ran .sees)

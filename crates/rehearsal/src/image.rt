@@ -3,13 +3,16 @@ use super::Ran;
 use super::ranks;
 use super::slots;
 ghost use mathlib.Core.Path.{_≡_};
+ghost use mathlib.Core.Bool.{true};
 ghost use mathlib.Core.List.{_++_};
 ghost use Prim.Native.Nat.{_+_, _*_, _≤_};
 ghost use lib.ListN.{length, drop};
 ghost use Rattle.rows.specs.Row.{rowAt};
-ghost use Rattle.record.specs.Layout.{gcr1};
+ghost use Rattle.record.specs.Layout.{gcr2};
+ghost use Rattle.record.specs.Terms.{openingsRight};
 ghost use Rattle.record.specs.Encode.{blocksFor, withSlots};
 ghost use Rattle.store.specs.Recorded.{recorded, storeRecord};
+ghost use Rattle.store.specs.Rehearsal.{termsOf};
 ghost use Rattle.rehearsal.specs.Arrays.{ranStore, Bounded, DistinctStamps};
 
 // What event k sees.
@@ -25,8 +28,8 @@ fn row_of(sees: &[u64], k: usize) -> [u64; 4]
 fn put_slots(ran: Ran, rec: &mut [u8])
     requires { ⌜ Bounded (ran .count) (ran .events) ⌝ }
     requires { ⌜ DistinctStamps (ranStore ran) ⌝ }
-    requires { ⌜ 512 * blocksFor gcr1 (ran .count) ≤ length (now rec) ⌝ }
-    ensures { λ _. ⌜ now (rec .exit) ≡ withSlots gcr1 (recorded (ranStore ran)) (ran .count) (now (rec .entry)) ⌝ }
+    requires { ⌜ 512 * blocksFor gcr2 (ran .count) ≤ length (now rec) ⌝ }
+    ensures { λ _. ⌜ now (rec .exit) ≡ withSlots gcr2 (recorded (ranStore ran)) (ran .count) (now (rec .entry)) ⌝ }
 {
     let positions = ranks::positions(ran);
     let events = ran.events;
@@ -41,18 +44,20 @@ fn put_slots(ran: Ran, rec: &mut [u8])
     }
 }
 
-// The whole record, of n sites; the rest of the buffer stays. The result is the record's length.
-pub fn write(n: u8, ran: Ran, rec: &mut [u8]) -> usize
+// The whole record, of n sites with these openings; the rest of the buffer stays. The result is the record's length.
+pub fn write(n: u8, openings: &[u8], ran: Ran, rec: &mut [u8]) -> usize
+    requires { ⌜ (length (now openings) ≡ 132) × (openingsRight (now openings) 0 ≡ true) ⌝ }
     requires { ⌜ Bounded (ran .count) (ran .events) ⌝ }
     requires { ⌜ DistinctStamps (ranStore ran) ⌝ }
     requires { ⌜ 19456 ≤ length (now rec) ⌝ }
-    ensures { λ r. ⌜ r ≡ 512 * blocksFor gcr1 (ran .count) ⌝ }
-    ensures { λ _. ⌜ now (rec .exit) ≡ storeRecord gcr1 n (ranStore ran) ++ drop (512 * blocksFor gcr1 (ran .count)) (now (rec .entry)) ⌝ }
+    ensures { λ r. ⌜ r ≡ 512 * blocksFor gcr2 (ran .count) ⌝ }
+    ensures { λ _. ⌜ now (rec .exit) ≡ storeRecord gcr2 n (termsOf (now (openings .entry))) (ranStore ran) ++ drop (512 * blocksFor gcr2 (ran .count)) (now (rec .entry)) ⌝ }
 {
     let count = ran.count;
     let blocks = 1 + (count + 6) / 7;
     writer::clear(rec, 512 * blocks);
     writer::header(rec, count, n);
+    writer::openings(rec, openings);
     put_slots(ran, rec);
     writer::seal(rec, blocks);
     512 * blocks

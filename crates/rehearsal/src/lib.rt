@@ -1,4 +1,4 @@
-// The rehearsal of the store: a script of calls at one to eight fresh sites, its answers, and the record that it leaves.
+// The rehearsal of the store: a script of calls at one to eight fresh sites, whose cells start with openings, its answers, and the record that it leaves.
 
 pub mod copies;
 pub mod image;
@@ -10,7 +10,7 @@ pub mod slots;
 use calls::KeptEvent;
 use store::Rehearsed;
 ghost use mathlib.Core.Path.{_≡_};
-ghost use Rattle.record.specs.Layout.{gcr1};
+ghost use Rattle.record.specs.Layout.{editionOf};
 ghost use Rattle.consistency.specs.declared.Outcome.the-variants.{AllMet};
 ghost use Rattle.judge.specs.Judgments.{modelJudgment};
 ghost use Rattle.judge.specs.declared.Judgment.the-variants.{Judged};
@@ -26,13 +26,19 @@ pub struct Ran {
     pub known: [u64; 32],
 }
 
-// A rehearsal that questions 20 to 23 let pass: the whole script, and then its record.
-fn accepted(sites: usize, script: &[u8], rec: &mut [u8], answers: &mut [u8]) -> Rehearsed
-    requires { ⌜ rehearsalRefusal sites (now script) (now rec) (now answers) ≡ 0 ⌝ }
-    ensures { λ r. ⌜ Rehearses sites (now (script .entry)) (now (rec .entry)) (now (answers .entry)) (now (rec .exit)) (now (answers .exit)) r ⌝ }
+// A rehearsal that questions 20 to 23 and 40 let pass: the whole script, and then its record.
+fn accepted(
+    sites: usize,
+    openings: &[u8],
+    script: &[u8],
+    rec: &mut [u8],
+    answers: &mut [u8],
+) -> Rehearsed
+    requires { ⌜ rehearsalRefusal sites (now openings) (now script) (now rec) (now answers) ≡ 0 ⌝ }
+    ensures { λ r. ⌜ Rehearses sites (now (openings .entry)) (now (script .entry)) (now (rec .entry)) (now (answers .entry)) (now (rec .exit)) (now (answers .exit)) r ⌝ }
 {
-    let ran = run::run(sites, script, answers);
-    let length = image::write(sites as u8, ran, rec);
+    let ran = run::run(sites, openings, script, answers);
+    let length = image::write(sites as u8, openings, ran, rec);
     let puts = ran.puts;
     let known = ran.known;
     Rehearsed {
@@ -42,13 +48,19 @@ fn accepted(sites: usize, script: &[u8], rec: &mut [u8], answers: &mut [u8]) -> 
     }
 }
 
-// A script at some fresh sites. The record and the answers are written to the front of `rec` and `answers`; a refusal writes nothing.
+// A script at some fresh sites, with 132 bytes of openings. The record and the answers are written to the front of `rec` and `answers`; a refusal writes nothing.
 // The judge, asked for model 4 of the record, promises to find it met.
-pub fn rehearse(sites: usize, script: &[u8], rec: &mut [u8], answers: &mut [u8]) -> Rehearsed
-    ensures { λ r. ⌜ Rehearses sites (now (script .entry)) (now (rec .entry)) (now (answers .entry)) (now (rec .exit)) (now (answers .exit)) r ⌝ }
-    ensures { λ r. ⌜ (r .number ≡ 0 → modelJudgment gcr1 1024 4 (recordOf sites (now (script .entry))) ≡ Judged AllMet) ⌝ }
+pub fn rehearse(
+    sites: usize,
+    openings: &[u8],
+    script: &[u8],
+    rec: &mut [u8],
+    answers: &mut [u8],
+) -> Rehearsed
+    ensures { λ r. ⌜ Rehearses sites (now (openings .entry)) (now (script .entry)) (now (rec .entry)) (now (answers .entry)) (now (rec .exit)) (now (answers .exit)) r ⌝ }
+    ensures { λ r. ⌜ (r .number ≡ 0 → modelJudgment (editionOf (recordOf sites (now (openings .entry)) (now (script .entry)))) 1024 4 (recordOf sites (now (openings .entry)) (now (script .entry))) ≡ Judged AllMet) ⌝ }
 {
-    let number = refuse::rehearsal_refused(sites, script.len(), rec.len(), answers.len());
+    let number = refuse::rehearsal_refused(sites, openings, script.len(), rec.len(), answers.len());
     if number != 0 {
         return Rehearsed {
             number: number,
@@ -56,5 +68,5 @@ pub fn rehearse(sites: usize, script: &[u8], rec: &mut [u8], answers: &mut [u8])
             outstanding: 0,
         };
     }
-    accepted(sites, script, rec, answers)
+    accepted(sites, openings, script, rec, answers)
 }

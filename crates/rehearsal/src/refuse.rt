@@ -1,13 +1,20 @@
-// What refuses a rehearsal: questions 20 to 23, in that order.
+// What refuses a rehearsal: questions 20 to 23 and 40, in that order.
+use record::openings;
 ghost use mathlib.Core.Path.{_≡_};
 ghost use mathlib.Core.List.{List};
 ghost use Prim.Native.Nat.{ℕ};
 ghost use lib.ListN.{length};
 ghost use Rattle.store.specs.Rehearsal.{rehearsalRefusal};
 
-// Of a rehearsal at n sites, by the lengths of the script and of both buffers. 0 where it is not refused.
-pub fn rehearsal_refused(n: usize, script: usize, rec: usize, answers: usize) -> usize
-    ensures { λ r. ⌜ ((s t u : List ℕ) → length s ≡ script → length t ≡ rec → length u ≡ answers → r ≡ rehearsalRefusal n s t u) ⌝ }
+// Of a rehearsal at n sites, by its openings and by the lengths of the script and of both buffers. 0 where it is not refused.
+pub fn rehearsal_refused(
+    n: usize,
+    opened: &[u8],
+    script: usize,
+    rec: usize,
+    answers: usize,
+) -> usize
+    ensures { λ r. ⌜ ((s t u : List ℕ) → length s ≡ script → length t ≡ rec → length u ≡ answers → r ≡ rehearsalRefusal n (now (opened .entry)) s t u) ⌝ }
 {
     if n < 1 {
         return 20;
@@ -26,6 +33,12 @@ pub fn rehearsal_refused(n: usize, script: usize, rec: usize, answers: usize) ->
     }
     if answers < script {
         return 23;
+    }
+    if opened.len() != 132 {
+        return 40;
+    }
+    if !openings::hold(opened, 0) {
+        return 40;
     }
     0
 }

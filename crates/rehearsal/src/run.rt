@@ -1,4 +1,4 @@
-// A whole script, from fresh sites: each call gets the store that the one before left.
+// A whole script, from fresh sites with openings: each call gets the store that the one before left.
 use super::Ran;
 use calls::Kept;
 use calls::KeptCell;
@@ -7,15 +7,19 @@ use calls::refuse;
 use calls::script;
 use calls::serve;
 use calls::sites;
+use rows::octets;
 ghost use mathlib.Core.Path.{_≡_};
 ghost use mathlib.Core.List.{_++_};
-ghost use Prim.Native.Nat.{_+_, _%_, _≤_};
+ghost use Prim.Native.Nat.{ℕ, _+_, _%_, _≤_, _<_};
 ghost use lib.ListN.{length, drop};
 ghost use lib.Seq.{sets};
-ghost use Rattle.store.specs.Store.{fresh};
+ghost use Rattle.record.specs.Terms.{openingIn};
+ghost use Rattle.store.specs.Store.{untouched, fresh};
 ghost use Rattle.store.specs.Calls.{callsOf};
 ghost use Rattle.store.specs.Rules.{answers};
-ghost use Rattle.rehearsal.specs.Arrays.{noCell, freshKept, freshEvent, Ends};
+ghost use Rattle.store.specs.Rehearsal.{termsOf};
+ghost use Rattle.calls.specs.Mirror.{cellOf};
+ghost use Rattle.rehearsal.specs.Arrays.{noCell, cellsOf, freshKept, freshEvent, Ends};
 
 fn fresh_site() -> Kept
     ensures { λ r. ⌜ r ≡ freshKept ⌝ }
@@ -30,6 +34,32 @@ fn no_cell() -> KeptCell
     ensures { λ r. ⌜ r ≡ noCell ⌝ }
 {
     KeptCell { value: 0, order: 0 }
+}
+
+// What an object's cells start with. An order of 1 is below every put's.
+fn opened_cell(openings: &[u8], o: usize) -> KeptCell
+    requires { ⌜ (length (now openings) ≡ 132) × (o < 32) ⌝ }
+    ensures { λ r. ⌜ cellOf r ≡ untouched (openingIn (now (openings .entry)) 0 o) ⌝ }
+{
+    if !octets::test(openings, 0, o) {
+        return no_cell();
+    }
+    KeptCell {
+        value: octets::u32_at(openings, 4 + 4 * o),
+        order: 1,
+    }
+}
+
+// The cells of all sites, which start alike.
+fn opened_cells(openings: &[u8]) -> [KeptCell; 256]
+    requires { ⌜ length (now openings) ≡ 132 ⌝ }
+    ensures { λ r. ⌜ ((s o : ℕ) → s < 8 → cellsOf r s o ≡ untouched (openingIn (now (openings .entry)) 0 o)) ⌝ }
+{
+    let mut cells = [no_cell(); 256];
+    for i in 0..256 {
+        cells[i] = opened_cell(openings, i % 32);
+    }
+    cells
 }
 
 fn no_event() -> KeptEvent
@@ -56,17 +86,18 @@ fn write(out: &mut [u8], at: usize, bytes: [u8; 8])
 
 // The answers are written to `out`, 8 bytes a call. A done call reads its site and event once more, so that a refused one copies only what it is asked about.
 // A close takes the lowest put that some site lacks, of a row difference, until there is none; its needs are met at every site that lacks it.
-pub fn run(n: usize, script: &[u8], out: &mut [u8]) -> Ran
+pub fn run(n: usize, openings: &[u8], script: &[u8], out: &mut [u8]) -> Ran
     requires { ⌜ n ≤ 8 ⌝ }
+    requires { ⌜ length (now openings) ≡ 132 ⌝ }
     requires { ⌜ length (now script) % 8 ≡ 0 ⌝ }
     requires { ⌜ length (now script) ≤ 32768 ⌝ }
     requires { ⌜ length (now script) ≤ length (now out) ⌝ }
-    ensures { λ _. ⌜ now (out .exit) ≡ answers n fresh (callsOf (now (script .entry))) ++ drop (length (now (script .entry))) (now (out .entry)) ⌝ }
-    ensures { λ r. ⌜ Ends n (now (script .entry)) r ⌝ }
+    ensures { λ _. ⌜ now (out .exit) ≡ answers n (fresh (termsOf (now (openings .entry)))) (callsOf (now (script .entry))) ++ drop (length (now (script .entry))) (now (out .entry)) ⌝ }
+    ensures { λ r. ⌜ Ends n (now (openings .entry)) (now (script .entry)) r ⌝ }
 {
     let mut kept = [fresh_site(); 8];
     let mut known = [0u64; 32];
-    let mut cells = [no_cell(); 256];
+    let mut cells = opened_cells(openings);
     let mut events = [no_event(); 256];
     let mut sees = [0u64; 1024];
     let mut puts = [0u64; 4];

@@ -9,6 +9,7 @@ use lib.Dec.{ltb, eqb}
 use borrow.Author.Tests.{ltb-true, ltb-false, lt-ltb, le-ltb}
 use Rattle.rows.proofs.Tests.{split}
 use Rattle.record.specs.Questions.{ask}
+use Rattle.record.specs.Terms.{Terms}
 use Rattle.store.specs.Store.{upd, Site, Store}
 use Rattle.store.specs.Calls.{close}
 use Rattle.store.specs.Rules.{reached, refusal, afterDelivery, withCopy, Copy, copiesOf, allCopies, copyRefusal, afterCopy, afterCopies, copied, closeCopies, effect}
@@ -22,7 +23,7 @@ use Rattle.store.proofs.OutstandingLaws.{outstanding-none, not-lacking,
 -- ---- needs are met in event order
 
 -- site t knows every put below w: a put that w needs is one of these
-pub needs-reached : (n : ℕ) (F : Table) (st : Store) → StoreInv n F st → (w t : ℕ) → w < st .count
+pub needs-reached : (n : ℕ) {T : Terms} (F : Table) (st : Store) → StoreInv n T F st → (w t : ℕ) → w < st .count
     → ((e : ℕ) → e < w → F e .isPut ≡ true → st .site t .known e ≡ true) → (i : ℕ) → F w .needs i ≤ st .site t .held i
 needs-reached n F st ok w t below has i =
     split (ltb (st .site t .held i) (F w .needs i))
@@ -152,9 +153,9 @@ then-knows F a w put met =
     (λ k. then-keeps F a w w k)
     (λ k. let d : due F a w ≡ true = rw (put, k, met) in rw d (put-known a w (F w)))
 
-module _ (n : ℕ) (n≤8 : n ≤ 8) (st : Store) (ok : StoreInv n (st .event) st) where
+module _ (n : ℕ) (n≤8 : n ≤ 8) {T : Terms} (st : Store) (ok : StoreInv n T (st .event) st) where
   -- a close stopped after k events
-  closed-inv : (k : ℕ) → k ≤ st .count → StoreInv n (st .event) (closedStore n st k)
+  closed-inv : (k : ℕ) → k ≤ st .count → StoreInv n T (st .event) (closedStore n st k)
   closed-inv k l = rw (all-closed n st k l) at (copies-inv n n≤8 (allCopies n k) st ok)
 
   -- where it has every put below k, the needs of k are met
@@ -163,7 +164,7 @@ module _ (n : ℕ) (n≤8 : n ≤ 8) (st : Store) (ok : StoreInv n (st .event) s
       → reached 8 (st .event k .needs) (closedSite (st .event) (st .site t) k .held) ≡ true
   closed-met t k l below has =
       let here : closedStore n st k .site t ≡ closedSite (st .event) (st .site t) k = rw (lt-ltb t n l) in
-      let ok′ : StoreInv n (st .event) (closedStore n st k) = closed-inv k (omega arith) in
+      let ok′ : StoreInv n T (st .event) (closedStore n st k) = closed-inv k (omega arith) in
       reached-true 8 (st .event k .needs) (closedSite (st .event) (st .site t) k .held)
       (λ i q. rw here at (needs-reached n (st .event) (closedStore n st k) ok′ k t below (λ e m p. rw here (has e m p)) i))
 

@@ -6,6 +6,7 @@ use native.Mathlib.Omega.{arith}
 use native.Mathlib.Nat.{le-refl}
 use borrow.Author.Tests.{eqb-true}
 use Rattle.rows.proofs.Tests.{and-left, and-right}
+use Rattle.record.specs.Terms.{Terms}
 use Rattle.store.specs.Store.{Site, Store}
 use Rattle.store.specs.Calls.{deliver, close}
 use Rattle.store.specs.Rules.{reached, refusal, afterDelivery, withCopy, copied, closeCopies, effect}
@@ -57,16 +58,17 @@ closed-first F a w m l d none =
 pub record Closing (n : ℕ) (st₀ st : Store) (copies : ℕ) : Type 0 where
   pub count : st .count ≡ st₀ .count
   pub event : st .event ≡ st₀ .event
-  pub keeps : StoreInv n (st .event) st
+  -- on any terms
+  pub keeps : {T : Terms} → StoreInv n T (st₀ .event) st₀ → StoreInv n T (st .event) st
   pub sites : (u : ℕ) → u < n → closedSite (st .event) (st .site u) (st .count) ≡ closedSite (st .event) (st₀ .site u) (st .count)
   pub others : (u : ℕ) → n ≤ u → st .site u ≡ st₀ .site u
   pub counted : copies + outstanding n st ≡ outstanding n st₀
 
-pub closing-none : (n : ℕ) (st : Store) → StoreInv n (st .event) st → Closing n st st 0
-closing-none n st ok = record {
+pub closing-none : (n : ℕ) (st : Store) → Closing n st st 0
+closing-none n st = record {
   count = refl;
   event = refl;
-  keeps = ok;
+  keeps = λ ok. ok;
   sites = λ u l. refl;
   others = λ u l. refl;
   counted = omega arith;
@@ -77,14 +79,15 @@ pub closing-join : (n : ℕ) (st₀ st₁ st : Store) (a b : ℕ) → Closing n 
 closing-join n st₀ st₁ st a b h k = record {
   count = k .count ∙ h .count;
   event = k .event ∙ h .event;
-  keeps = k .keeps;
+  keeps = λ ok. k .keeps (h .keeps ok);
   sites = λ u l. k .sites u l ∙ ap₂ (λ (F : Table) (m : ℕ). closedSite F (st₁ .site u) m) (k .event) (k .count) ∙ h .sites u l
       ∙ sym (ap₂ (λ (F : Table) (m : ℕ). closedSite F (st₀ .site u) m) (k .event) (k .count));
   others = λ u l. k .others u l ∙ h .others u l;
   counted = omega (arith, h .counted, k .counted);
 }
 
-module _ (n : ℕ) (n≤8 : n ≤ 8) (st₀ st : Store) (copies : ℕ) (h : Closing n st₀ st copies) (t : ℕ) (l : t < n) where
+module _ (n : ℕ) (n≤8 : n ≤ 8) {T : Terms} (st₀ st : Store) (ok : StoreInv n T (st₀ .event) st₀) (copies : ℕ) (h : Closing n st₀ st copies)
+    (t : ℕ) (l : t < n) where
   closing-due : (w : ℕ) → w < st .count → lacks st t w ≡ true
       → ((e : ℕ) → e < w → lacks st t e ≡ false) → due (st .event) (st .site t) w ≡ true
   closing-due w below lacked none =
@@ -92,7 +95,7 @@ module _ (n : ℕ) (n≤8 : n ≤ 8) (st₀ st : Store) (copies : ℕ) (h : Clos
       let new : not (st .site t .known w) ≡ true = and-right (st .event w .isPut) (not (st .site t .known w)) lacked in
       let met : reached 8 (st .event w .needs) (st .site t .held) ≡ true =
       reached-true 8 (st .event w .needs) (st .site t .held)
-      (λ i q. needs-reached n (st .event) st (h .keeps) w t below (λ e m. known-put (st .event e .isPut) (st .site t .known e) (none e m)) i) in
+      (λ i q. needs-reached n (st .event) st (h .keeps ok) w t below (λ e m. known-put (st .event e .isPut) (st .site t .known e) (none e m)) i) in
       rw (put, new, met)
 
   -- w is the lowest put that site t lacks: it is not refused
@@ -109,13 +112,13 @@ module _ (n : ℕ) (n≤8 : n ≤ 8) (st₀ st : Store) (copies : ℕ) (h : Clos
       record {
         count = h .count;
         event = h .event;
-        keeps = copy-inv n n≤8 st w t doable (h .keeps);
+        keeps = λ x. copy-inv n n≤8 st w t doable (h .keeps x);
         sites = λ u m.
             upd-elim (λ (a : Site). closedSite (st .event) a (st .count) ≡ closedSite (st .event) (st₀ .site u) (st .count)) (st .site) t there u
             (λ q. rw q (closed-first (st .event) (st .site t) w (st .count) below (closing-due w below lacked none) none ∙ h .sites t l))
             (λ q. h .sites u m);
         others = λ u m. upd-elim (λ (a : Site). a ≡ st₀ .site u) (st .site) t there u (λ q. absurd (omega arith)) (λ q. h .others u m);
-        counted = omega (arith, outstanding-less n n≤8 st (h .keeps) w t doable, h .counted);
+        counted = omega (arith, outstanding-less n n≤8 st (h .keeps ok) w t doable, h .counted);
       }
 
 -- no site lacks a put: the close is done
@@ -133,5 +136,5 @@ module _ (n : ℕ) (n≤8 : n ≤ 8) (st₀ st : Store) (copies : ℕ) (h : Clos
       let same : st ≡ closedStore n st₀ (st₀ .count) = λ i. record { count = h .count i; event = h .event i; site = λ u. here u i } in
       same ∙ sym (all-closed n st₀ (st₀ .count) (le-refl _))
 
-  pub closing-copies : StoreInv n (st₀ .event) st₀ → copies ≡ copied n st₀ (closeCopies n st₀)
+  pub closing-copies : {T : Terms} → StoreInv n T (st₀ .event) st₀ → copies ≡ copied n st₀ (closeCopies n st₀)
   closing-copies ok = omega (arith, copied-outstanding n n≤8 st₀ ok, h .counted, outstanding-none n st none)

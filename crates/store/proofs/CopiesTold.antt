@@ -14,6 +14,7 @@ use Rattle.rows.specs.Octets.{little}
 use Rattle.rows.proofs.Tests.{split, and-left}
 use Rattle.rows.proofs.CountLaws.{sum-same}
 use Rattle.record.specs.Layout.{byte}
+use Rattle.record.specs.Terms.{Terms}
 use Rattle.record.specs.Encode.{bit, littleBytes}
 use Rattle.record.proofs.NumberBytes.{length-little, little-stands}
 use Rattle.store.specs.Store.{Store, fresh}
@@ -21,7 +22,7 @@ use Rattle.store.specs.Calls.{Call, put, get, deliver, close, malformed,
 use Rattle.store.specs.Rules.{refusal, closeCopies, copied, afterCall, run, kindOf, done, closed, total, doneAnswer, answer, answers}
 use Rattle.store.specs.Outstanding.{outstanding, puts, toldDone, toldCopies, ToldAddsUp}
 use Rattle.store.specs.Close.{AllAgree, Closes}
-use Rattle.store.specs.Rehearsal.{storeAfter, outstandingAfter}
+use Rattle.store.specs.Rehearsal.{termsOf, storeAfter, outstandingAfter}
 use Rattle.store.specs.Demand.{Rehearses}
 use Rattle.store.specs.declared.Rehearsed.{Rehearsed}
 use Rattle.store.proofs.OutstandingLaws.{outstanding-none}
@@ -93,21 +94,21 @@ malformed-answer : (n : ℕ) (st : Store) → answer n st malformed ≡ 31 ∷ 0
 unfolding answer refusal littleBytes
 malformed-answer n st = refl
 
-module _ (n : ℕ) (n≤8 : n ≤ 8) (s rest : List ℕ) where
+module _ (n : ℕ) (n≤8 : n ≤ 8) (T : Terms) (s rest : List ℕ) where
   -- the answers, whatever stands behind them
   abbrev told : List ℕ
-  told = answers n fresh (callsOf s) ++ rest
+  told = answers n (fresh T) (callsOf s) ++ rest
 
   -- the store that call k finds, and the call
   abbrev before : ℕ → Store
-  before k = storeUpTo k n s
+  before k = storeUpTo k n T s
 
   abbrev call : ℕ → Call
   call k = callAt s (8 * k)
 
   told-at : (k : ℕ) → k < length s / 8 → (j : ℕ) → j < 8 → getD told (8 * k + j) 0 ≡ getD (answer n (before k) (call k)) j 0
   told-at k l j h =
-      ap (λ (a : List ℕ). getD (a ++ rest) (8 * k + j) 0) (sym (answers-whole n s)) ∙ answer-at (length s / 8) n s rest k l j h
+      ap (λ (a : List ℕ). getD (a ++ rest) (8 * k + j) 0) (sym (answers-whole n T s)) ∙ answer-at (length s / 8) n T s rest k l j h
 
   done-told : (kind k : ℕ) → k < length s / 8 → cond (eqb (byte s (8 * k)) kind && eqb (byte told (8 * k)) 0) 1 0 ≡ done kind n (before k) (call k)
   done-told kind k l =
@@ -132,10 +133,10 @@ module _ (n : ℕ) (n≤8 : n ≤ 8) (s rest : List ℕ) where
 
   close-told : (k : ℕ) → k < length s / 8 → call k ≡ close → little 4 told (8 * k + 4) ≡ copied n (before k) (closeCopies n (before k))
   close-told k l e =
-      let r : Reached n (before k) = (callsFrom k s 0, sym (store-up-to k n s)) in
-      let c : Closes n (before k) = rw (r .1) at (every-close n n≤8 (r .0)) in
+      let r : Reached n T (before k) = (callsFrom k s 0, sym (store-up-to k n T s)) in
+      let c : Closes n (before k) = rw (r .1) at (every-close n n≤8 T (r .0)) in
       value-told k l 0 1 0 0 (outstanding n (before k)) (c .few) (ap (answer n (before k)) e ∙ c .answered)
-      ∙ sym (copied-outstanding n n≤8 (before k) (holds n n≤8 (before k) r))
+      ∙ sym (copied-outstanding n n≤8 (before k) (holds n n≤8 T (before k) r))
 
   copies-told : (k : ℕ) → k < length s / 8 → cond (eqb (byte s (8 * k)) 4) (little 4 told (8 * k + 4)) 0 ≡ closed n (before k) (call k)
   copies-told k l =
@@ -148,16 +149,16 @@ module _ (n : ℕ) (n≤8 : n ≤ 8) (s rest : List ℕ) where
       ]
 
   -- the theorem, of the answers
-  pub every-copy-told : ToldAddsUp n s told (outstanding n (run n fresh (callsOf s)))
+  pub every-copy-told : ToldAddsUp n s told (outstanding n (run n (fresh T) (callsOf s)))
   unfolding toldDone toldCopies
   every-copy-told =
-      let kinds : (kind : ℕ) → toldDone kind s told ≡ total (done kind) n fresh (callsOf s) =
-      λ kind. sum-same (length s / 8) _ _ (done-told kind) ∙ total-whole (done kind) n s in
-      rw (kinds 1, kinds 3, sum-same (length s / 8) _ _ copies-told, total-whole closed n s) (done-add-up n n≤8 (callsOf s))
+      let kinds : (kind : ℕ) → toldDone kind s told ≡ total (done kind) n (fresh T) (callsOf s) =
+      λ kind. sum-same (length s / 8) _ _ (done-told kind) ∙ total-whole (done kind) n T s in
+      rw (kinds 1, kinds 3, sum-same (length s / 8) _ _ copies-told, total-whole closed n T s) (done-add-up n n≤8 T (callsOf s))
 
 -- ---- what follows, of the count that a rehearsal tells
 
-module _ (n : ℕ) (script rec ans rec′ ans′ : List ℕ) (r : Rehearsed) (h : Rehearses n script rec ans rec′ ans′ r) where
+module _ (n : ℕ) (openings script rec ans rec′ ans′ : List ℕ) (r : Rehearsed) (h : Rehearses n openings script rec ans rec′ ans′ r) where
   -- where it was refused, none is told
   none-or : (r .number ≡ 0 → r .outstanding ≡ 0) → r .outstanding ≡ 0
   unfolding outstandingAfter
@@ -167,15 +168,16 @@ module _ (n : ℕ) (script rec ans rec′ ans′ : List ℕ) (r : Rehearsed) (h 
   pub one-site-none : n ≡ 1 → r .outstanding ≡ 0
   one-site-none one = none-or (λ z.
       let none : n - 1 ≡ 0 = omega arith in
-      let k : ℕ = puts (run n fresh (callsOf script)) in
+      let k : ℕ = puts (run n (fresh (termsOf openings)) (callsOf script)) in
       omega (arith, h .adds-up z, ap (λ (m : ℕ). k * m) none, mul-zero k))
 
   -- nor after a script whose last call is a close
   pub none-after-close : (before : List Call) → callsOf script ≡ before ++ (close ∷ []) → r .outstanding ≡ 0
   unfolding outstandingAfter storeAfter
   none-after-close before e = none-or (λ z.
-      let st : Store = run n fresh before in
+      let st₀ : Store = fresh (termsOf openings) in
+      let st : Store = run n st₀ before in
       let closed : AllAgree n (afterCall n st close) = h .closes z before [] e .leaves in
       h .copies
-      ∙ rw (← (h .number), z, e, run-more n fresh before close)
+      ∙ rw (← (h .number), z, e, run-more n st₀ before close)
       (outstanding-none n (afterCall n st close) (closed .none-lacking)))

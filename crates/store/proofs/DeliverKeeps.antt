@@ -8,8 +8,9 @@ use native.Mathlib.Nat.{le-refl}
 use lib.Dec.{ltb, eqb}
 use borrow.Author.Tests.{ltb-true, ltb-false, eqb-true, eq-eqb}
 use Rattle.rows.proofs.Tests.{split, tell, or-elim, or-left, or-right}
+use Rattle.record.specs.Terms.{valueOr0, Terms}
 use Rattle.store.specs.Store.{upd, merge, Site, Event, Store}
-use Rattle.store.specs.Rules.{valueOr0, afterDelivery, withCopy}
+use Rattle.store.specs.Rules.{afterDelivery, withCopy}
 use Rattle.store.proofs.UpdateLaws.{upd-elim, raise-le, lt-suc-elim}
 use Rattle.store.proofs.Invariant.{Table, place, totals, HoldsLast, CountedPut, EventInv, SiteInv, StoreInv, totals-more, event-more, site-more, counted-more, holds-more, holds-merged}
 
@@ -27,8 +28,8 @@ still-known a w e x h = or-right (eqb x w) (e .sees x || a .known x) (or-right (
 pub put-known : (a : Site) (w : ℕ) (e : Event) → afterDelivery a w e .known w ≡ true
 put-known a w e = or-left (eqb w w) (e .sees w || a .known w) (eq-eqb w w refl)
 
-module _ (n : ℕ) (n≤8 : n ≤ 8) (F : Table) (st : Store) (ok : StoreInv n F st) (w t : ℕ) (d : Deliverable st w t (F w)) where
-  event-w : EventInv n F (totals (st .site)) w
+module _ (n : ℕ) (n≤8 : n ≤ 8) {T : Terms} (F : Table) (st : Store) (ok : StoreInv n T F st) (w t : ℕ) (d : Deliverable st w t (F w)) where
+  event-w : EventInv n T F (totals (st .site)) w
   event-w = ok .events w (d .done)
 
   -- a put that w sees is known already
@@ -89,7 +90,7 @@ module _ (n : ℕ) (n≤8 : n ≤ 8) (F : Table) (st : Store) (ok : StoreInv n F
       came e h (λ x. rw x (d .done)) (λ x. omega (arith, event-w .earlier e x, d .done)) (λ x. ok .sites t .below e x)
 
   -- the site that it came to
-  pub delivered : SiteInv F (st .count) (totals (st .site)) t (afterDelivery (st .site t) w (F w))
+  pub delivered : SiteInv T F (st .count) (totals (st .site)) t (afterDelivery (st .site t) w (F w))
   delivered = record {
     below = known-below;
     closed = λ e f h x.
@@ -124,10 +125,10 @@ module _ (n : ℕ) (n≤8 : n ≤ 8) (F : Table) (st : Store) (ok : StoreInv n F
         (λ s. rw (s, next) (event-w .place-made (d .isPut)))
         (λ s. ok .sites t .held-made i);
     cell = λ o.
-        upd-elim (HoldsLast F (afterDelivery (st .site t) w (F w) .known) o)
+        upd-elim (HoldsLast T F (afterDelivery (st .site t) w (F w) .known) o)
         (st .site t .cell) (F w .object) (merge (st .site t .cell (F w .object)) (valueOr0 (F w .shown)) (F w .stamp) (F w .site)) o
         (λ s. rw s
-        (holds-merged F (st .site t .known) (afterDelivery (st .site t) w (F w) .known) (F w .object) w (valueOr0 (F w .shown))
+        (holds-merged T F (st .site t .known) (afterDelivery (st .site t) w (F w) .known) (F w .object) w (valueOr0 (F w .shown))
         (st .site t .cell (F w .object))
         (λ q x. omega (arith, ok .events q (known-below q x) .site))
         knows-w
@@ -137,21 +138,21 @@ module _ (n : ℕ) (n≤8 : n ≤ 8) (F : Table) (st : Store) (ok : StoreInv n F
         knows
         came-put
         (ok .sites t .cell (F w .object))))
-        (λ s. holds-more F (st .site t .known) (afterDelivery (st .site t) w (F w) .known) o (st .site t .cell o) knows
+        (λ s. holds-more T F (st .site t .known) (afterDelivery (st .site t) w (F w) .known) o (st .site t .cell o) knows
         (λ q x i y. elim (came-put q x i) [ inl z ↦ absurd (s (sym y ∙ ap (λ (u : ℕ). F u .object) z)) | inr z ↦ z ])
         (ok .sites t .cell o));
   }
 
-  pub deliver-keeps : F w ≡ st .event w → StoreInv n F (withCopy st w t)
+  pub deliver-keeps : F w ≡ st .event w → StoreInv n T F (withCopy st w t)
   deliver-keeps eF =
       let b : Site = afterDelivery (st .site t) w (st .event w) in
-      let there : SiteInv F (st .count) (totals (st .site)) t b = rw eF at delivered in
+      let there : SiteInv T F (st .count) (totals (st .site)) t b = rw eF at delivered in
       let more : (i : ℕ) → totals (st .site) i ≤ totals (upd (st .site) t b) i =
       totals-more (st .site) t b (raise-le (st .site t .held) (st .event w .site)) in
       record {
         events = λ e h. event-more more (ok .events e h);
         sites = λ u.
-            upd-elim (SiteInv F (st .count) (totals (upd (st .site) t b)) u) (st .site) t b u
+            upd-elim (SiteInv T F (st .count) (totals (upd (st .site) t b)) u) (st .site) t b u
             (λ q. rw q (site-more more there))
             (λ q. site-more more (ok .sites u));
         few = λ i.

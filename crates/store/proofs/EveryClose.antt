@@ -8,6 +8,7 @@ use native.Mathlib.Nat.{mul-le-mul}
 use native.Mathlib.Omega.{arith}
 use lib.ListN.{replicate}
 use Rattle.record.specs.Encode.{littleBytes}
+use Rattle.record.specs.Terms.{Terms}
 use Rattle.store.specs.Store.{Store, fresh}
 use Rattle.store.specs.Calls.{Call, close}
 use Rattle.store.specs.Rules.{refusal, closeCopies, effect, afterCall, run, doneAnswer, answer}
@@ -22,7 +23,7 @@ use Rattle.store.proofs.NeedsMet.{needs-met}
 use Rattle.store.proofs.CellsAgree.{KnowsAll, cells-agree, gets-agree}
 
 -- where no site lacks a put, all agree
-all-agree : (n : ℕ) → n ≤ 8 → (st : Store) → StoreInv n (st .event) st
+all-agree : (n : ℕ) → n ≤ 8 → {T : Terms} (st : Store) → StoreInv n T (st .event) st
     → ((w t : ℕ) → w < st .count → t < n → lacks st t w ≡ false) → AllAgree n st
 all-agree n n≤8 st ok none = record {
   none-lacking = none;
@@ -36,7 +37,7 @@ all-agree n n≤8 st ok none = record {
     agree : (s t o : ℕ) → s < n → t < n → st .site s .cell o ≡ st .site t .cell o
     agree s t o s<n t<n = cells-agree n n≤8 st ok s t (knows-all s s<n) (knows-all t t<n) o
 
-module _ (n : ℕ) (n≤8 : n ≤ 8) (st : Store) (ok : StoreInv n (st .event) st) where
+module _ (n : ℕ) (n≤8 : n ≤ 8) {T : Terms} (st : Store) (ok : StoreInv n T (st .event) st) where
   -- a close adds no event
   count-stays : effect n st close .count ≡ st .count
   unfolding effect
@@ -61,5 +62,5 @@ module _ (n : ℕ) (n≤8 : n ≤ 8) (st : Store) (ok : StoreInv n (st .event) s
     needs-met = needs-met n n≤8 st ok;
   }
 
-pub every-close : (n : ℕ) → n ≤ 8 → (cs : List Call) → Closes n (run n fresh cs)
-every-close n n≤8 cs = store-close n n≤8 (run n fresh cs) (every-run n n≤8 cs) (every-limits n cs)
+pub every-close : (n : ℕ) → n ≤ 8 → (T : Terms) (cs : List Call) → Closes n (run n (fresh T) cs)
+every-close n n≤8 T cs = store-close n n≤8 (run n (fresh T) cs) (every-run n n≤8 T cs) (every-limits n T cs)

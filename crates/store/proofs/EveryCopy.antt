@@ -11,7 +11,7 @@ use borrow.Author.Tests.{eqb-true}
 use Rattle.rows.proofs.Tests.{split}
 use Rattle.rows.proofs.CountLaws.{sum-none}
 use Rattle.record.specs.Encode.{bit}
-use Rattle.consistency.specs.Reads.{value}
+use Rattle.record.specs.Terms.{value, Terms}
 use Rattle.store.specs.Store.{cellValue, Store, fresh}
 use Rattle.store.specs.Calls.{Call, put, get, deliver, close, malformed}
 use Rattle.store.specs.Rules.{refusal, made, withCopy, afterPut, afterGet, closeCopies, effect, afterCall, run, kindOf, done, closed, total, deliveries, copiesByCloses}
@@ -22,16 +22,16 @@ use Rattle.store.proofs.OutstandingLaws.{outstanding-none, outstanding-
 
 -- ---- stores that calls reach
 
-abbrev pub Reached : ℕ → Store → Type 0
-Reached n st = (cs : List Call) × (run n fresh cs ≡ st)
+abbrev pub Reached : ℕ → Terms → Store → Type 0
+Reached n T st = (cs : List Call) × (run n (fresh T) cs ≡ st)
 
 pub run-more : (n : ℕ) (st : Store) (cs : List Call) (c : Call) → run n st (cs ++ (c ∷ [])) ≡ afterCall n (run n st cs) c
 unfolding run
 run-more n st [] c = refl
 run-more n st (d ∷ cs) c = run-more n (afterCall n st d) cs c
 
-reached-more : (n : ℕ) (st : Store) → Reached n st → (c : Call) → Reached n (afterCall n st c)
-reached-more n st r c = (r .0 ++ (c ∷ []), run-more n fresh (r .0) c ∙ ap (λ (x : Store). afterCall n x c) (r .1))
+reached-more : (n : ℕ) (T : Terms) (st : Store) → Reached n T st → (c : Call) → Reached n T (afterCall n st c)
+reached-more n T st r c = (r .0 ++ (c ∷ []), run-more n (fresh T) (r .0) c ∙ ap (λ (x : Store). afterCall n x c) (r .1))
 
 -- ---- one call
 
@@ -53,7 +53,7 @@ refused-none n st (deliver w t) e = refl
 refused-none n st close e = absurd (true≢false e)
 refused-none n st malformed e = refl
 
-module _ (n : ℕ) (n≤8 : n ≤ 8) (st : Store) (ok : StoreInv n (st .event) st) where
+module _ (n : ℕ) (n≤8 : n ≤ 8) {T : Terms} (st : Store) (ok : StoreInv n T (st .event) st) where
   effect-copies : (c : Call) → refusal n st c ≡ 0
       → outstanding n (effect n st c) + (bit (eqb (kindOf c) 3) + closed n st c) ≡ outstanding n st + bit (eqb (kindOf c) 1) * (n - 1)
   unfolding effect
@@ -93,11 +93,11 @@ module _ (n : ℕ) (n≤8 : n ≤ 8) (st : Store) (ok : StoreInv n (st .event) s
 
 -- ---- every list
 
-module _ (n : ℕ) (n≤8 : n ≤ 8) where
-  pub holds : (st : Store) → Reached n st → StoreInv n (st .event) st
-  holds st r = rw (r .1) at (every-run n n≤8 (r .0))
+module _ (n : ℕ) (n≤8 : n ≤ 8) (T : Terms) where
+  pub holds : (st : Store) → Reached n T st → StoreInv n T (st .event) st
+  holds st r = rw (r .1) at (every-run n n≤8 T (r .0))
 
-  run-copies : (cs : List Call) (st : Store) → Reached n st
+  run-copies : (cs : List Call) (st : Store) → Reached n T st
       → outstanding n (run n st cs) + (deliveries n st cs + copiesByCloses n st cs) ≡ outstanding n st + total (done 1) n st cs * (n - 1)
   unfolding total run
   run-copies [] st r = omega arith
@@ -105,27 +105,27 @@ module _ (n : ℕ) (n≤8 : n ≤ 8) where
       omega (
         arith,
         step-copies n n≤8 st (holds st r) c,
-        run-copies cs (afterCall n st c) (reached-more n st r c),
+        run-copies cs (afterCall n st c) (reached-more n T st r c),
         add-mul (done 1 n st c) (total (done 1) n (afterCall n st c) cs) (n - 1),
       )
 
-  run-puts : (cs : List Call) (st : Store) → Reached n st → puts (run n st cs) ≡ puts st + total (done 1) n st cs
+  run-puts : (cs : List Call) (st : Store) → Reached n T st → puts (run n st cs) ≡ puts st + total (done 1) n st cs
   unfolding total run
   run-puts [] st r = omega arith
-  run-puts (c ∷ cs) st r = omega (arith, step-puts n n≤8 st (holds st r) c, run-puts cs (afterCall n st c) (reached-more n st r c))
+  run-puts (c ∷ cs) st r = omega (arith, step-puts n n≤8 st (holds st r) c, run-puts cs (afterCall n st c) (reached-more n T st r c))
 
-  begun : Reached n fresh
+  begun : Reached n T (fresh T)
   unfolding run
   begun = ([], refl)
 
   -- the puts of the store are the done calls of kind 1
-  puts-done : (cs : List Call) → puts (run n fresh cs) ≡ total (done 1) n fresh cs
+  puts-done : (cs : List Call) → puts (run n (fresh T) cs) ≡ total (done 1) n (fresh T) cs
   unfolding puts
-  puts-done cs = omega (arith, run-puts cs fresh begun, sum-none (λ e. cond (fresh .event e .isPut) 1 0))
+  puts-done cs = omega (arith, run-puts cs (fresh T) begun, sum-none (λ e. cond (fresh T .event e .isPut) 1 0))
 
-  pub done-add-up : (cs : List Call) → total (done 1) n fresh cs * (n - 1) ≡ (deliveries n fresh cs + copiesByCloses n fresh cs) + outstanding n (run n fresh cs)
-  done-add-up cs = omega (arith, run-copies cs fresh begun, outstanding-none n fresh (λ w t l m. refl))
+  pub done-add-up : (cs : List Call) → total (done 1) n (fresh T) cs * (n - 1) ≡ (deliveries n (fresh T) cs + copiesByCloses n (fresh T) cs) + outstanding n (run n (fresh T) cs)
+  done-add-up cs = omega (arith, run-copies cs (fresh T) begun, outstanding-none n (fresh T) (λ w t l m. refl))
 
   -- the theorem, of the store
-  pub every-copy : (cs : List Call) → AddsUp n cs (outstanding n (run n fresh cs))
+  pub every-copy : (cs : List Call) → AddsUp n T cs (outstanding n (run n (fresh T) cs))
   every-copy cs = rw (puts-done cs) (done-add-up cs)

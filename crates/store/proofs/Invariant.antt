@@ -1,4 +1,5 @@
--- The store's invariant. It speaks of one table F of events, that of the store in the end, which no call changes. Assumes nothing.
+-- The store's invariant, on the terms T that the store starts from. It speaks of one table F of events, that of the store in the end, which no call
+-- changes. Assumes nothing.
 use mathlib.Core.Path.{_≡_, refl}
 use mathlib.Core.Logic.{_⊎_, inl, inr}
 use mathlib.Core.Bool.{Bool, true, false, _&&_, _||_, cond, true≢false}
@@ -8,9 +9,8 @@ use native.Mathlib.Nat.{le-refl}
 use lib.Dec.{ltb, eqb}
 use borrow.Author.Tests.{ltb-true, ltb-false, eqb-true, eqb-false}
 use Rattle.rows.proofs.Tests.{or-elim, and-left, and-right}
-use Rattle.consistency.specs.Reads.{Held, none, value}
-use Rattle.store.specs.Store.{upd, Cell, empty, full, cellValue, before, merge, Site, Event, Store}
-use Rattle.store.specs.Rules.{valueOr0}
+use Rattle.record.specs.Terms.{Held, value, valueOr0, Terms}
+use Rattle.store.specs.Store.{upd, Cell, untouched, full, cellValue, before, merge, Site, Event, Store}
 use Rattle.store.proofs.UpdateLaws.{upd-elim}
 
 abbrev pub Table : Type 0
@@ -39,15 +39,15 @@ pub record LastPut (F : Table) (K : ℕ → Bool) (o p : ℕ) : Type 0 where
   pub object : F p .object ≡ o
   pub last : (q : ℕ) → K q ≡ true → F q .isPut ≡ true → F q .object ≡ o → key (F q) ≤ key (F p)
 
--- a cell of object o that holds the last put in K
-abbrev pub HoldsLast : Table → (ℕ → Bool) → ℕ → Cell → Type 0
-HoldsLast F K o empty = NoPut F K o
-HoldsLast F K o (full v stamp site) = (p : ℕ) × LastPut F K o p × (F p .shown ≡ value v) × (F p .stamp ≡ stamp) × (F p .site ≡ site)
+-- a cell of object o that holds the last put in K, or the opening figure where there is none
+abbrev pub HoldsLast : Terms → Table → (ℕ → Bool) → ℕ → Cell → Type 0
+HoldsLast T F K o (untouched x) = NoPut F K o × (T .opening o ≡ x)
+HoldsLast T F K o (full v stamp site) = (p : ℕ) × LastPut F K o p × (F p .shown ≡ value v) × (F p .stamp ≡ stamp) × (F p .site ≡ site)
 
--- what a get on object o shows that sees K
-abbrev pub ShowsLast : Table → (ℕ → Bool) → ℕ → Held → Type 0
-ShowsLast F K o none = NoPut F K o
-ShowsLast F K o (value v) = (p : ℕ) × LastPut F K o p × (F p .shown ≡ value v)
+-- what a get on object o shows that sees K: the opening figure may be a value too, so the value shown does not tell which it is
+pub data ShowsLast (T : Terms) (F : Table) (K : ℕ → Bool) (o : ℕ) (x : Held) : Type 0 where
+  shows-opening : NoPut F K o → T .opening o ≡ x → ShowsLast T F K o x
+  shows-put : {p : ℕ} → LastPut F K o p → F p .shown ≡ x → ShowsLast T F K o x
 
 -- the put of site i with place p is in the set K
 pub record CountedPut (F : Table) (K : ℕ → Bool) (i p : ℕ) : Type 0 where
@@ -58,7 +58,7 @@ pub record CountedPut (F : Table) (K : ℕ → Bool) (i p : ℕ) : Type 0 where
   pub place : place (F put) ≡ p
 
 -- of event e, where the sites have made so many puts each
-pub record EventInv (n : ℕ) (F : Table) (made : ℕ → ℕ) (e : ℕ) : Type 0 where
+pub record EventInv (n : ℕ) (T : Terms) (F : Table) (made : ℕ → ℕ) (e : ℕ) : Type 0 where
   pub site : F e .site < n
   pub earlier : (f : ℕ) → F e .sees f ≡ true → f < e
   pub transitive : (f g : ℕ) → F e .sees f ≡ true → F f .sees g ≡ true → F e .sees g ≡ true
@@ -71,10 +71,10 @@ pub record EventInv (n : ℕ) (F : Table) (made : ℕ → ℕ) (e : ℕ) : Type 
   pub needs-made : (i : ℕ) → F e .needs i ≤ made i
   pub place-made : F e .isPut ≡ true → place (F e) < made (F e .site)
   pub written : F e .isPut ≡ true → F e .shown ≡ value (valueOr0 (F e .shown))
-  pub found : F e .isPut ≡ false → ShowsLast F (F e .sees) (F e .object) (F e .shown)
+  pub found : F e .isPut ≡ false → ShowsLast T F (F e .sees) (F e .object) (F e .shown)
 
 -- of site s, kept as a, after m events
-pub record SiteInv (F : Table) (m : ℕ) (made : ℕ → ℕ) (s : ℕ) (a : Site) : Type 0 where
+pub record SiteInv (T : Terms) (F : Table) (m : ℕ) (made : ℕ → ℕ) (s : ℕ) (a : Site) : Type 0 where
   pub below : (e : ℕ) → a .known e ≡ true → e < m
   pub closed : (e f : ℕ) → a .known e ≡ true → F e .sees f ≡ true → a .known f ≡ true
   pub own : (e : ℕ) → e < m → F e .site ≡ s → a .known e ≡ true
@@ -85,11 +85,11 @@ pub record SiteInv (F : Table) (m : ℕ) (made : ℕ → ℕ) (s : ℕ) (a : Sit
   pub held-known : (e : ℕ) → e < m → F e .isPut ≡ true → place (F e) < a .held (F e .site) → a .known e ≡ true
   pub counted : (i p : ℕ) → p < a .held i → CountedPut F (a .known) i p
   pub held-made : (i : ℕ) → a .held i ≤ made i
-  pub cell : (o : ℕ) → HoldsLast F (a .known) o (a .cell o)
+  pub cell : (o : ℕ) → HoldsLast T F (a .known) o (a .cell o)
 
-pub record StoreInv (n : ℕ) (F : Table) (st : Store) : Type 0 where
-  pub events : (e : ℕ) → e < st .count → EventInv n F (totals (st .site)) e
-  pub sites : (s : ℕ) → SiteInv F (st .count) (totals (st .site)) s (st .site s)
+pub record StoreInv (n : ℕ) (T : Terms) (F : Table) (st : Store) : Type 0 where
+  pub events : (e : ℕ) → e < st .count → EventInv n T F (totals (st .site)) e
+  pub sites : (s : ℕ) → SiteInv T F (st .count) (totals (st .site)) s (st .site s)
   pub few : (i : ℕ) → totals (st .site) i ≤ st .count
 
 -- ---- more puts made
@@ -97,8 +97,8 @@ pub record StoreInv (n : ℕ) (F : Table) (st : Store) : Type 0 where
 pub totals-more : (S : ℕ → Site) (s : ℕ) (b : Site) → ((i : ℕ) → S s .held i ≤ b .held i) → (i : ℕ) → totals S i ≤ totals (upd S s b) i
 totals-more S s b h i = upd-elim (λ (x : Site). S i .held i ≤ x .held i) S s b i (λ q. rw q (h s)) (λ q. le-refl _)
 
-pub event-more : {n : ℕ} {F : Table} {made made′ : ℕ → ℕ} {e : ℕ} → ((i : ℕ) → made i ≤ made′ i) → EventInv n F made e → EventInv n F made′ e
-event-more {n} {F} {made} {made′} {e} up h = record {
+pub event-more : {n : ℕ} {T : Terms} {F : Table} {made made′ : ℕ → ℕ} {e : ℕ} → ((i : ℕ) → made i ≤ made′ i) → EventInv n T F made e → EventInv n T F made′ e
+event-more {n} {T} {F} {made} {made′} {e} up h = record {
   site = h .site;
   earlier = h .earlier;
   transitive = h .transitive;
@@ -113,7 +113,7 @@ event-more {n} {F} {made} {made′} {e} up h = record {
   found = h .found;
 }
 
-pub site-more : {F : Table} {m : ℕ} {made made′ : ℕ → ℕ} {s : ℕ} {a : Site} → ((i : ℕ) → made i ≤ made′ i) → SiteInv F m made s a → SiteInv F m made′ s a
+pub site-more : {T : Terms} {F : Table} {m : ℕ} {made made′ : ℕ → ℕ} {s : ℕ} {a : Site} → ((i : ℕ) → made i ≤ made′ i) → SiteInv T F m made s a → SiteInv T F m made′ s a
 site-more up h = record {
   below = h .below;
   closed = h .closed;
@@ -151,12 +151,12 @@ not-before-key t s t′ s′ h e = go (ltb t t′) (eqb t t′) refl refl e
 -- ---- cells
 
 -- a cell that is right for K is right for a larger set with the same puts on its object
-pub holds-more : (F : Table) (K L : ℕ → Bool) (o : ℕ) (c : Cell)
+pub holds-more : (T : Terms) (F : Table) (K L : ℕ → Bool) (o : ℕ) (c : Cell)
     → ((q : ℕ) → K q ≡ true → L q ≡ true)
     → ((q : ℕ) → L q ≡ true → F q .isPut ≡ true → F q .object ≡ o → K q ≡ true)
-    → HoldsLast F K o c → HoldsLast F L o c
-holds-more F K L o empty up down h = λ q w i b. h q (down q w i b) i b
-holds-more F K L o (full v stamp site) up down h = (
+    → HoldsLast T F K o c → HoldsLast T F L o c
+holds-more T F K L o (untouched x) up down h = ((λ q w i b. h .0 q (down q w i b) i b), h .1)
+holds-more T F K L o (full v stamp site) up down h = (
   h .0,
   record {
     seen = up (h .0) (h .1 .seen);
@@ -169,30 +169,30 @@ holds-more F K L o (full v stamp site) up down h = (
   h .4,
 )
 
-pub holds-shows : (F : Table) (K : ℕ → Bool) (o : ℕ) (c : Cell) → HoldsLast F K o c → ShowsLast F K o (cellValue c)
-holds-shows F K o empty h = h
-holds-shows F K o (full v stamp site) h = (h .0, h .1, h .2)
+pub holds-shows : (T : Terms) (F : Table) (K : ℕ → Bool) (o : ℕ) (c : Cell) → HoldsLast T F K o c → ShowsLast T F K o (cellValue c)
+holds-shows T F K o (untouched x) h = shows-opening (h .0) (h .1)
+holds-shows T F K o (full v stamp site) h = shows-put (h .1) (h .2)
 
 -- the cell after one put w came to the set
-pub holds-merged : (F : Table) (K L : ℕ → Bool) (o w v : ℕ) (c : Cell)
+pub holds-merged : (T : Terms) (F : Table) (K L : ℕ → Bool) (o w v : ℕ) (c : Cell)
     → ((q : ℕ) → L q ≡ true → F q .site < 8)
     → L w ≡ true → F w .isPut ≡ true → F w .object ≡ o → F w .shown ≡ value v
     → ((q : ℕ) → K q ≡ true → L q ≡ true)
     → ((q : ℕ) → L q ≡ true → F q .isPut ≡ true → (q ≡ w) ⊎ (K q ≡ true))
-    → HoldsLast F K o c → HoldsLast F L o (merge c v (F w .stamp) (F w .site))
-holds-merged F K L o w v empty small seen put object shown up came h = (
+    → HoldsLast T F K o c → HoldsLast T F L o (merge c v (F w .stamp) (F w .site))
+holds-merged T F K L o w v (untouched x) small seen put object shown up came h = (
   w,
   record {
     seen = seen;
     isPut = put;
     object = object;
-    last = λ q x i b. elim (came q x i) [ inl y ↦ rw y (le-refl _) | inr y ↦ absurd (h q y i b) ];
+    last = λ q z i b. elim (came q z i) [ inl y ↦ rw y (le-refl _) | inr y ↦ absurd (h .0 q y i b) ];
   },
   shown,
   refl,
   refl,
 )
-holds-merged F K L o w v (full v₀ stamp site) small seen put object shown up came h = go (before stamp site (F w .stamp) (F w .site)) refl
+holds-merged T F K L o w v (full v₀ stamp site) small seen put object shown up came h = go (before stamp site (F w .stamp) (F w .site)) refl
   where
     p : ℕ
     p = h .0
@@ -201,7 +201,7 @@ holds-merged F K L o w v (full v₀ stamp site) small seen put object shown up c
     key-p = rw (h .3, h .4)
 
     go : (t : Bool) → before stamp site (F w .stamp) (F w .site) ≡ t
-        → HoldsLast F L o (cond t (full v (F w .stamp) (F w .site)) (full v₀ stamp site))
+        → HoldsLast T F L o (cond t (full v (F w .stamp) (F w .site)) (full v₀ stamp site))
     go true e =
         let small-p : site < 8 = rw (h .4) at (small p (up p (h .1 .seen))) in
         let less : 8 * stamp + site < key (F w) = before-key stamp site (F w .stamp) (F w .site) small-p e in (

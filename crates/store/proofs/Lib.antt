@@ -1,4 +1,4 @@
--- What is proved of the store's rules. What users should know: StoreIsCausal, EveryClose, EveryCopy, CopiesTold, ThirdDemand.
+-- What is proved of the store's rules. What users should know: StoreIsCausal, EveryClose, EveryCopy, CopiesTold, EveryOpening, ThirdDemand.
 pub mod UpdateLaws
 pub mod Invariant
 pub mod DeliverKeeps
@@ -16,5 +16,7 @@ pub mod CellsAgree
 pub mod EveryClose
 pub mod WholeList
 pub mod EveryCopy
+pub mod EveryOpening
 pub mod CopiesTold
+pub mod OpeningTerms
 pub mod ThirdDemand

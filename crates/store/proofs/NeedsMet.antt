@@ -8,6 +8,7 @@ use native.Mathlib.Nat.{le-refl}
 use lib.Dec.{ltb}
 use borrow.Author.Tests.{lt-ltb, le-ltb}
 use Rattle.record.specs.Questions.{ask}
+use Rattle.record.specs.Terms.{Terms}
 use Rattle.store.specs.Store.{Store}
 use Rattle.store.specs.Rules.{reached, refusal, Copy, copiesOf, allCopies, copyRefusal, afterCopy, afterCopies, closeCopies}
 use Rattle.store.proofs.Invariant.{StoreInv}
@@ -45,7 +46,7 @@ copy-met n st w t met r = not-36 (ltb t n) (ltb w (st .count) && st .event w .is
 
 -- ---- all copies
 
-module _ (n : ℕ) (n≤8 : n ≤ 8) (st : Store) (ok : StoreInv n (st .event) st) where
+module _ (n : ℕ) (n≤8 : n ≤ 8) {T : Terms} (st : Store) (ok : StoreInv n T (st .event) st) where
   -- the copy of w for site t comes after all copies of lower events, and those of w for lower sites
   turn-met : (w t : ℕ) → w < st .count → t < n
       → copyRefusal n (afterCopies n (closedStore n st w) (copiesOf w t)) (record { event = w; site = t }) ≡ 36 → ⊥

@@ -12,6 +12,7 @@ use Rattle.rows.specs.Count.{sum, howMany}
 use Rattle.rows.proofs.Tests.{split, same-test}
 use Rattle.rows.proofs.CountLaws.{sum-more, sum-same, sum-most, sum-each, sum-add, sum-other, many-most, many-same, many-others}
 use Rattle.record.specs.Encode.{bit}
+use Rattle.record.specs.Terms.{Terms}
 use Rattle.store.specs.Store.{upd, Site, Event, Store}
 use Rattle.store.specs.Calls.{deliver}
 use Rattle.store.specs.Rules.{refusal, afterDelivery, withCopy, Copy, copyRefusal, afterCopy, afterCopies, copied}
@@ -55,7 +56,7 @@ same-lacking false k l up down = refl
 
 -- ---- a done delivery
 
-module _ (n : ℕ) (n≤8 : n ≤ 8) (st : Store) (ok : StoreInv n (st .event) st) (w t : ℕ) (done : refusal n st (deliver w t) ≡ 0) where
+module _ (n : ℕ) (n≤8 : n ≤ 8) {T : Terms} (st : Store) (ok : StoreInv n T (st .event) st) (w t : ℕ) (done : refusal n st (deliver w t) ≡ 0) where
   d : Deliverable st w t (st .event w)
   d = deliverable n st w t done
 
@@ -94,7 +95,7 @@ module _ (n : ℕ) (n≤8 : n ≤ 8) (st : Store) (ok : StoreInv n (st .event) s
 
 -- ---- a new event: a put is lacking at every site but its own
 
-module _ (n : ℕ) (st : Store) (ok : StoreInv n (st .event) st) (s : ℕ) (e : Event) (b : Site) (knows : b .known ≡ upd (st .site s .known) (st .count) true) where
+module _ (n : ℕ) {T : Terms} (st : Store) (ok : StoreInv n T (st .event) st) (s : ℕ) (e : Event) (b : Site) (knows : b .known ≡ upd (st .site s .known) (st .count) true) where
   -- the store with event e, made at site s
   abbrev pub withNew : Store
   withNew = record { count = suc (st .count); event = upd (st .event) (st .count) e; site = upd (st .site) s b }
@@ -141,7 +142,7 @@ module _ (n : ℕ) (st : Store) (ok : StoreInv n (st .event) st) (s : ℕ) (e : 
 -- ---- copies
 
 -- each delivered copy is one less that is lacking
-copy-outstanding : (n : ℕ) → n ≤ 8 → (c : Copy) (st : Store) → StoreInv n (st .event) st
+copy-outstanding : (n : ℕ) → n ≤ 8 → {T : Terms} (c : Copy) (st : Store) → StoreInv n T (st .event) st
     → bit (eqb (copyRefusal n st c) 0) + outstanding n (afterCopy n st c) ≡ outstanding n st
 unfolding afterCopy
 copy-outstanding n n≤8 c st ok = go (eqb (copyRefusal n st c) 0) refl
@@ -150,7 +151,7 @@ copy-outstanding n n≤8 c st ok = go (eqb (copyRefusal n st c) 0) refl
     go true e = omega (arith, outstanding-less n n≤8 st ok (c .event) (c .site) (eqb-true (copyRefusal n st c) 0 e))
     go false e = omega arith
 
-pub copies-outstanding : (n : ℕ) → n ≤ 8 → (cs : List Copy) (st : Store) → StoreInv n (st .event) st
+pub copies-outstanding : (n : ℕ) → n ≤ 8 → {T : Terms} (cs : List Copy) (st : Store) → StoreInv n T (st .event) st
     → copied n st cs + outstanding n (afterCopies n st cs) ≡ outstanding n st
 unfolding copied afterCopies
 copies-outstanding n n≤8 [] st ok = omega arith

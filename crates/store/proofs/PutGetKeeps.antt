@@ -4,19 +4,19 @@ use mathlib.Core.Bool.{Bool, true, false, true≢false, false≢true}
 use Prim.Native.Nat.{ℕ, suc, _≤_, _<_}
 use native.Mathlib.Omega.{arith}
 use native.Mathlib.Nat.{le-refl}
-use Rattle.consistency.specs.Reads.{Held, value}
+use Rattle.record.specs.Terms.{Held, value, valueOr0, Terms}
 use Rattle.store.specs.Store.{upd, full, cellValue, Site, Event, Store}
 use Rattle.store.specs.Calls.{put, get}
-use Rattle.store.specs.Rules.{valueOr0, made, afterPut, afterGet, effect}
+use Rattle.store.specs.Rules.{made, afterPut, afterGet, effect}
 use Rattle.store.proofs.UpdateLaws.{upd-elim, upd-same, raise-le, lt-suc-elim}
 use Rattle.store.proofs.Invariant.{Table, key, place, totals, HoldsLast, ShowsLast, CountedPut, EventInv, SiteInv, StoreInv, totals-more, event-more, counted-more, holds-more, holds-shows}
 
-module _ (n : ℕ) (n≤8 : n ≤ 8) (F : Table) (st : Store) (ok : StoreInv n F st) (s : ℕ) (s<n : s < n) where
+module _ (n : ℕ) (n≤8 : n ≤ 8) {T : Terms} (F : Table) (st : Store) (ok : StoreInv n T F st) (s : ℕ) (s<n : s < n) where
   -- the new event sees what its site knew
   new-event : (p : Bool) (o : ℕ) (x : Held) → F (st .count) ≡ made st s p o x
       → (totals′ : ℕ → ℕ) → ((i : ℕ) → totals (st .site) i ≤ totals′ i) → (p ≡ true → totals (st .site) s < totals′ s)
-      → (p ≡ true → x ≡ value (valueOr0 x)) → (p ≡ false → ShowsLast F (st .site s .known) o x)
-      → EventInv n F totals′ (st .count)
+      → (p ≡ true → x ≡ value (valueOr0 x)) → (p ≡ false → ShowsLast T F (st .site s .known) o x)
+      → EventInv n T F totals′ (st .count)
   new-event p o x eF totals′ more rise written found = record {
     site = rw eF s<n;
     earlier = λ f h. ok .sites s .below f (rw eF at h);
@@ -60,7 +60,7 @@ module _ (n : ℕ) (n≤8 : n ≤ 8) (F : Table) (st : Store) (ok : StoreInv n F
   -- the site after its put: no known event has a larger key
   after-put : (o v : ℕ) → F (st .count) ≡ made st s true o (value v)
       → (totals′ : ℕ → ℕ) → ((i : ℕ) → totals (st .site) i ≤ totals′ i) → totals (st .site) s < totals′ s
-      → SiteInv F (suc (st .count)) totals′ s (afterPut (st .site s) s (st .count) o v)
+      → SiteInv T F (suc (st .count)) totals′ s (afterPut (st .site s) s (st .count) o v)
   after-put o v eF totals′ more rise = record {
     below = below-then;
     closed = closed-then (ap (λ (x : Event). x .sees) eF);
@@ -89,7 +89,7 @@ module _ (n : ℕ) (n≤8 : n ≤ 8) (F : Table) (st : Store) (ok : StoreInv n F
         (λ q. rw q rise)
         (λ q. omega (arith, ok .sites s .held-made i, more i));
     cell = λ o′.
-        upd-elim (HoldsLast F (upd (st .site s .known) (st .count) true) o′) (st .site s .cell) o (full v (suc (st .site s .clock)) s) o′
+        upd-elim (HoldsLast T F (upd (st .site s .known) (st .count) true) o′) (st .site s .cell) o (full v (suc (st .site s .clock)) s) o′
         (λ q. (
           st .count,
           record {
@@ -104,7 +104,7 @@ module _ (n : ℕ) (n≤8 : n ≤ 8) (F : Table) (st : Store) (ok : StoreInv n F
           rw eF,
           rw eF,
         ))
-        (λ q. holds-more F (st .site s .known) (upd (st .site s .known) (st .count) true) o′ (st .site s .cell o′) knows
+        (λ q. holds-more T F (st .site s .known) (upd (st .site s .known) (st .count) true) o′ (st .site s .cell o′) knows
         (λ x h i b. came x h (λ l. absurd (q (sym b ∙ ap (λ (y : Event). y .object) (ap F l ∙ eF)))) (λ l. l))
         (ok .sites s .cell o′));
   }
@@ -112,7 +112,7 @@ module _ (n : ℕ) (n≤8 : n ≤ 8) (F : Table) (st : Store) (ok : StoreInv n F
   -- the site after its get: the puts that it knows are as before
   after-get : (o : ℕ) (x : Held) → F (st .count) ≡ made st s false o x
       → (totals′ : ℕ → ℕ) → ((i : ℕ) → totals (st .site) i ≤ totals′ i)
-      → SiteInv F (suc (st .count)) totals′ s (afterGet (st .site s) (st .count))
+      → SiteInv T F (suc (st .count)) totals′ s (afterGet (st .site s) (st .count))
   after-get o x eF totals′ more = record {
     below = below-then;
     closed = closed-then (ap (λ (y : Event). y .sees) eF);
@@ -124,7 +124,7 @@ module _ (n : ℕ) (n≤8 : n ≤ 8) (F : Table) (st : Store) (ok : StoreInv n F
     counted = λ i p l. counted-more knows (ok .sites s .counted i p l);
     held-made = λ i. omega (arith, ok .sites s .held-made i, more i);
     cell = λ o′.
-        holds-more F (st .site s .known) (upd (st .site s .known) (st .count) true) o′ (st .site s .cell o′) knows
+        holds-more T F (st .site s .known) (upd (st .site s .known) (st .count) true) o′ (st .site s .cell o′) knows
         (λ y h i b. came y h (λ l. absurd (false≢true (rw (l, eF) at i))) (λ l. l))
         (ok .sites s .cell o′);
   }
@@ -132,7 +132,7 @@ module _ (n : ℕ) (n≤8 : n ≤ 8) (F : Table) (st : Store) (ok : StoreInv n F
   -- another site, t: a new put has as its place all that s made, which t does not hold
   elsewhere : (p : Bool) (o : ℕ) (x : Held) → F (st .count) ≡ made st s p o x
       → (totals′ : ℕ → ℕ) → ((i : ℕ) → totals (st .site) i ≤ totals′ i)
-      → (t : ℕ) → (t ≡ s → ⊥) → SiteInv F (suc (st .count)) totals′ t (st .site t)
+      → (t : ℕ) → (t ≡ s → ⊥) → SiteInv T F (suc (st .count)) totals′ t (st .site t)
   elsewhere p o x eF totals′ more t other = record {
     below = λ e h. omega (arith, ok .sites t .below e h);
     closed = ok .sites t .closed;
@@ -148,7 +148,7 @@ module _ (n : ℕ) (n≤8 : n ≤ 8) (F : Table) (st : Store) (ok : StoreInv n F
     cell = ok .sites t .cell;
   }
 
-  pub put-keeps : (o v : ℕ) → F (st .count) ≡ made st s true o (value v) → StoreInv n F (effect n st (put s o v))
+  pub put-keeps : (o v : ℕ) → F (st .count) ≡ made st s true o (value v) → StoreInv n T F (effect n st (put s o v))
   unfolding effect
   put-keeps o v eF =
       let b : Site = afterPut (st .site s) s (st .count) o v in
@@ -162,7 +162,7 @@ module _ (n : ℕ) (n≤8 : n ≤ 8) (F : Table) (st : Store) (ok : StoreInv n F
             (λ q. rw q
             (new-event true o (value v) eF (totals (upd (st .site) s b)) more (λ x. rise) (λ x. refl) (λ x. absurd (true≢false x))));
         sites = λ t.
-            upd-elim (SiteInv F (suc (st .count)) (totals (upd (st .site) s b)) t) (st .site) s b t
+            upd-elim (SiteInv T F (suc (st .count)) (totals (upd (st .site) s b)) t) (st .site) s b t
             (λ q. rw q (after-put o v eF (totals (upd (st .site) s b)) more rise))
             (λ q. elsewhere true o (value v) eF (totals (upd (st .site) s b)) more t q);
         few = λ i.
@@ -171,7 +171,7 @@ module _ (n : ℕ) (n≤8 : n ≤ 8) (F : Table) (st : Store) (ok : StoreInv n F
             (λ q. omega (arith, ok .few i));
       }
 
-  pub get-keeps : (o : ℕ) → F (st .count) ≡ made st s false o (cellValue (st .site s .cell o)) → StoreInv n F (effect n st (get s o))
+  pub get-keeps : (o : ℕ) → F (st .count) ≡ made st s false o (cellValue (st .site s .cell o)) → StoreInv n T F (effect n st (get s o))
   unfolding effect
   get-keeps o eF =
       let x : Held = cellValue (st .site s .cell o) in
@@ -182,9 +182,9 @@ module _ (n : ℕ) (n≤8 : n ≤ 8) (F : Table) (st : Store) (ok : StoreInv n F
             lt-suc-elim e (st .count) h (λ q. event-more more (ok .events e q))
             (λ q. rw q
             (new-event false o x eF (totals (upd (st .site) s b)) more (λ y. absurd (false≢true y)) (λ y. absurd (false≢true y))
-            (λ y. holds-shows F (st .site s .known) o (st .site s .cell o) (ok .sites s .cell o))));
+            (λ y. holds-shows T F (st .site s .known) o (st .site s .cell o) (ok .sites s .cell o))));
         sites = λ t.
-            upd-elim (SiteInv F (suc (st .count)) (totals (upd (st .site) s b)) t) (st .site) s b t
+            upd-elim (SiteInv T F (suc (st .count)) (totals (upd (st .site) s b)) t) (st .site) s b t
             (λ q. rw q (after-get o x eF (totals (upd (st .site) s b)) more))
             (λ q. elsewhere false o x eF (totals (upd (st .site) s b)) more t q);
         few = λ i.

@@ -8,7 +8,7 @@ use native.Mathlib.Nat.{le-refl}
 use lib.Dec.{leb, ltb, eqb}
 use borrow.Author.Tests.{ltb-true, leb-true, le-leb, eqb-true, not-true}
 use Rattle.rows.proofs.Tests.{and-both, and-left, and-right}
-use Rattle.consistency.specs.Reads.{value}
+use Rattle.record.specs.Terms.{value, Terms}
 use Rattle.store.specs.Store.{cellValue, Store, fresh}
 use Rattle.store.specs.Calls.{Call, put, get, deliver, close, malformed}
 use Rattle.record.specs.Questions.{ask}
@@ -158,21 +158,23 @@ pub has-earlier : (F : Table) (st later : Store) → Stays st later → Has F la
 has-earlier F st later h k e l = k e (omega (arith, h .count)) ∙ h .event e l
 
 -- a delivery changes no event
-copy-keeps : (n : ℕ) → n ≤ 8 → (F : Table) (st : Store) (w t : ℕ) → refusal n st (deliver w t) ≡ 0 → Has F st × StoreInv n F st
-    → Has F (withCopy st w t) × StoreInv n F (withCopy st w t)
+copy-keeps : (n : ℕ) → n ≤ 8 → {T : Terms} (F : Table) (st : Store) (w t : ℕ) → refusal n st (deliver w t) ≡ 0 → Has F st × StoreInv n T F st
+    → Has F (withCopy st w t) × StoreInv n T F (withCopy st w t)
 copy-keeps n n≤8 F st w t r h =
     let d = deliverable n st w t r in
     let eF : F w ≡ st .event w = h .0 w (d .done) in
     (h .0, deliver-keeps n n≤8 F st (h .1) w t (rw eF d) eF)
 
-pub copy-inv : (n : ℕ) → n ≤ 8 → (st : Store) (w t : ℕ) → refusal n st (deliver w t) ≡ 0 → StoreInv n (st .event) st → StoreInv n (st .event) (withCopy st w t)
+pub copy-inv : (n : ℕ) → n ≤ 8 → {T : Terms} (st : Store) (w t : ℕ) → refusal n st (deliver w t) ≡ 0 → StoreInv n T (st .event) st
+    → StoreInv n T (st .event) (withCopy st w t)
 copy-inv n n≤8 st w t done ok = copy-keeps n n≤8 (st .event) st w t done ((λ e l. refl), ok) .1
 
-pub copies-inv : (n : ℕ) → n ≤ 8 → (cs : List Copy) (st : Store) → StoreInv n (st .event) st → StoreInv n (afterCopies n st cs .event) (afterCopies n st cs)
-copies-inv n n≤8 = copies-keep n (λ (x : Store). StoreInv n (x .event) x) (copy-inv n n≤8)
+pub copies-inv : (n : ℕ) → n ≤ 8 → {T : Terms} (cs : List Copy) (st : Store) → StoreInv n T (st .event) st
+    → StoreInv n T (afterCopies n st cs .event) (afterCopies n st cs)
+copies-inv n n≤8 {T} = copies-keep n (λ (x : Store). StoreInv n T (x .event) x) (copy-inv n n≤8)
 
-effect-keeps : (n : ℕ) → n ≤ 8 → (F : Table) (st : Store) → StoreInv n F st → (c : Call) → refusal n st c ≡ 0 → Has F (effect n st c)
-    → StoreInv n F (effect n st c)
+effect-keeps : (n : ℕ) → n ≤ 8 → {T : Terms} (F : Table) (st : Store) → StoreInv n T F st → (c : Call) → refusal n st c ≡ 0 → Has F (effect n st c)
+    → StoreInv n T F (effect n st c)
 unfolding effect
 effect-keeps n n≤8 F st ok (put s o v) r has =
     put-keeps n n≤8 F st ok s (put-doable n st s o v r .site) o v
@@ -181,16 +183,18 @@ effect-keeps n n≤8 F st ok (get s o) r has =
     get-keeps n n≤8 F st ok s (get-doable n st s o r .site) o
     (has (st .count) (le-refl _) ∙ upd-same (st .event) (st .count) (made st s false o (cellValue (st .site s .cell o))))
 effect-keeps n n≤8 F st ok (deliver w t) r has = copy-keeps n n≤8 F st w t r (has, ok) .1
-effect-keeps n n≤8 F st ok close r has =
-    copies-keep n (λ (x : Store). Has F x × StoreInv n F x) (λ x w t. copy-keeps n n≤8 F x w t) (closeCopies n st) st
+effect-keeps n n≤8 {T} F st ok close r has =
+    copies-keep n (λ (x : Store). Has F x × StoreInv n T F x) (λ x w t. copy-keeps n n≤8 F x w t) (closeCopies n st) st
     (has-earlier F st (effect n st close) (effect-stays n st close) has, ok) .1
 effect-keeps n n≤8 F st ok malformed r has = ok
 
-pub step-keeps : (n : ℕ) → n ≤ 8 → (F : Table) (st : Store) → StoreInv n F st → (c : Call) → Has F (afterCall n st c) → StoreInv n F (afterCall n st c)
-step-keeps n n≤8 F st ok c =
-    step-elim n st c (λ (x : Store). Has F x → StoreInv n F x) (λ r has. effect-keeps n n≤8 F st ok c r has) (λ has. ok)
+pub step-keeps : (n : ℕ) → n ≤ 8 → {T : Terms} (F : Table) (st : Store) → StoreInv n T F st → (c : Call) → Has F (afterCall n st c)
+    → StoreInv n T F (afterCall n st c)
+step-keeps n n≤8 {T} F st ok c =
+    step-elim n st c (λ (x : Store). Has F x → StoreInv n T F x) (λ r has. effect-keeps n n≤8 F st ok c r has) (λ has. ok)
 
-pub run-keeps : (n : ℕ) → n ≤ 8 → (F : Table) (cs : List Call) (st : Store) → StoreInv n F st → Has F (run n st cs) → StoreInv n F (run n st cs)
+pub run-keeps : (n : ℕ) → n ≤ 8 → {T : Terms} (F : Table) (cs : List Call) (st : Store) → StoreInv n T F st → Has F (run n st cs)
+    → StoreInv n T F (run n st cs)
 unfolding run
 run-keeps n n≤8 F [] st ok has = ok
 run-keeps n n≤8 F (c ∷ cs) st ok has =
@@ -198,8 +202,8 @@ run-keeps n n≤8 F (c ∷ cs) st ok has =
     (step-keeps n n≤8 F st ok c (has-earlier F (afterCall n st c) (run n (afterCall n st c) cs) (run-stays n (afterCall n st c) cs) has))
     has
 
-fresh-keeps : (n : ℕ) (F : Table) → StoreInv n F fresh
-fresh-keeps n F = record {
+fresh-keeps : (n : ℕ) (T : Terms) (F : Table) → StoreInv n T F (fresh T)
+fresh-keeps n T F = record {
   events = λ e l. absurd (omega arith);
   sites = λ s. record {
     below = λ e h. absurd (false≢true h);
@@ -211,11 +215,13 @@ fresh-keeps n F = record {
     held-known = λ e l i x. absurd (omega arith);
     counted = λ i p l. absurd (omega arith);
     held-made = λ i. le-refl _;
-    cell = λ o q h i b. absurd (false≢true h);
+    cell = λ o. ((λ q h i b. absurd (false≢true h)), refl);
   };
   few = λ i. le-refl _;
 }
 
--- for every list of calls
-pub every-run : (n : ℕ) → n ≤ 8 → (cs : List Call) → StoreInv n (run n fresh cs .event) (run n fresh cs)
-every-run n n≤8 cs = run-keeps n n≤8 (run n fresh cs .event) cs fresh (fresh-keeps n (run n fresh cs .event)) (λ e l. refl)
+-- for all terms, and every list of calls
+pub every-run : (n : ℕ) → n ≤ 8 → (T : Terms) (cs : List Call) → StoreInv n T (run n (fresh T) cs .event) (run n (fresh T) cs)
+every-run n n≤8 T cs =
+    let F : Table = run n (fresh T) cs .event in
+    run-keeps n n≤8 F cs (fresh T) (fresh-keeps n T F) (λ e l. refl)

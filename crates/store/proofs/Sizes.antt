@@ -10,13 +10,13 @@ use Rattle.rows.specs.Octets.{little}
 use Rattle.rows.proofs.Tests.{split}
 use Rattle.rows.proofs.ByteLaws.{little-lt}
 use Rattle.record.specs.Layout.{byte}
+use Rattle.record.specs.Terms.{Held, value, valueOr0, Terms}
 use Rattle.record.proofs.StoresLaws.{Bytes}
-use Rattle.consistency.specs.Reads.{Held, none, value}
-use Rattle.store.specs.Store.{upd, Cell, empty, full, cellValue, Event, Store, fresh}
+use Rattle.store.specs.Store.{upd, Cell, untouched, full, cellValue, Event, Store, fresh}
 use Rattle.store.specs.Calls.{Call, put, get, deliver, close, malformed, callAt, callsFrom, callsOf}
-use Rattle.store.specs.Rules.{refusal, made, valueOr0, closeCopies, effect, afterCall, run}
+use Rattle.store.specs.Rules.{refusal, made, closeCopies, effect, afterCall, run}
 use Rattle.store.proofs.UpdateLaws.{upd-elim, lt-suc-elim}
-use Rattle.store.proofs.Invariant.{HoldsLast, ShowsLast, StoreInv}
+use Rattle.store.proofs.Invariant.{HoldsLast, ShowsLast, shows-opening, shows-put, StoreInv}
 use Rattle.store.proofs.RunKeeps.{put-doable, get-doable, step-elim, copies-keep, every-run}
 
 -- ---- every event
@@ -53,17 +53,17 @@ unfolding run
 run-limits n st [] h = h
 run-limits n st (c ∷ cs) h = run-limits n (afterCall n st c) cs (step-elim n st c Limits (λ r. effect-limits n st h c r) h)
 
-pub every-limits : (n : ℕ) (cs : List Call) → Limits (run n fresh cs)
-every-limits n cs = run-limits n fresh cs (record { count = omega arith; object = λ e l. absurd (omega arith) })
+pub every-limits : (n : ℕ) (T : Terms) (cs : List Call) → Limits (run n (fresh T) cs)
+every-limits n T cs = run-limits n (fresh T) cs (record { count = omega arith; object = λ e l. absurd (omega arith) })
 
 -- ---- numbers that count events
 
 abbrev pub cellStamp : Cell → ℕ
-cellStamp empty = 0
+cellStamp (untouched x) = 0
 cellStamp (full v stamp site) = stamp
 
 abbrev pub cellSite : Cell → ℕ
-cellSite empty = 0
+cellSite (untouched x) = 0
 cellSite (full v stamp site) = site
 
 pub record Sizes (st : Store) : Type 0 where
@@ -74,9 +74,9 @@ pub record Sizes (st : Store) : Type 0 where
   pub cell-stamp : (s o : ℕ) → cellStamp (st .site s .cell o) ≤ st .count
   pub cell-site : (s o : ℕ) → cellSite (st .site s .cell o) < 8
 
-module _ (n : ℕ) (n≤8 : n ≤ 8) (st : Store) (ok : StoreInv n (st .event) st) where
-  cell-sizes : (s o : ℕ) (c : Cell) → HoldsLast (st .event) (st .site s .known) o c → (cellStamp c ≤ st .count) × (cellSite c < 8)
-  cell-sizes s o empty h = (omega arith, omega arith)
+module _ (n : ℕ) (n≤8 : n ≤ 8) {T : Terms} (st : Store) (ok : StoreInv n T (st .event) st) where
+  cell-sizes : (s o : ℕ) (c : Cell) → HoldsLast T (st .event) (st .site s .known) o c → (cellStamp c ≤ st .count) × (cellSite c < 8)
+  cell-sizes s o (untouched x) h = (omega arith, omega arith)
   cell-sizes s o (full v stamp site) h =
       let l = ok .sites s .below (h .0) (h .1 .seen) in
       (omega (arith, ok .events (h .0) l .stamp, h .3), omega (arith, ok .events (h .0) l .site, h .4))
@@ -91,8 +91,8 @@ module _ (n : ℕ) (n≤8 : n ≤ 8) (st : Store) (ok : StoreInv n (st .event) s
     cell-site = λ s o. cell-sizes s o (st .site s .cell o) (ok .sites s .cell o) .1;
   }
 
-pub every-sizes : (n : ℕ) → n ≤ 8 → (cs : List Call) → Sizes (run n fresh cs)
-every-sizes n n≤8 cs = sizes n n≤8 (run n fresh cs) (every-run n n≤8 cs)
+pub every-sizes : (n : ℕ) → n ≤ 8 → (T : Terms) (cs : List Call) → Sizes (run n (fresh T) cs)
+every-sizes n n≤8 T cs = sizes n n≤8 (run n (fresh T) cs) (every-run n n≤8 T cs)
 
 -- ---- values
 
@@ -130,23 +130,22 @@ run-written n st [] f h = h
 run-written n st (c ∷ cs) f h =
     run-written n (afterCall n st c) cs (f .1) (step-elim n st c Written (λ r. effect-written n st c (f .0) h) h)
 
--- gets and cells have values of puts
+-- gets and cells have values of puts, or opening figures
 pub record Values (st : Store) : Type 0 where
   pub event : (e : ℕ) → e < st .count → valueOr0 (st .event e .shown) < 2 ^ 32
   pub cell : (s o : ℕ) → valueOr0 (cellValue (st .site s .cell o)) < 2 ^ 32
 
-module _ (n : ℕ) (st : Store) (ok : StoreInv n (st .event) st) (written : Written st) where
-  put-value : (p v : ℕ) → p < st .count → st .event p .isPut ≡ true → st .event p .shown ≡ value v → v < 2 ^ 32
-  put-value p v l i q = rw q at (written p l i)
+module _ (n : ℕ) (T : Terms) (opens : (o : ℕ) → valueOr0 (T .opening o) < 2 ^ 32) (st : Store) (ok : StoreInv n T (st .event) st) (written : Written st) where
+  put-value : (p : ℕ) (x : Held) → p < st .count → st .event p .isPut ≡ true → st .event p .shown ≡ x → valueOr0 x < 2 ^ 32
+  put-value p x l i q = rw q at (written p l i)
 
-  found-value : (e : ℕ) → e < st .count → (x : Held) → ShowsLast (st .event) (st .event e .sees) (st .event e .object) x → valueOr0 x < 2 ^ 32
-  found-value e l none h = omega arith
-  found-value e l (value v) h =
-      put-value (h .0) v (omega (arith, ok .events e l .earlier (h .0) (h .1 .seen))) (h .1 .isPut) (h .2)
+  found-value : (e : ℕ) → e < st .count → (x : Held) → ShowsLast T (st .event) (st .event e .sees) (st .event e .object) x → valueOr0 x < 2 ^ 32
+  found-value e l x (shows-opening no-put is) = rw is at (opens (st .event e .object))
+  found-value e l x (shows-put {p} last is) = put-value p x (omega (arith, ok .events e l .earlier p (last .seen))) (last .isPut) is
 
-  cell-value : (s o : ℕ) (c : Cell) → HoldsLast (st .event) (st .site s .known) o c → valueOr0 (cellValue c) < 2 ^ 32
-  cell-value s o empty h = omega arith
-  cell-value s o (full v stamp site) h = put-value (h .0) v (ok .sites s .below (h .0) (h .1 .seen)) (h .1 .isPut) (h .2)
+  cell-value : (s o : ℕ) (c : Cell) → HoldsLast T (st .event) (st .site s .known) o c → valueOr0 (cellValue c) < 2 ^ 32
+  cell-value s o (untouched x) h = rw (h .1) at (opens o)
+  cell-value s o (full v stamp site) h = put-value (h .0) (value v) (ok .sites s .below (h .0) (h .1 .seen)) (h .1 .isPut) (h .2)
 
   values : Values st
   values = record {
@@ -156,8 +155,9 @@ module _ (n : ℕ) (st : Store) (ok : StoreInv n (st .event) st) (written : Writ
     cell = λ s o. cell-value s o (st .site s .cell o) (ok .sites s .cell o);
   }
 
-pub every-values : (n : ℕ) → n ≤ 8 → (cs : List Call) → AllFit cs → Values (run n fresh cs)
-every-values n n≤8 cs f = values n (run n fresh cs) (every-run n n≤8 cs) (run-written n fresh cs f (λ e l. absurd (omega arith)))
+pub every-values : (n : ℕ) → n ≤ 8 → (T : Terms) → ((o : ℕ) → valueOr0 (T .opening o) < 2 ^ 32) → (cs : List Call) → AllFit cs → Values (run n (fresh T) cs)
+every-values n n≤8 T opens cs f =
+    values n T opens (run n (fresh T) cs) (every-run n n≤8 T cs) (run-written n (fresh T) cs f (λ e l. absurd (omega arith)))
 
 -- ---- the calls of a script
 

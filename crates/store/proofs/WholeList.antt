@@ -9,11 +9,12 @@ use lib.ListN.{length, getD, length-append, replicate, length-replicate, List·g
 use lib.Seq.{getD-append-add}
 use Rattle.rows.specs.Count.{sum}
 use Rattle.rows.proofs.CountLaws.{sum-none, sum-more}
+use Rattle.record.specs.Terms.{Terms}
 use Rattle.record.proofs.NumberBytes.{length-little}
 use Rattle.store.specs.Store.{Store, fresh}
 use Rattle.store.specs.Calls.{Call, put, get, deliver, close, malformed, callAt, callsFrom, callsOf}
 use Rattle.store.specs.Rules.{refusal, afterCall, run, total, doneAnswer, answer, answers}
-use Rattle.store.specs.Rehearsal.{storeAfter}
+use Rattle.store.specs.Rehearsal.{termsOf, storeAfter}
 use Rattle.store.proofs.UpdateLaws.{lt-suc-elim}
 use Rattle.store.proofs.Invariant.{StoreInv}
 use Rattle.store.proofs.RunKeeps.{every-run}
@@ -42,106 +43,106 @@ no-answers-left n st s at = refl
 -- ---- counted up
 
 -- the store after the first k calls of a script, and their answers
-unfoldable pub storeUpTo : ℕ → ℕ → List ℕ → Store
-storeUpTo zero n s = fresh
-storeUpTo (suc k) n s = afterCall n (storeUpTo k n s) (callAt s (8 * k))
+unfoldable pub storeUpTo : ℕ → ℕ → Terms → List ℕ → Store
+storeUpTo zero n T s = fresh T
+storeUpTo (suc k) n T s = afterCall n (storeUpTo k n T s) (callAt s (8 * k))
 
-unfoldable pub answersUpTo : ℕ → ℕ → List ℕ → List ℕ
-answersUpTo zero n s = []
-answersUpTo (suc k) n s = answersUpTo k n s ++ answer n (storeUpTo k n s) (callAt s (8 * k))
+unfoldable pub answersUpTo : ℕ → ℕ → Terms → List ℕ → List ℕ
+answersUpTo zero n T s = []
+answersUpTo (suc k) n T s = answersUpTo k n T s ++ answer n (storeUpTo k n T s) (callAt s (8 * k))
 
-pub store-none : (n : ℕ) (s : List ℕ) → storeUpTo 0 n s ≡ fresh
+pub store-none : (n : ℕ) (T : Terms) (s : List ℕ) → storeUpTo 0 n T s ≡ fresh T
 unfolding storeUpTo
-store-none n s = refl
+store-none n T s = refl
 
-pub store-more : (k n : ℕ) (s : List ℕ) → storeUpTo (suc k) n s ≡ afterCall n (storeUpTo k n s) (callAt s (8 * k))
+pub store-more : (k n : ℕ) (T : Terms) (s : List ℕ) → storeUpTo (suc k) n T s ≡ afterCall n (storeUpTo k n T s) (callAt s (8 * k))
 unfolding storeUpTo
-store-more k n s = refl
+store-more k n T s = refl
 
-pub answers-none : (n : ℕ) (s : List ℕ) → answersUpTo 0 n s ≡ []
+pub answers-none : (n : ℕ) (T : Terms) (s : List ℕ) → answersUpTo 0 n T s ≡ []
 unfolding answersUpTo
-answers-none n s = refl
+answers-none n T s = refl
 
-pub answers-more : (k n : ℕ) (s : List ℕ) → answersUpTo (suc k) n s ≡ answersUpTo k n s ++ answer n (storeUpTo k n s) (callAt s (8 * k))
+pub answers-more : (k n : ℕ) (T : Terms) (s : List ℕ) → answersUpTo (suc k) n T s ≡ answersUpTo k n T s ++ answer n (storeUpTo k n T s) (callAt s (8 * k))
 unfolding answersUpTo
-answers-more k n s = refl
+answers-more k n T s = refl
 
 -- after k calls, j more make what k + j make
-run-on : (j k n : ℕ) (s : List ℕ) → run n (storeUpTo k n s) (callsFrom j s (8 * k)) ≡ storeUpTo (k + j) n s
-run-on zero k n s = none-left n (storeUpTo k n s) s (8 * k) ∙ ap (λ (i : ℕ). storeUpTo i n s) (omega arith)
-run-on (suc j) k n s =
-    run-left n (storeUpTo k n s) j s (8 * k)
-    ∙ ap (λ (i : ℕ). run n (afterCall n (storeUpTo k n s) (callAt s (8 * k))) (callsFrom j s i)) (omega arith)
-    ∙ ap (λ (st : Store). run n st (callsFrom j s (8 * suc k))) (sym (store-more k n s))
-    ∙ run-on j (suc k) n s
-    ∙ ap (λ (i : ℕ). storeUpTo i n s) (omega arith)
+run-on : (j k n : ℕ) (T : Terms) (s : List ℕ) → run n (storeUpTo k n T s) (callsFrom j s (8 * k)) ≡ storeUpTo (k + j) n T s
+run-on zero k n T s = none-left n (storeUpTo k n T s) s (8 * k) ∙ ap (λ (i : ℕ). storeUpTo i n T s) (omega arith)
+run-on (suc j) k n T s =
+    run-left n (storeUpTo k n T s) j s (8 * k)
+    ∙ ap (λ (i : ℕ). run n (afterCall n (storeUpTo k n T s) (callAt s (8 * k))) (callsFrom j s i)) (omega arith)
+    ∙ ap (λ (st : Store). run n st (callsFrom j s (8 * suc k))) (sym (store-more k n T s))
+    ∙ run-on j (suc k) n T s
+    ∙ ap (λ (i : ℕ). storeUpTo i n T s) (omega arith)
 
-answers-on : (j k n : ℕ) (s : List ℕ) → answersUpTo k n s ++ answers n (storeUpTo k n s) (callsFrom j s (8 * k)) ≡ answersUpTo (k + j) n s
-answers-on zero k n s =
-    ap (λ (l : List ℕ). answersUpTo k n s ++ l) (no-answers-left n (storeUpTo k n s) s (8 * k))
-    ∙ append-nil (answersUpTo k n s)
-    ∙ ap (λ (i : ℕ). answersUpTo i n s) (omega arith)
-answers-on (suc j) k n s =
-    let done : List ℕ = answersUpTo k n s in
-    let now : Store = storeUpTo k n s in
+answers-on : (j k n : ℕ) (T : Terms) (s : List ℕ) → answersUpTo k n T s ++ answers n (storeUpTo k n T s) (callsFrom j s (8 * k)) ≡ answersUpTo (k + j) n T s
+answers-on zero k n T s =
+    ap (λ (l : List ℕ). answersUpTo k n T s ++ l) (no-answers-left n (storeUpTo k n T s) s (8 * k))
+    ∙ append-nil (answersUpTo k n T s)
+    ∙ ap (λ (i : ℕ). answersUpTo i n T s) (omega arith)
+answers-on (suc j) k n T s =
+    let done : List ℕ = answersUpTo k n T s in
+    let now : Store = storeUpTo k n T s in
     let c : Call = callAt s (8 * k) in
     ap (λ (l : List ℕ). done ++ l) (answers-left n now j s (8 * k))
     ∙ sym (append-assoc done (answer n now c) (answers n (afterCall n now c) (callsFrom j s (8 * k + 8))))
     ∙ ap (λ (i : ℕ). (done ++ answer n now c) ++ answers n (afterCall n now c) (callsFrom j s i)) (omega arith)
-    ∙ ap (λ (st : Store). (done ++ answer n now c) ++ answers n st (callsFrom j s (8 * suc k))) (sym (store-more k n s))
-    ∙ ap (λ (l : List ℕ). l ++ answers n (storeUpTo (suc k) n s) (callsFrom j s (8 * suc k))) (sym (answers-more k n s))
-    ∙ answers-on j (suc k) n s
-    ∙ ap (λ (i : ℕ). answersUpTo i n s) (omega arith)
+    ∙ ap (λ (st : Store). (done ++ answer n now c) ++ answers n st (callsFrom j s (8 * suc k))) (sym (store-more k n T s))
+    ∙ ap (λ (l : List ℕ). l ++ answers n (storeUpTo (suc k) n T s) (callsFrom j s (8 * suc k))) (sym (answers-more k n T s))
+    ∙ answers-on j (suc k) n T s
+    ∙ ap (λ (i : ℕ). answersUpTo i n T s) (omega arith)
 
 -- a number of each of the first k calls, added up, and then of j more
-abbrev ofCall : (ℕ → Store → Call → ℕ) → ℕ → List ℕ → ℕ → ℕ
-ofCall f n s k = f n (storeUpTo k n s) (callAt s (8 * k))
+abbrev ofCall : (ℕ → Store → Call → ℕ) → ℕ → Terms → List ℕ → ℕ → ℕ
+ofCall f n T s k = f n (storeUpTo k n T s) (callAt s (8 * k))
 
-total-on : (f : ℕ → Store → Call → ℕ) (j k n : ℕ) (s : List ℕ)
-    → sum k (ofCall f n s) + total f n (storeUpTo k n s) (callsFrom j s (8 * k)) ≡ sum (k + j) (ofCall f n s)
+total-on : (f : ℕ → Store → Call → ℕ) (j k n : ℕ) (T : Terms) (s : List ℕ)
+    → sum k (ofCall f n T s) + total f n (storeUpTo k n T s) (callsFrom j s (8 * k)) ≡ sum (k + j) (ofCall f n T s)
 unfolding total callsFrom
-total-on f zero k n s = let same : k ≡ k + 0 = omega arith in omega (arith, ap (λ (i : ℕ). sum i (ofCall f n s)) same)
-total-on f (suc j) k n s =
+total-on f zero k n T s = let same : k ≡ k + 0 = omega arith in omega (arith, ap (λ (i : ℕ). sum i (ofCall f n T s)) same)
+total-on f (suc j) k n T s =
     let next : 8 * k + 8 ≡ 8 * suc k = omega arith in
     let same : suc k + j ≡ k + suc j = omega arith in
-    let left : total f n (afterCall n (storeUpTo k n s) (callAt s (8 * k))) (callsFrom j s (8 * k + 8)) ≡ total f n (storeUpTo (suc k) n s) (callsFrom j s (8 * suc k)) =
-    rw (store-more k n s, next) refl in
-    omega (arith, left, sum-more k (ofCall f n s), total-on f j (suc k) n s, ap (λ (i : ℕ). sum i (ofCall f n s)) same)
+    let left : total f n (afterCall n (storeUpTo k n T s) (callAt s (8 * k))) (callsFrom j s (8 * k + 8)) ≡ total f n (storeUpTo (suc k) n T s) (callsFrom j s (8 * suc k)) =
+    rw (store-more k n T s, next) refl in
+    omega (arith, left, sum-more k (ofCall f n T s), total-on f j (suc k) n T s, ap (λ (i : ℕ). sum i (ofCall f n T s)) same)
 
 -- the first k calls are a list of calls, so what every list has, they have
-pub store-up-to : (k n : ℕ) (s : List ℕ) → storeUpTo k n s ≡ run n fresh (callsFrom k s 0)
+pub store-up-to : (k n : ℕ) (T : Terms) (s : List ℕ) → storeUpTo k n T s ≡ run n (fresh T) (callsFrom k s 0)
 unfolding storeUpTo
-store-up-to k n s = let z : k ≡ 0 + k = omega arith in ap (λ (i : ℕ). storeUpTo i n s) z ∙ sym (run-on k 0 n s)
+store-up-to k n T s = let z : k ≡ 0 + k = omega arith in ap (λ (i : ℕ). storeUpTo i n T s) z ∙ sym (run-on k 0 n T s)
 
-pub answers-up-to : (k n : ℕ) (s : List ℕ) → answersUpTo k n s ≡ answers n fresh (callsFrom k s 0)
+pub answers-up-to : (k n : ℕ) (T : Terms) (s : List ℕ) → answersUpTo k n T s ≡ answers n (fresh T) (callsFrom k s 0)
 unfolding storeUpTo answersUpTo
-answers-up-to k n s = let z : k ≡ 0 + k = omega arith in ap (λ (i : ℕ). answersUpTo i n s) z ∙ sym (answers-on k 0 n s)
+answers-up-to k n T s = let z : k ≡ 0 + k = omega arith in ap (λ (i : ℕ). answersUpTo i n T s) z ∙ sym (answers-on k 0 n T s)
 
-pub up-to-keeps : (k n : ℕ) → n ≤ 8 → (s : List ℕ) → StoreInv n (storeUpTo k n s .event) (storeUpTo k n s)
-up-to-keeps k n n≤8 s = rw store-up-to (every-run n n≤8 (callsFrom k s 0))
+pub up-to-keeps : (k n : ℕ) → n ≤ 8 → (T : Terms) (s : List ℕ) → StoreInv n T (storeUpTo k n T s .event) (storeUpTo k n T s)
+up-to-keeps k n n≤8 T s = rw store-up-to (every-run n n≤8 T (callsFrom k s 0))
 
-pub up-to-limits : (k n : ℕ) (s : List ℕ) → Limits (storeUpTo k n s)
-up-to-limits k n s = rw store-up-to (every-limits n (callsFrom k s 0))
+pub up-to-limits : (k n : ℕ) (T : Terms) (s : List ℕ) → Limits (storeUpTo k n T s)
+up-to-limits k n T s = rw store-up-to (every-limits n T (callsFrom k s 0))
 
-pub up-to-sizes : (k n : ℕ) → n ≤ 8 → (s : List ℕ) → Sizes (storeUpTo k n s)
-up-to-sizes k n n≤8 s = rw store-up-to (every-sizes n n≤8 (callsFrom k s 0))
+pub up-to-sizes : (k n : ℕ) → n ≤ 8 → (T : Terms) (s : List ℕ) → Sizes (storeUpTo k n T s)
+up-to-sizes k n n≤8 T s = rw store-up-to (every-sizes n n≤8 T (callsFrom k s 0))
 
 -- and all of them are the script's
-pub store-whole : (n : ℕ) (s : List ℕ) → storeUpTo (length s / 8) n s ≡ storeAfter n s
+pub store-whole : (n : ℕ) (openings s : List ℕ) → storeUpTo (length s / 8) n (termsOf openings) s ≡ storeAfter n openings s
 unfolding storeAfter callsOf
-store-whole n s = store-up-to (length s / 8) n s
+store-whole n openings s = store-up-to (length s / 8) n (termsOf openings) s
 
-pub answers-whole : (n : ℕ) (s : List ℕ) → answersUpTo (length s / 8) n s ≡ answers n fresh (callsOf s)
+pub answers-whole : (n : ℕ) (T : Terms) (s : List ℕ) → answersUpTo (length s / 8) n T s ≡ answers n (fresh T) (callsOf s)
 unfolding callsOf
-answers-whole n s = answers-up-to (length s / 8) n s
+answers-whole n T s = answers-up-to (length s / 8) n T s
 
-pub total-whole : (f : ℕ → Store → Call → ℕ) (n : ℕ) (s : List ℕ)
-    → sum (length s / 8) (λ k. f n (storeUpTo k n s) (callAt s (8 * k))) ≡ total f n fresh (callsOf s)
+pub total-whole : (f : ℕ → Store → Call → ℕ) (n : ℕ) (T : Terms) (s : List ℕ)
+    → sum (length s / 8) (λ k. f n (storeUpTo k n T s) (callAt s (8 * k))) ≡ total f n (fresh T) (callsOf s)
 unfolding callsOf storeUpTo
-total-whole f n s =
+total-whole f n T s =
     let z : length s / 8 ≡ 0 + length s / 8 = omega arith in
-    ap (λ (i : ℕ). sum i (ofCall f n s)) z ∙ sym (total-on f (length s / 8) 0 n s)
-    ∙ omega (arith, sum-none (ofCall f n s))
+    ap (λ (i : ℕ). sum i (ofCall f n T s)) z ∙ sym (total-on f (length s / 8) 0 n T s)
+    ∙ omega (arith, sum-none (ofCall f n T s))
 
 -- ---- lengths
 
@@ -162,24 +163,24 @@ answer-length n st c = go (eqb (refusal n st c) 0)
     go true = done-length n st c
     go false = refl
 
-pub answers-up-to-length : (k n : ℕ) (s : List ℕ) → length (answersUpTo k n s) ≡ 8 * k
+pub answers-up-to-length : (k n : ℕ) (T : Terms) (s : List ℕ) → length (answersUpTo k n T s) ≡ 8 * k
 unfolding answersUpTo
-answers-up-to-length zero n s = refl
-answers-up-to-length (suc k) n s =
-    length-append (answersUpTo k n s) (answer n (storeUpTo k n s) (callAt s (8 * k)))
-    ∙ omega (arith, answer-length n (storeUpTo k n s) (callAt s (8 * k)), answers-up-to-length k n s)
+answers-up-to-length zero n T s = refl
+answers-up-to-length (suc k) n T s =
+    length-append (answersUpTo k n T s) (answer n (storeUpTo k n T s) (callAt s (8 * k)))
+    ∙ omega (arith, answer-length n (storeUpTo k n T s) (callAt s (8 * k)), answers-up-to-length k n T s)
 
 -- byte j of the answer of call k, whatever stands behind the answers
-pub answer-at : (m n : ℕ) (s rest : List ℕ) (k : ℕ) → k < m → (j : ℕ) → j < 8
-    → getD (answersUpTo m n s ++ rest) (8 * k + j) 0 ≡ getD (answer n (storeUpTo k n s) (callAt s (8 * k))) j 0
+pub answer-at : (m n : ℕ) (T : Terms) (s rest : List ℕ) (k : ℕ) → k < m → (j : ℕ) → j < 8
+    → getD (answersUpTo m n T s ++ rest) (8 * k + j) 0 ≡ getD (answer n (storeUpTo k n T s) (callAt s (8 * k))) j 0
 unfolding answersUpTo
-answer-at zero n s rest k l j h = absurd (omega arith)
-answer-at (suc m) n s rest k l j h =
-    let a : List ℕ = answer n (storeUpTo m n s) (callAt s (8 * m)) in
-    ap (λ (x : List ℕ). getD x (8 * k + j) 0) (append-assoc (answersUpTo m n s) a rest)
+answer-at zero n T s rest k l j h = absurd (omega arith)
+answer-at (suc m) n T s rest k l j h =
+    let a : List ℕ = answer n (storeUpTo m n T s) (callAt s (8 * m)) in
+    ap (λ (x : List ℕ). getD x (8 * k + j) 0) (append-assoc (answersUpTo m n T s) a rest)
     ∙ lt-suc-elim k m l
-    (λ q. answer-at m n s (a ++ rest) k q j h)
+    (λ q. answer-at m n T s (a ++ rest) k q j h)
     (λ q. rw q
-    (ap (λ (i : ℕ). getD (answersUpTo m n s ++ (a ++ rest)) (i + j) 0) (sym (answers-up-to-length m n s))
-    ∙ getD-append-add (answersUpTo m n s) (a ++ rest) j 0
-    ∙ List·getD-append a rest 0 j (omega (arith, answer-length n (storeUpTo m n s) (callAt s (8 * m))))))
+    (ap (λ (i : ℕ). getD (answersUpTo m n T s ++ (a ++ rest)) (i + j) 0) (sym (answers-up-to-length m n T s))
+    ∙ getD-append-add (answersUpTo m n T s) (a ++ rest) j 0
+    ∙ List·getD-append a rest 0 j (omega (arith, answer-length n (storeUpTo m n T s) (callAt s (8 * m))))))

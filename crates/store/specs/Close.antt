@@ -10,7 +10,7 @@ use Rattle.store.specs.Calls.{get, close}
 use Rattle.store.specs.Rules.{Copy, copyRefusal, afterCopies, closeCopies, afterCall, answer}
 use Rattle.store.specs.Outstanding.{lacks, outstanding}
 
--- no site below n lacks a put; their cells agree in value, stamp and site; so a get of one object is answered the same at any two of them
+-- no site below n lacks a put; their cells are the same, in value, stamp and site or in the opening that they still hold; so a get of one object is answered the same at any two of them
 pub record AllAgree (n : ℕ) (st : Store) : Type 0 where
   pub none-lacking : (w t : ℕ) → w < st .count → t < n → lacks st t w ≡ false
   pub cells : (s t o : ℕ) → s < n → t < n → st .site s .cell o ≡ st .site t .cell o

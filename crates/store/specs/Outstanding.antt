@@ -8,6 +8,7 @@ use lib.ListN.{length}
 use Rattle.rows.specs.Count.{sum, howMany}
 use Rattle.rows.specs.Octets.{little}
 use Rattle.record.specs.Layout.{byte}
+use Rattle.record.specs.Terms.{Terms}
 use Rattle.store.specs.Store.{Store, fresh}
 use Rattle.store.specs.Calls.{Call}
 use Rattle.store.specs.Rules.{run, deliveries, copiesByCloses}
@@ -24,9 +25,9 @@ outstanding n st = sum n (λ t. howMany (st .count) (lacks st t))
 unfoldable pub puts : Store → ℕ
 puts st = howMany (st .count) (λ e. st .event e .isPut)
 
--- the store after these calls at n fresh sites: puts × (sites − 1) = done deliveries + copies delivered by closes + `left`
-abbrev pub AddsUp : ℕ → List Call → ℕ → Type 0
-AddsUp n cs left = puts (run n fresh cs) * (n - 1) ≡ (deliveries n fresh cs + copiesByCloses n fresh cs) + left
+-- the store after these calls at n fresh sites, on terms t: puts × (sites − 1) = done deliveries + copies delivered by closes + `left`
+abbrev pub AddsUp : ℕ → Terms → List Call → ℕ → Type 0
+AddsUp n t cs left = puts (run n (fresh t) cs) * (n - 1) ≡ (deliveries n (fresh t) cs + copiesByCloses n (fresh t) cs) + left
 
 -- ---- the same, by the bytes of a script and of its answers, 8 for each call
 

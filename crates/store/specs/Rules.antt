@@ -6,7 +6,7 @@ use lib.Dec.{leb, ltb, eqb}
 use lib.ListN.{replicate}
 use Rattle.record.specs.Questions.{ask}
 use Rattle.record.specs.Encode.{bit, littleBytes}
-use Rattle.consistency.specs.Reads.{Held, none, value}
+use Rattle.record.specs.Terms.{Held, none, value, valueOr0}
 use Rattle.store.specs.Store.{upd, full, cellValue, merge, Site, Event, Store}
 use Rattle.store.specs.Calls.{Call, put, get, deliver, close, malformed}
 
@@ -51,10 +51,6 @@ afterPut a s k o v = record {
 -- a site, kept as a, after its get, which became event k
 abbrev pub afterGet : Site → ℕ → Site
 afterGet a k = record { clock = suc (a .clock); held = a .held; known = upd (a .known) k true; cell = a .cell }
-
-abbrev pub valueOr0 : Held → ℕ
-valueOr0 none = 0
-valueOr0 (value v) = v
 
 -- a site, kept as a, after the delivery of the put w, whose event is e
 abbrev pub afterDelivery : Site → ℕ → Event → Site

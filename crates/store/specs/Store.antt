@@ -2,28 +2,28 @@
 use mathlib.Core.Bool.{Bool, false, cond, _&&_, _||_}
 use Prim.Native.Nat.{ℕ}
 use lib.Dec.{eqb, ltb}
-use Rattle.consistency.specs.Reads.{Held, none, value}
+use Rattle.record.specs.Terms.{Held, none, value, Terms}
 
 -- f with x at i
 abbrev pub upd : {A : Type 0} → (ℕ → A) → ℕ → A → ℕ → A
 upd f i x j = cond (eqb j i) x (f j)
 
--- a cell: none, or value, stamp and site
+-- a cell: the object's opening figure, or none, until a put comes; then value, stamp and site
 pub data Cell : Type 0 where
-  empty : Cell
+  untouched : Held → Cell
   full : (v stamp site : ℕ) → Cell
 
 abbrev pub cellValue : Cell → Held
-cellValue empty = none
+cellValue (untouched x) = x
 cellValue (full v stamp site) = value v
 
 -- (stamp, site) before (stamp′, site′), stamp compared first
 abbrev pub before : ℕ → ℕ → ℕ → ℕ → Bool
 before stamp site stamp′ site′ = ltb stamp stamp′ || (eqb stamp stamp′ && ltb site site′)
 
--- the cell keeps the larger of (stamp, site)
+-- the cell keeps the larger of (stamp, site); an opening loses to every put
 abbrev pub merge : Cell → ℕ → ℕ → ℕ → Cell
-merge empty v stamp site = full v stamp site
+merge (untouched x) v stamp site = full v stamp site
 merge (full v₀ stamp₀ site₀) v stamp site = cond (before stamp₀ site₀ stamp site) (full v stamp site) (full v₀ stamp₀ site₀)
 
 pub record Site : Type 0 where
@@ -52,12 +52,12 @@ pub record Store : Type 0 where
   pub event : ℕ → Event
   pub site : ℕ → Site
 
--- all start at 0, empty or none
-abbrev pub freshSite : Site
-freshSite = record { clock = 0; held = λ i. 0; known = λ e. false; cell = λ o. empty }
+-- all start at 0 or empty, and the cells with the openings
+abbrev pub freshSite : Terms → Site
+freshSite t = record { clock = 0; held = λ i. 0; known = λ e. false; cell = λ o. untouched (t .opening o) }
 
 abbrev pub noEvent : Event
 noEvent = record { site = 0; isPut = false; object = 0; shown = none; stamp = 0; sees = λ e. false; needs = λ i. 0 }
 
-abbrev pub fresh : Store
-fresh = record { count = 0; event = λ e. noEvent; site = λ s. freshSite }
+abbrev pub fresh : Terms → Store
+fresh t = record { count = 0; event = λ e. noEvent; site = λ s. freshSite t }

@@ -3,14 +3,16 @@ use reader::blocks;
 use record::Slot;
 use record::layout;
 ghost use mathlib.Core.Path.{_≡_};
+ghost use mathlib.Core.Bool.{true};
 ghost use mathlib.Core.List.{_∷_, _++_};
 ghost use Prim.Native.Nat.{_+_, _*_, _≤_, _<_};
 ghost use lib.ListN.{length, drop, replicate};
 ghost use lib.Seq.{sets};
 ghost use Rattle.rows.specs.Row.{has};
-ghost use Rattle.record.specs.Layout.{gcr1, slotAt};
+ghost use Rattle.record.specs.Layout.{gcr2, slotAt};
+ghost use Rattle.record.specs.Terms.{openingIn, openingsRight};
 ghost use Rattle.record.specs.History.{History};
-ghost use Rattle.record.specs.Encode.{littleBytes, bit, setBytes, slotBytes, headerBytes, sealed, SlotOf};
+ghost use Rattle.record.specs.Encode.{littleBytes, bit, setBytes, slotBytes, headerBytes, withTerms, sealed, SlotOf};
 
 fn put_u16(s: &mut [u8], at: usize, x: u16)
     requires { ⌜ at + 2 ≤ length (now s) ⌝ }
@@ -46,14 +48,22 @@ pub fn clear(s: &mut [u8], k: usize)
     }
 }
 
-// Block 0 of n events.
+// What every edition has in block 0, of n events.
 pub fn header(s: &mut [u8], n: usize, sites: u8)
     requires { ⌜ (512 ≤ length (now s)) × (n < 65536) ⌝ }
-    ensures { λ _. ⌜ now (s .exit) ≡ sets (now (s .entry)) 0 (headerBytes gcr1 n sites) ⌝ }
+    ensures { λ _. ⌜ now (s .exit) ≡ sets (now (s .entry)) 0 (headerBytes gcr2 n sites) ⌝ }
 {
-    bytes::copy(&layout::LETTERS, s);
+    bytes::copy(&layout::GCR2, s);
     put_u16(s, 4, n as u16);
     s[6] = sites;
+}
+
+// The openings, which stand in block 0 as they are lent.
+pub fn openings(s: &mut [u8], openings: &[u8])
+    requires { ⌜ (512 ≤ length (now s)) × (length (now openings) ≡ 132) × (openingsRight (now openings) 0 ≡ true) ⌝ }
+    ensures { λ _. ⌜ now (s .exit) ≡ withTerms gcr2 (record { opening = openingIn (now (openings .entry)) 0 }) (now (s .entry)) ⌝ }
+{
+    bytes::copy(openings, &mut s[12..144]);
 }
 
 // Bytes 0 to 7 of a slot: kind, site, object, state and value.
@@ -89,8 +99,8 @@ fn put_row(s: &mut [u8], at: usize, row: [u64; 4])
 
 // The slot of event e. Its bytes are written as eight words.
 pub fn put_slot(s: &mut [u8], e: usize, x: Slot)
-    requires { ⌜ slotAt gcr1 e + 64 ≤ length (now s) ⌝ }
-    ensures { λ _. ⌜ ((h : History) → SlotOf h e x → now (s .exit) ≡ sets (now (s .entry)) (slotAt gcr1 e) (slotBytes gcr1 h e)) ⌝ }
+    requires { ⌜ slotAt gcr2 e + 64 ≤ length (now s) ⌝ }
+    ensures { λ _. ⌜ ((h : History) → SlotOf h e x → now (s .exit) ≡ sets (now (s .entry)) (slotAt gcr2 e) (slotBytes gcr2 h e)) ⌝ }
 {
     let at = layout::slot_at(e);
     put_u64(s, at, first_word(x));

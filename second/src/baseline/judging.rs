@@ -120,7 +120,7 @@ impl Columns {
             while write.is_some_and(|write| !has(&seen, write as usize)) {
                 write = write.and_then(|write| before[write as usize]);
             }
-            let due = write.and_then(|write| self.value[write as usize]);
+            let due = write.map_or_else(|| self.openings.of(object), |write| self.value[write as usize]);
             let named = write.map_or(read, |write| write as usize);
             (self.value[read] != due).then_some((read, named))
         })

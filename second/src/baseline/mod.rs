@@ -4,6 +4,7 @@
 
 pub mod columns;
 pub mod judging;
+pub mod openings;
 pub mod reading;
 pub mod rehearsal;
 pub mod rows;

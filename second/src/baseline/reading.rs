@@ -1,5 +1,6 @@
 //! Questions 3 to 10 in one pass a question, visible sets kept as rows.
 
+use super::openings::{Openings, BYTES, NONE};
 use super::refused;
 use super::rows::*;
 
@@ -112,8 +113,26 @@ fn all_zero(bytes: &[u8]) -> bool {
 
 fn header(record: &[u8]) -> Option<usize> {
     let n = u16::from_le_bytes([record[4], record[5]]) as usize;
-    let right = record.starts_with(b"GCR1") && n <= 256 && matches!(record[6], 1..=8);
-    (right && all_zero(&record[7..508])).then_some(n)
+    let right = n <= 256 && matches!(record[6], 1..=8) && all_zero(&record[7..12]) && all_zero(&record[144..508]);
+    let openings = match &record[..4] {
+        b"GCR1" => all_zero(&record[12..144]),
+        b"GCR2" => !openings_at(record).has_value_under_clear_bit(),
+        _ => false,
+    };
+    (right && openings).then_some(n)
+}
+
+#[inline]
+fn openings_at(record: &[u8]) -> Openings {
+    Openings::new(record[12..].first_chunk::<BYTES>().expect("a block"))
+}
+
+/// Of a record that passes question 5.
+pub fn openings(record: &[u8]) -> Openings {
+    match record[3] {
+        b'1' => NONE,
+        _ => openings_at(record),
+    }
 }
 
 fn wrong_slot(record: &[u8], n: usize) -> Option<usize> {

@@ -1,12 +1,13 @@
 //! The store with rows and fixed arrays, its record written at the end.
 
+use super::openings::{self, Openings};
 use super::reading::{check, slot_at};
 use super::rows::*;
 
 #[derive(Clone, Copy)]
 struct Cell {
     value: u32,
-    /// Stamp times eight plus site; 0 where the cell is empty.
+    /// Stamp times eight plus site, so 8 or more; 1 where it has an opening, below every put, and 0 where it is empty.
     order: u32,
 }
 
@@ -29,7 +30,6 @@ struct Event {
 }
 
 const NO_EVENT: Event = Event { visible: EMPTY, needs: [0; 8], value: 0, order: 0, object: 0, found: false };
-const FRESH: Site = Site { clock: 0, held: [0; 8], known: EMPTY, cells: [Cell { value: 0, order: 0 }; 32] };
 
 /// The eight bytes of a close: its kind, and zeros.
 const CLOSE: u64 = 4;
@@ -42,7 +42,7 @@ struct Store {
     puts: Row,
 }
 
-pub fn rehearse(sites: u32, script: &[u8], record: &mut [u8], answers: &mut [u8]) -> u64 {
+pub fn rehearse(sites: u32, openings: &[u8], script: &[u8], record: &mut [u8], answers: &mut [u8]) -> u64 {
     if sites.wrapping_sub(1) >= 8 {
         return 20;
     }
@@ -55,17 +55,26 @@ pub fn rehearse(sites: u32, script: &[u8], record: &mut [u8], answers: &mut [u8]
     if answers.len() < script.len() {
         return 23;
     }
-    let mut store = Store { count: sites as usize, sites: [FRESH; 8], events: [NO_EVENT; ROWS], n: 0, puts: EMPTY };
-    let (calls, _) = script.as_chunks::<8>();
-    let (answers, _) = answers.as_chunks_mut::<8>();
-    for (call, answer) in calls.iter().zip(answers) {
-        *answer = store.call(u64::from_le_bytes(*call)).to_le_bytes();
-    }
-    let length = store.write(record);
+    let Some((openings, fresh)) = opened(openings) else { return 40 };
+    let mut store = Store { count: sites as usize, sites: [fresh; 8], events: [NO_EVENT; ROWS], n: 0, puts: EMPTY };
+    store.run(script, answers);
+    let length = store.write(openings, record);
     (length as u64) << 8 | (store.outstanding() as u64) << 24
 }
 
+/// The openings and a site that starts from them, or nothing where 40 refuses.
+fn opened(bytes: &[u8]) -> Option<(&[u8; openings::BYTES], Site)> {
+    let bytes: &[u8; openings::BYTES] = bytes.try_into().ok()?;
+    let openings = Openings::new(bytes);
+    (!openings.has_value_under_clear_bit()).then(|| (bytes, Site::fresh(&openings)))
+}
+
 impl Site {
+    fn fresh(openings: &Openings) -> Site {
+        let cell = |object| Cell { value: openings.figures[object], order: openings.bit(object) };
+        Site { clock: 0, held: [0; 8], known: EMPTY, cells: std::array::from_fn(cell) }
+    }
+
     #[inline]
     fn hold(&mut self, w: usize, put: &Event) {
         self.clock = self.clock.max(put.order / 8);
@@ -80,6 +89,16 @@ impl Site {
 }
 
 impl Store {
+    /// By itself, so that what a caller keeps beside it takes no registers.
+    #[inline(never)]
+    fn run(&mut self, script: &[u8], answers: &mut [u8]) {
+        let (calls, _) = script.as_chunks::<8>();
+        let (answers, _) = answers.as_chunks_mut::<8>();
+        for (call, answer) in calls.iter().zip(answers) {
+            *answer = self.call(u64::from_le_bytes(*call)).to_le_bytes();
+        }
+    }
+
     fn call(&mut self, call: u64) -> u64 {
         let (kind, site, object) = (call as u8, (call >> 8) as u8 as usize, (call >> 16) as u8);
         let (zero, tail) = ((call >> 24) as u8, (call >> 32) as u32);
@@ -183,13 +202,14 @@ impl Store {
         positions
     }
 
-    fn write(&self, record: &mut [u8]) -> usize {
+    fn write(&self, openings: &[u8; openings::BYTES], record: &mut [u8]) -> usize {
         let length = 512 * (1 + self.n.div_ceil(7));
         let record = &mut record[..length];
         record.fill(0);
-        record[..4].copy_from_slice(b"GCR1");
+        record[..4].copy_from_slice(b"GCR2");
         record[4..6].copy_from_slice(&(self.n as u16).to_le_bytes());
         record[6] = self.count as u8;
+        record[12..12 + openings::BYTES].copy_from_slice(openings);
         let positions = self.positions();
         for number in 0..self.n {
             let slot = record[slot_at(number)..].first_chunk_mut().expect("block there");

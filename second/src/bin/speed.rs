@@ -2,27 +2,30 @@
 
 use second::baseline::columns::Columns;
 use second::baseline::{judging, reading, rehearsal};
-use second::generate::scripts;
+use second::generate::{scripts, sweeps};
+use second::openings::Openings;
 use second::record::{Event, Record};
 use second::samples::in_turn;
-use second::store::run_script;
+use second::store::Store;
 use std::hint::black_box;
 use std::time::{Duration, Instant};
 
 fn main() {
     let one_site = in_turn(256).to_bytes();
     let script = scripts::full_day(1, 8);
-    let rehearsed = run_script(8, &script, &mut vec![0; script.len()]).record().to_bytes();
+    let (none, all) = (Openings::none(), sweeps::figures(|_| true));
+    let [rehearsed, opened] = [none, all].map(|openings| after(openings, &script).to_bytes());
     let ring = whole_ring().to_bytes();
     for (name, record) in [("one site, dense", &one_site), ("rehearsed", &rehearsed), ("ring of 256", &ring)] {
         report(&format!("read: {name}"), reading(record));
     }
-    for (name, record) in [("one site, dense", &one_site), ("rehearsed", &rehearsed)] {
+    for (name, record) in [("one site, dense", &one_site), ("rehearsed", &rehearsed), ("with openings", &opened)] {
         report(&format!("read and judge all thirteen: {name}"), judging(record));
         report(&format!("host call, model 4: {name}"), hosting(record));
     }
-    report("rehearse 4,096 calls, 256 events, 8 sites", rehearsing(&script));
-    report("rehearse such a day with closes", rehearsing(&scripts::day_with_closes(1, 8)));
+    report("rehearse 4,096 calls, 256 events, 8 sites", rehearsing(none, &script));
+    report("rehearse them with openings", rehearsing(all, &script));
+    report("rehearse such a day with closes", rehearsing(none, &scripts::day_with_closes(1, 8)));
 }
 
 fn report(name: &str, best: Duration) {
@@ -61,11 +64,19 @@ fn hosting(record: &[u8]) -> Duration {
     })
 }
 
-fn rehearsing(script: &[u8]) -> Duration {
+fn rehearsing(openings: Openings, script: &[u8]) -> Duration {
     let (mut record, mut answers) = (vec![0; 19_456], vec![0; script.len()]);
+    let openings = openings.to_bytes();
     best_of(|| {
-        black_box(rehearsal::rehearse(8, black_box(script), &mut record, &mut answers));
+        black_box(rehearsal::rehearse(8, black_box(&openings), black_box(script), &mut record, &mut answers));
     })
+}
+
+/// What the script leaves.
+fn after(openings: Openings, script: &[u8]) -> Record {
+    let mut store = Store::opened(8, openings);
+    store.run(script, &mut vec![0; script.len()]);
+    store.record()
 }
 
 /// Every event sees the next, the last the first.

@@ -50,7 +50,7 @@ fn list() {
 
 fn script_answer(input: &[u8]) -> String {
     let output = lines::rehearsal(input);
-    match output.starts_with(b"GCR1") {
+    match output.starts_with(b"GCR2") {
         true => {
             format!("a record of {} bytes; {}", output.len(), lines::verdict(&output).trim_end().replace('\n', "; "))
         }

@@ -1,11 +1,12 @@
 //! The sorts of answers that an input can get, and counting those that it gets.
 
 use super::copies::{calls_answered, Copies};
+use super::opened;
 use super::tally::Tally;
-use crate::models::{first_broken, MODELS};
+use crate::models::{first_broken, Answers, MODELS};
 use crate::predicates::{Answer, PREDICATES};
 use crate::questions::Refusal;
-use crate::record::{u32_at, MOST_EVENTS, MOST_SITES};
+use crate::record::{u32_at, Record, MOST_EVENTS, MOST_SITES};
 
 pub const PASSED: &str = "passed";
 pub const NO_WORK: &str = "work slice too short";
@@ -51,6 +52,23 @@ pub fn reading(refusal: Option<Refusal>, tally: &mut Tally) {
         Some(Refusal { number: 1, .. }) => tally.occurred(NO_WORK, 1),
         Some(Refusal { number, place: 0 }) => tally.occurred(AT_PLACE_0, number),
         Some(Refusal { number, .. }) => tally.occurred(ABOVE_PLACE_0, number),
+    }
+}
+
+/// A reading of a record, with its edition.
+pub fn record(bytes: &[u8], refusal: Option<Refusal>, tally: &mut Tally) {
+    reading(refusal, tally);
+    opened::edition(bytes, refusal, tally);
+}
+
+/// A reading and what was found of the predicates, with what the record's reads hold.
+pub fn judged(bytes: &[u8], answers: &Answers, tally: &mut Tally) {
+    record(bytes, answers.as_ref().err().copied(), tally);
+    if let Ok(answers) = answers {
+        predicates(answers, tally);
+        let record = Record::from_bytes(bytes);
+        opened::reads(&record, tally);
+        opened::read_broken(&record, answers[0], tally);
     }
 }
 

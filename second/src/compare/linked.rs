@@ -42,14 +42,24 @@ impl Judge for Linked {
 }
 
 impl Rehearser for Linked {
-    fn rehearse(&self, sites: u32, script: &[u8], record: &mut [u8], answers: &mut [u8]) -> u64 {
+    fn rehearse(&self, sites: u32, openings: &[u8], script: &[u8], record: &mut [u8], answers: &mut [u8]) -> u64 {
         extern "C" {
-            // Site count, then script, record and answers, each with its length.
-            fn gcr_rehearse(_: u32, _: *const u8, _: usize, _: *mut u8, _: usize, _: *mut u8, _: usize) -> u64;
+            fn gcr_rehearse(
+                sites: u32,
+                openings: *const u8,
+                openings_len: usize,
+                script: *const u8,
+                script_len: usize,
+                record: *mut u8,
+                record_len: usize,
+                answers: *mut u8,
+                answers_len: usize,
+            ) -> u64;
         }
+        let (opened, opened_len) = (openings.as_ptr(), openings.len());
         let (to, to_len) = (record.as_mut_ptr(), record.len());
         let (back, back_len) = (answers.as_mut_ptr(), answers.len());
         // SAFETY: every pointer comes from a slice of the length given.
-        unsafe { gcr_rehearse(sites, script.as_ptr(), script.len(), to, to_len, back, back_len) }
+        unsafe { gcr_rehearse(sites, opened, opened_len, script.as_ptr(), script.len(), to, to_len, back, back_len) }
     }
 }

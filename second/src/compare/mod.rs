@@ -7,6 +7,7 @@ pub mod linked;
 pub mod models;
 pub mod must_occur;
 pub mod occurrences;
+pub mod opened;
 pub mod programs;
 pub mod reader;
 pub mod rehearsal;

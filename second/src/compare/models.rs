@@ -3,7 +3,7 @@
 use super::subject::Judge;
 use super::tally::{Case, Tally};
 use super::{answered, must_occur, Seeds};
-use crate::generate::{self, Sample};
+use crate::generate::{self, sweeps, Sample};
 use crate::models::{answers, packed, packed_all, packed_predicate, Answers};
 use crate::samples;
 
@@ -17,9 +17,14 @@ pub const LENT_WORD: u64 = u64::MAX;
 
 pub fn compare(subject: &dyn Judge, seeds: &Seeds, tally: &mut Tally) {
     tally.occurrences.must(must_occur::MODELS);
+    tally.occurrences.must(must_occur::EDITIONS);
+    tally.occurrences.must(must_occur::READS);
     one_record(subject, "models-empty".to_string(), &[], tally);
     for sample in samples::records() {
         one_record(subject, format!("models-{}", sample.name), &sample.bytes, tally);
+    }
+    for (name, bytes) in sweeps::block_0() {
+        one_record(subject, format!("models-{name}"), &bytes, tally);
     }
     seeds.each(tally, |seed, tally| {
         let Sample { family, bytes } = generate::record(seed);
@@ -28,10 +33,9 @@ pub fn compare(subject: &dyn Judge, seeds: &Seeds, tally: &mut Tally) {
 }
 
 /// Once a record, though many calls are made of it.
-fn count(answers: &Answers, tally: &mut Tally) {
-    answered::reading(answers.as_ref().err().copied(), tally);
+fn count(bytes: &[u8], answers: &Answers, tally: &mut Tally) {
+    answered::judged(bytes, answers, tally);
     if let Ok(answers) = answers {
-        answered::predicates(answers, tally);
         answered::models(answers, tally);
     }
 }
@@ -40,7 +44,7 @@ fn one_record(subject: &dyn Judge, name: String, bytes: &[u8], tally: &mut Tally
     let case = Case { name, input: bytes };
     let given = bytes.to_vec();
     let answers = answers(bytes);
-    count(&answers, tally);
+    count(bytes, &answers, tally);
     for number in NUMBERS {
         let (model, predicate) = (packed(number, &answers), packed_predicate(number, &answers));
         answered::number_given(number, tally);

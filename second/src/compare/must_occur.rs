@@ -2,6 +2,7 @@
 
 use super::answered::*;
 use super::occurrences::Row;
+use super::opened::*;
 
 /// The numbers of predicates, and of models.
 const THIRTEEN: &[u32] = &[1, 2, 3, 4, 5, 6, 7, 8, 9, 10, 11, 12, 13];
@@ -9,6 +10,43 @@ const THIRTEEN: &[u32] = &[1, 2, 3, 4, 5, 6, 7, 8, 9, 10, 11, 12, 13];
 /// The questions of a record, and those that name a block, slot or event.
 const QUESTIONS: &[u32] = &[3, 4, 5, 6, 7, 8, 9, 10];
 const PLACED: &[u32] = &[4, 7, 8, 9, 10];
+
+/// The parts of block 0 that 5 asks about, by their first bytes. Byte 3 has the edition.
+const PARTS: &[u32] = &[0, 1, 2, 4, 6, 7, 8, 12, 144, 148];
+
+/// Objects as they are told: any below 31, the last with an opening, the first without one, and the last.
+const OPENABLE: &[u32] = &[0, 31];
+const ANY_OBJECT: &[u32] = &[0, 31, 32, 255];
+
+/// Of every record that is read.
+pub const EDITIONS: &[Row] = &[
+    (GCR1, &[0, 3, 4, 5, 6, 7, 8, 9, 10]),
+    (GCR2, &[0, 3, 4, 5, 6, 7, 8, 9, 10]),
+    (NO_EDITION, &[3, 4, 5]),
+    (WRONG_IN_GCR1, PARTS),
+    (WRONG_IN_GCR2, PARTS),
+    (WRONG_IN_NEITHER, &[3]),
+    (NO_OPENINGS, &[0]),
+    (SOME_OPENINGS, &[0]),
+    (ALL_OPENINGS, &[0]),
+];
+
+/// Of every record that is judged: what RVal meets.
+pub const READS: &[Row] = &[
+    (HOLDS_OPENING, OPENABLE),
+    (HOLDS_OPENING_0, OPENABLE),
+    (NONE_FOR_OPENING, OPENABLE),
+    (NONE_FOR_OPENING_0, OPENABLE),
+    (OTHER_FOR_OPENING, OPENABLE),
+    (HOLDS_NONE, ANY_OBJECT),
+    (ZERO_FOR_NONE, ANY_OBJECT),
+    (OTHER_FOR_NONE, ANY_OBJECT),
+    (WRITE_OVER_OPENING, OPENABLE),
+    (OPENING_OVER_WRITE, OPENABLE),
+    (BREAK_AT_OPENING, &[1]),
+    (BREAK_AT_NONE, &[1]),
+    (BREAK_AT_WRITE, &[1]),
+];
 
 /// The program lends its own work slice, and nobody gives it a number.
 pub const INSPECT: &[Row] = &[(PASSED, &[0]), (AT_PLACE_0, QUESTIONS), (ABOVE_PLACE_0, PLACED)];
@@ -40,12 +78,16 @@ pub const MODELS: &[Row] = &[
     (MODEL_BROKEN[3], &[5]),
 ];
 
-/// What a rehearsal is refused by. The program lends its own buffers, so 22 and 23 cannot occur.
-pub const REHEARSE: &[Row] = &[(REHEARSED, &[0, 20, 21])];
+/// What a rehearsal is refused by. The program lends its own buffers and has always 132 bytes of openings, so 22 and 23
+/// cannot occur, and 40 only by a value. Where the openings are cut short there is no script for 21.
+pub const REHEARSE: &[Row] =
+    &[(REHEARSED, &[0, 20, 21, 40]), (UNDER_CLEAR_BIT, &[20, 21, 40]), (CUT_SHORT, &[0, 20, 40])];
 
 /// The call also tells the copies outstanding, which the program does not.
 pub const REHEARSAL: &[Row] = &[
-    (REHEARSED, &[0, 20, 21, 22, 23]),
+    (REHEARSED, &[0, 20, 21, 22, 23, 40]),
+    (WRONG_LENGTH, &[20, 21, 22, 23, 40]),
+    (UNDER_CLEAR_BIT, &[20, 21, 22, 23, 40]),
     (NO_EVENT, &[0]),
     (GETS_ALONE, &[0]),
     (ONE_SITE, &[0]),
@@ -56,6 +98,17 @@ pub const REHEARSAL: &[Row] = &[
     (AFTER_DELIVERIES, &[0]),
     (AFTER_CLOSES, &[0]),
     (AFTER_BOTH, &[0]),
+];
+
+/// The openings of a rehearsal that ran, and what its reads hold, all of them rightly.
+pub const STORE_OPENINGS: &[Row] = &[
+    (NO_OPENINGS, &[0]),
+    (SOME_OPENINGS, &[0]),
+    (ALL_OPENINGS, &[0]),
+    (HOLDS_OPENING, OPENABLE),
+    (HOLDS_OPENING_0, OPENABLE),
+    (HOLDS_NONE, OPENABLE),
+    (WRITE_OVER_OPENING, OPENABLE),
 ];
 
 /// What the calls of its scripts are answered.

@@ -1,10 +1,12 @@
 //! The programs: what they write for an input on standard input.
 
 use super::tally::{Case, Tally};
-use super::{answered, must_occur, Seeds};
-use crate::generate::{self, scripts, Sample};
+use super::{answered, must_occur, opened, Seeds};
+use crate::generate::{self, scripts, sweeps, Sample};
+use crate::lines::RehearsalInput;
 use crate::models::answers;
 use crate::questions::ask;
+use crate::record::Record;
 use crate::{lines, samples};
 use std::io::{self, Read, Write};
 use std::path::Path;
@@ -23,16 +25,20 @@ const LENGTHS: [usize; 7] = [0, 1, 511, 512, 19_456, 19_968, 200_000];
 
 pub fn inspect(program: &Path, seeds: &Seeds, tally: &mut Tally) {
     tally.occurrences.must(must_occur::INSPECT);
+    tally.occurrences.must(must_occur::EDITIONS);
     records(program, inspect_due, seeds, tally);
 }
 
 pub fn verdict(program: &Path, seeds: &Seeds, tally: &mut Tally) {
     tally.occurrences.must(must_occur::VERDICT);
+    tally.occurrences.must(must_occur::EDITIONS);
+    tally.occurrences.must(must_occur::READS);
     records(program, verdict_due, seeds, tally);
 }
 
 pub fn rehearse(program: &Path, seeds: &Seeds, tally: &mut Tally) {
     tally.occurrences.must(must_occur::REHEARSE);
+    tally.occurrences.must(must_occur::STORE_OPENINGS);
     tally.occurrences.must(must_occur::CALLS);
     one(program, rehearse_due, "empty".to_string(), &[], tally);
     for sites in 0..=10 {
@@ -40,31 +46,45 @@ pub fn rehearse(program: &Path, seeds: &Seeds, tally: &mut Tally) {
         let long = vec![sites; 200_001];
         one(program, rehearse_due, format!("long-{sites}"), &long, tally);
     }
+    for (name, input) in sweeps::program_inputs() {
+        one(program, rehearse_due, name, &input, tally);
+    }
     seeds.each(tally, |seed, tally| {
-        let input = super::rehearsal::program_input(&scripts::rehearsal(seed));
-        one(program, rehearse_due, seed.to_string(), &input, tally);
+        one(program, rehearse_due, seed.to_string(), &scripts::program_input(seed), tally);
     });
 }
 
 fn inspect_due(bytes: &[u8], tally: &mut Tally) -> Vec<u8> {
     let refusal = ask(bytes).err();
-    answered::reading(refusal, tally);
+    answered::record(bytes, refusal, tally);
     lines::inspect_line(refusal).into_bytes()
 }
 
 fn verdict_due(bytes: &[u8], tally: &mut Tally) -> Vec<u8> {
     let answers = answers(bytes);
-    answered::reading(answers.as_ref().err().copied(), tally);
-    answered::predicates(answers.as_deref().unwrap_or_default(), tally);
+    answered::judged(bytes, &answers, tally);
     lines::verdict_lines(&answers).into_bytes()
 }
 
-fn rehearse_due(input: &[u8], tally: &mut Tally) -> Vec<u8> {
-    let (sites, script) = lines::sites_and_script(input);
-    let mut answers = vec![0; script.len()];
-    let (number, output) = lines::rehearsal_output(sites, script, &mut answers);
-    answered::rehearsal(number, script, &answers, tally);
+/// What `rehearse` should write.
+pub fn rehearse_due(input: &[u8], tally: &mut Tally) -> Vec<u8> {
+    let read = RehearsalInput::read(input);
+    let mut answers = vec![0; read.script.len()];
+    let (number, output) = lines::rehearsal_output(&read, &mut answers);
+    count_rehearsal(input, &read, number, &answers, tally);
+    if number == 0 {
+        opened::reads(&Record::from_bytes(&output), tally);
+    }
     output
+}
+
+fn count_rehearsal(input: &[u8], read: &RehearsalInput, number: u32, answers: &[u8], tally: &mut Tally) {
+    answered::rehearsal(number, read.script, answers, tally);
+    if input.len() <= read.openings.len() {
+        opened::cut_short(number, tally);
+    } else {
+        opened::openings_given(number, &read.openings, tally);
+    }
 }
 
 fn records(program: &Path, due: Due, seeds: &Seeds, tally: &mut Tally) {
@@ -73,6 +93,9 @@ fn records(program: &Path, due: Due, seeds: &Seeds, tally: &mut Tally) {
     }
     for sample in samples::records() {
         one(program, due, sample.name, &sample.bytes, tally);
+    }
+    for (name, bytes) in sweeps::block_0_of_programs() {
+        one(program, due, name, &bytes, tally);
     }
     seeds.each(tally, |seed, tally| {
         let Sample { family, bytes } = generate::record(seed);

@@ -2,10 +2,11 @@
 
 use super::subject::Reader;
 use super::tally::{Case, Tally};
-use super::{answered, must_occur, Seeds};
+use super::{answered, must_occur, opened, Seeds};
 use crate::generate::random::Random;
-use crate::generate::{self, Sample};
+use crate::generate::{self, sweeps, Sample};
 use crate::models::refusal_in;
+use crate::questions::ask;
 use crate::record::seal;
 use crate::samples;
 
@@ -14,13 +15,18 @@ const RECORD_LENGTHS: [usize; 12] = [0, 1, 511, 512, 513, 1_024, 19_455, 19_456,
 
 pub fn compare(subject: &dyn Reader, seeds: &Seeds, tally: &mut Tally) {
     tally.occurrences.must(must_occur::READER);
+    tally.occurrences.must(must_occur::EDITIONS);
     lengths(subject, tally);
     for sample in samples::records() {
         let case = Case { name: format!("reader-{}", sample.name), input: &sample.bytes };
         one_record(subject, 0, &case, tally);
     }
+    for (name, bytes) in sweeps::block_0() {
+        one_record(subject, 0, &Case { name: format!("reader-{name}"), input: &bytes }, tally);
+    }
     seeds.each(tally, |seed, tally| {
         let Sample { family, bytes } = generate::record(seed);
+        opened::edition(&bytes, ask(&bytes).err(), tally);
         let case = Case { name: format!("reader-{seed}-{family}"), input: &bytes };
         one_record(subject, seed, &case, tally);
     });

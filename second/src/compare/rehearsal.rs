@@ -4,42 +4,40 @@
 use super::copies::Copies;
 use super::subject::Rehearser;
 use super::tally::{Case, Tally};
-use super::{answered, must_occur, Seeds};
+use super::{answered, must_occur, opened, Seeds};
 use crate::generate::random::Random;
-use crate::generate::scripts::{self, Rehearsal};
+use crate::generate::scripts::{self, as_read, Rehearsal};
+use crate::generate::sweeps;
 use crate::predicates::{Answer, Judged};
 use crate::questions::ask;
+use crate::record::Record;
 use crate::store::{rehearse, Outcome};
 
 pub fn compare(subject: &dyn Rehearser, seeds: &Seeds, tally: &mut Tally) {
     tally.occurrences.must(must_occur::REHEARSAL);
+    tally.occurrences.must(must_occur::STORE_OPENINGS);
     tally.occurrences.must(must_occur::CALLS);
+    for (name, rehearsal) in sweeps::rehearsals() {
+        one(subject, 0, &rehearsal, format!("rehearsal-{name}"), tally);
+    }
     seeds.each(tally, |seed, tally| {
-        let rehearsal = scripts::rehearsal(seed);
-        let input = program_input(&rehearsal);
-        let case = Case { name: format!("rehearsal-{seed}"), input: &input };
-        one(subject, seed, &rehearsal, &case, tally);
+        one(subject, seed, &scripts::rehearsal(seed), format!("rehearsal-{seed}"), tally);
     });
 }
 
-/// As the program `rehearse` takes it; a site count over 255 becomes 255.
-pub fn program_input(rehearsal: &Rehearsal) -> Vec<u8> {
-    let mut input = vec![rehearsal.sites.min(255) as u8];
-    input.extend(&rehearsal.script);
-    input
-}
-
-fn one(subject: &dyn Rehearser, seed: u64, given: &Rehearsal, case: &Case, tally: &mut Tally) {
+fn one(subject: &dyn Rehearser, seed: u64, given: &Rehearsal, name: String, tally: &mut Tally) {
+    let case = &Case { name, input: &as_read(given) };
     let mut random = Random::new(seed);
     let mut record = random.noise(given.record_bytes);
     let mut answers = random.noise(given.answer_bytes);
     let (mut due_record, mut due_answers) = (record.clone(), answers.clone());
-    let due = rehearse(given.sites, &given.script, &mut due_record, &mut due_answers);
-    count_occurrences(given, &due, &due_answers, tally);
-    let script = given.script.clone();
-    let result = Outcome::unpacked(subject.rehearse(given.sites, &script, &mut record, &mut answers));
+    let due = rehearse(given.sites, &given.openings, &given.script, &mut due_record, &mut due_answers);
+    count_occurrences(given, &due, &due_record, &due_answers, tally);
+    let (openings, script) = (given.openings.clone(), given.script.clone());
+    let result = Outcome::unpacked(subject.rehearse(given.sites, &openings, &script, &mut record, &mut answers));
     tally.same_bytes(case, "record buffer", &due_record, &record);
     tally.same_bytes(case, "answer buffer", &due_answers, &answers);
+    tally.same_bytes(case, "openings afterwards", &given.openings, &openings);
     tally.same_bytes(case, "script afterwards", &given.script, &script);
     tally.equal(case, "result", &due, &result);
     copies_add_up(given, &result, &answers, case, tally);
@@ -48,10 +46,12 @@ fn one(subject: &dyn Rehearser, seed: u64, given: &Rehearsal, case: &Case, tally
     }
 }
 
-/// Counts what the second checker answers, and what became of the copies.
-pub fn count_occurrences(given: &Rehearsal, due: &Outcome, answers: &[u8], tally: &mut Tally) {
+/// Counts what the second checker answers, what its reads hold, and what became of the copies.
+pub fn count_occurrences(given: &Rehearsal, due: &Outcome, record: &[u8], answers: &[u8], tally: &mut Tally) {
     answered::rehearsal(due.number, &given.script, answers, tally);
+    opened::openings_given(due.number, &given.openings, tally);
     if due.number == 0 {
+        opened::reads(&Record::from_bytes(record), tally);
         answered::copies(&Copies::of(given.sites, &given.script, answers, due.outstanding), tally);
     }
 }

@@ -13,7 +13,7 @@ pub trait Judge {
 }
 
 pub trait Rehearser {
-    fn rehearse(&self, sites: u32, script: &[u8], record: &mut [u8], answers: &mut [u8]) -> u64;
+    fn rehearse(&self, sites: u32, openings: &[u8], script: &[u8], record: &mut [u8], answers: &mut [u8]) -> u64;
 }
 
 /// The second checker as its own subject, to try the comparers out.
@@ -43,8 +43,8 @@ impl Judge for Itself {
 }
 
 impl Rehearser for Itself {
-    fn rehearse(&self, sites: u32, script: &[u8], record: &mut [u8], answers: &mut [u8]) -> u64 {
-        store::rehearse(sites, script, record, answers).packed()
+    fn rehearse(&self, sites: u32, openings: &[u8], script: &[u8], record: &mut [u8], answers: &mut [u8]) -> u64 {
+        store::rehearse(sites, openings, script, record, answers).packed()
     }
 }
 
@@ -69,7 +69,7 @@ impl Judge for Baseline {
 }
 
 impl Rehearser for Baseline {
-    fn rehearse(&self, sites: u32, script: &[u8], record: &mut [u8], answers: &mut [u8]) -> u64 {
-        baseline::rehearsal::rehearse(sites, script, record, answers)
+    fn rehearse(&self, sites: u32, openings: &[u8], script: &[u8], record: &mut [u8], answers: &mut [u8]) -> u64 {
+        baseline::rehearsal::rehearse(sites, openings, script, record, answers)
     }
 }

@@ -2,13 +2,15 @@
 
 use super::random::Random;
 use super::shapes::make_pending;
-use crate::record::{Event, Kind, Record};
+use crate::openings::Openings;
+use crate::record::{Edition, Event, Kind, Record};
 
 pub fn one_field(random: &mut Random, record: &mut Record) {
-    match random.below(12) {
+    match random.below(14) {
         0..=2 => visible_bit(random, record),
         3..=4 => swap_positions(random, record),
         5..=6 => read_value(random, record),
+        7..=8 => record.edition = changed_edition(random, record.edition),
         _ => {
             let (n, sites) = (record.events.len(), record.sites as u64);
             let others: Vec<Event> = record.events.clone();
@@ -30,10 +32,31 @@ fn visible_bit(random: &mut Random, record: &mut Record) {
 /// RVal stands last in every model, so its edge needs a share of its own.
 fn read_value(random: &mut Random, record: &mut Record) {
     let held = |event: &&mut Event| event.is_read() && !event.pending;
+    let openings = record.edition.openings();
     let mut reads: Vec<&mut Event> = record.events.iter_mut().filter(held).collect();
     if !reads.is_empty() {
         let at = random.index(reads.len());
-        reads[at].value = value(random, reads[at]);
+        let opening = openings.of(reads[at].object as usize);
+        let of_opening = opening != reads[at].value && random.chance(50);
+        reads[at].value = if of_opening { opening } else { value(random, reads[at]) };
+    }
+}
+
+/// One opening more or less, or another figure; now and then the other edition.
+fn changed_edition(random: &mut Random, edition: Edition) -> Edition {
+    match edition {
+        Edition::Gcr1 => Edition::Gcr2(changed_opening(random, Openings::none())),
+        Edition::Gcr2(_) if random.chance(20) => Edition::Gcr1,
+        Edition::Gcr2(openings) => Edition::Gcr2(changed_opening(random, openings)),
+    }
+}
+
+fn changed_opening(random: &mut Random, openings: Openings) -> Openings {
+    let object = random.pick(&[0, 0, 1, 2, 31, 31]);
+    match openings.of(object) {
+        None => openings.with(object, random.below(2) as u32),
+        Some(_) if random.chance(50) => openings.without(object),
+        Some(figure) => openings.with(object, figure ^ 1 << random.pick(&[0, 8, 31])),
     }
 }
 
@@ -48,7 +71,7 @@ fn swap_positions(random: &mut Random, record: &mut Record) {
 fn field(random: &mut Random, event: &mut Event, sites: u64, others: &[Event]) {
     match random.below(8) {
         0 => event.site = random.below(sites) as u8,
-        1 => event.object = random.below(3) as u8,
+        1 => event.object = random.pick(&[0, 1, 2, 31, 32, 255]),
         2 => event.value = value(random, event),
         3 => turn_kind(event),
         4 => turn_state(event),
@@ -61,6 +84,7 @@ fn field(random: &mut Random, event: &mut Event, sites: u64, others: &[Event]) {
 fn value(random: &mut Random, event: &Event) -> Option<u32> {
     match event.value {
         Some(0) if event.is_read() => None,
+        Some(_) if event.is_read() && random.chance(30) => None,
         None => Some(random.below(2) as u32),
         Some(value) => Some(value ^ 1 << random.pick(&[0, 1, 31])),
     }

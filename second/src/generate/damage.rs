@@ -1,5 +1,6 @@
 //! Damage that reaches each refusal, sealed again where the question lies deeper.
 
+use super::openings;
 use super::random::Random;
 use crate::record::*;
 use Damage::{Bytes, Length};
@@ -11,13 +12,16 @@ enum Damage {
     Bytes(fn(&mut Random, &mut [u8])),
 }
 
-/// Those of late questions stand here more than once: earlier damage hides theirs.
-const DAMAGES: [Damage; 19] = [
+/// Those of late questions stand here more than once, as earlier damage hides theirs, and so does length, which may
+/// leave no letters.
+const DAMAGES: [Damage; 21] = [
+    Length(length),
     Length(length),
     Bytes(block_check),
     Bytes(checks_out_of_range),
     Bytes(swapped_blocks),
-    Bytes(header),
+    Bytes(block_0),
+    Bytes(letters),
     Bytes(header_numbers),
     Length(block_count),
     Bytes(slot_field),
@@ -49,7 +53,7 @@ pub fn any_bit(random: &mut Random, bytes: &mut [u8]) {
 }
 
 fn length(random: &mut Random, bytes: &mut Vec<u8>) {
-    let lengths = [0, 1, 511, 512, 513, 1_023, 1_024, 19_455, 19_456, 19_457, 19_968, 20_480, 40_000];
+    let lengths = [0, 0, 1, 2, 3, 3, 511, 512, 513, 1_023, 1_024, 19_455, 19_456, 19_457, 19_968, 20_480, 40_000];
     let by_one = [bytes.len() + 1, bytes.len().saturating_sub(1), bytes.len() + 512];
     let length = if random.chance(50) { random.pick(&lengths) } else { random.pick(&by_one) };
     bytes.resize(length, 0);
@@ -91,11 +95,45 @@ fn swapped_blocks(random: &mut Random, bytes: &mut [u8]) {
     }
 }
 
-fn header(random: &mut Random, bytes: &mut [u8]) {
-    if bytes.len() >= BLOCK_BYTES {
-        let any = 7 + random.index(501);
-        let at = random.pick(&[0, 1, 2, 3, 7, 8, 507, any, any]);
-        bytes[at] ^= 1 << random.below(8);
+/// One part of block 0, each as often as any other.
+pub fn block_0(random: &mut Random, bytes: &mut [u8]) {
+    if bytes.len() < BLOCK_BYTES {
+        return;
+    }
+    let (from, to) = random.pick(&BLOCK_0_PARTS);
+    match from {
+        3 => bytes[3] = random.pick(b"03456789 \xb1\xb2\x32\x31"),
+        4 => set_event_count(bytes, random.pick(&[257, 257, 258, 512, 0x8000, 0xffff])),
+        6 => bytes[6] = random.pick(&[0, 9, 16, 128, 255]),
+        12 if bytes[3] == b'2' => opening(random, &mut bytes[OPENINGS_AT]),
+        _ => {
+            let any = from + random.index(to - from);
+            bytes[random.pick(&[from, to - 1, any])] ^= 1 << random.below(8);
+        }
+    }
+    seal(bytes);
+}
+
+/// Mostly a value under a clear bit; else one bit of the bits or values turned, which may leave openings too.
+fn opening(random: &mut Random, openings: &mut [u8]) {
+    match random.below(6) {
+        0 => openings[random.index(4)] ^= 1 << random.below(8),
+        1 => openings[4 + random.index(128)] ^= 1 << random.below(8),
+        _ => openings::value_under_clear_bit(random, openings),
+    }
+}
+
+/// The other edition's, those of none, or some letter by a bit; not always sealed.
+fn letters(random: &mut Random, bytes: &mut [u8]) {
+    if bytes.len() < BLOCK_BYTES {
+        return;
+    }
+    match random.below(3) {
+        0 => bytes[3] ^= b'1' ^ b'2',
+        1 => bytes[..4].copy_from_slice(random.pick(&[b"GCR0", b"GCR3", b"GCR4", b"gcr2", b"RCG2", b"2RCG"])),
+        _ => bytes[random.index(4)] ^= 1 << random.below(8),
+    }
+    if random.chance(70) {
         seal(bytes);
     }
 }

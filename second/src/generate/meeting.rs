@@ -1,5 +1,6 @@
 //! Records made to meet given predicates, with as little else as chance gives.
 
+use super::openings;
 use super::random::Random;
 use super::shapes::{hold_right_value, make_pending, site_count};
 use crate::record::{Event, Record, MOST_EVENTS};
@@ -9,6 +10,7 @@ use crate::relations::returned_before;
 pub fn record(random: &mut Random, n: usize, predicates: &[u32]) -> Record {
     let sites = site_count(random);
     let mut record = Record::in_order(sites, events(random, n, sites));
+    record.edition = openings::edition(random);
     sparse_visibility(random, &mut record);
     // The single orders stand first in a model's list and take away as well as
     // add, so they come last here.
@@ -27,12 +29,13 @@ pub fn record(random: &mut Random, n: usize, predicates: &[u32]) -> Record {
 /// Starts never fall, so a return before a start always agrees with ar.
 fn events(random: &mut Random, n: usize, sites: u8) -> Vec<Event> {
     let (gap, length) = (1 + random.below(4), 1 + random.below(5));
-    let (objects, pending) = (1 + random.below(3), random.pick(&[0, 0, 25]));
+    let objects = &random.pick(&[[0, 1, 2], [0, 31, 32], [31, 255, 0]])[..1 + random.index(3)];
+    let pending = random.pick(&[0, 0, 25]);
     let mut start = 0;
     let one = |_| {
         start += random.below(gap);
         let site = random.below(sites as u64) as u8;
-        let object = random.below(objects) as u8;
+        let object = random.pick(objects);
         let event = match random.chance(50) {
             true => Event::write(site, object, random.below(5) as u32),
             false => Event::read(site, object, None),
@@ -111,5 +114,5 @@ fn renumbered(random: &mut Random, record: &Record) -> Record {
         }
         event
     });
-    Record { sites: record.sites, events: events.collect() }
+    Record { events: events.collect(), ..*record }
 }

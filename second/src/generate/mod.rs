@@ -3,12 +3,15 @@
 pub mod change;
 pub mod damage;
 pub mod meeting;
+pub mod openings;
 pub mod random;
 pub mod scripts;
 pub mod shapes;
+pub mod sweeps;
 
 use crate::models::MODELS;
 use crate::record::MOST_EVENTS;
+use crate::store::Store;
 use random::Random;
 
 /// A record's bytes with a name for the family it comes from.
@@ -20,11 +23,12 @@ pub struct Sample {
 type Family = fn(&mut Random) -> Vec<u8>;
 
 /// Each family with its share of a hundred seeds.
-const FAMILIES: [(u64, &str, Family); 7] = [
-    (27, "small", small),
-    (25, "edge", edge),
-    (30, "damaged", damaged),
-    (6, "bit", one_bit),
+const FAMILIES: [(u64, &str, Family); 8] = [
+    (18, "small", small),
+    (21, "edge", edge),
+    (28, "damaged", damaged),
+    (16, "block-0", block_0),
+    (5, "bit", one_bit),
     (4, "large", large),
     (4, "large-edge", large_edge),
     (4, "rehearsed", rehearsed),
@@ -44,12 +48,12 @@ pub fn record(seed: u64) -> Sample {
 
 fn small(random: &mut Random) -> Vec<u8> {
     let n = random.below(7) as usize;
-    shapes::record(random, n).to_bytes()
+    shapes::of_either_edition(random, n).to_bytes()
 }
 
 fn large(random: &mut Random) -> Vec<u8> {
     let n = large_count(random);
-    shapes::record(random, n).to_bytes()
+    shapes::of_either_edition(random, n).to_bytes()
 }
 
 /// Whole blocks, one more, one less, and anything between.
@@ -85,24 +89,31 @@ fn edge_of(random: &mut Random, n: usize) -> Vec<u8> {
 
 fn damaged(random: &mut Random) -> Vec<u8> {
     let n = if random.chance(80) { random.below(24) as usize } else { large_count(random) };
-    let mut bytes = shapes::record(random, n).to_bytes();
+    let mut bytes = shapes::of_either_edition(random, n).to_bytes();
     for _ in 0..1 + random.below(5) / 3 {
         damage::once(random, &mut bytes);
     }
     bytes
 }
 
+fn block_0(random: &mut Random) -> Vec<u8> {
+    let n = random.below(4) as usize;
+    let mut bytes = shapes::of_either_edition(random, n).to_bytes();
+    damage::block_0(random, &mut bytes);
+    bytes
+}
+
 fn one_bit(random: &mut Random) -> Vec<u8> {
     let n = random.below(10) as usize;
-    let mut bytes = shapes::record(random, n).to_bytes();
+    let mut bytes = shapes::of_either_edition(random, n).to_bytes();
     damage::any_bit(random, &mut bytes);
     bytes
 }
 
 fn rehearsed(random: &mut Random) -> Vec<u8> {
     let (sites, script) = scripts::plausible(random);
-    let mut answers = vec![0; script.len()];
-    let store = crate::store::run_script(sites as usize, &script, &mut answers);
+    let mut store = Store::opened(sites as usize, openings::openings(random));
+    store.run(&script, &mut vec![0; script.len()]);
     let mut record = store.record();
     if random.chance(50) && !record.events.is_empty() {
         change::one_field(random, &mut record);

@@ -1,7 +1,10 @@
 //! Scripts for the store, with refused calls of every number among them.
 
+use super::openings;
 use super::random::Random;
-use crate::store::{Call, Store, CALL_BYTES, MOST_SCRIPT_BYTES, OBJECTS};
+use crate::openings::{OBJECTS, OPENINGS_BYTES};
+use crate::record::MOST_BYTES;
+use crate::store::{Call, Store, CALL_BYTES, MOST_SCRIPT_BYTES};
 
 /// How a script is mixed, in shares of a hundred calls.
 struct Mix {
@@ -28,29 +31,57 @@ enum End {
 /// What a rehearsal is called with.
 pub struct Rehearsal {
     pub sites: u32,
+    pub openings: Vec<u8>,
     pub script: Vec<u8>,
     pub record_bytes: usize,
     pub answer_bytes: usize,
 }
 
-/// A rehearsal that mostly runs; the rest are refused by 20 to 23.
+impl Rehearsal {
+    /// With buffers that are just long enough.
+    pub fn plain(sites: u32, openings: Vec<u8>, script: Vec<u8>) -> Rehearsal {
+        Rehearsal { sites, openings, record_bytes: MOST_BYTES, answer_bytes: script.len(), script }
+    }
+}
+
+/// A rehearsal that mostly runs; the rest are refused by 20 to 23 and 40.
 pub fn rehearsal(seed: u64) -> Rehearsal {
     let mut random = Random::new(seed);
     let (sites, script) = plausible(&mut random);
-    let mut rehearsal = Rehearsal {
-        sites,
-        record_bytes: 19_456 + random.pick(&[0, 0, 1, 300]),
-        answer_bytes: script.len() + random.pick(&[0, 0, 1, 7, 8, 64]),
-        script,
-    };
-    for _ in 0..random.pick(&[0, 0, 0, 0, 0, 0, 0, 0, 1, 2]) {
+    let openings = openings::openings(&mut random).to_bytes().to_vec();
+    let mut rehearsal = Rehearsal::plain(sites, openings, script);
+    rehearsal.record_bytes += random.pick(&[0, 0, 1, 300]);
+    rehearsal.answer_bytes += random.pick(&[0, 0, 1, 7, 8, 64]);
+    for _ in 0..random.pick(&[0, 0, 0, 0, 0, 0, 0, 0, 1, 1, 2, 2]) {
         spoil(&mut random, &mut rehearsal);
     }
     rehearsal
 }
 
+/// The same as the program reads it; some end within their openings.
+pub fn program_input(seed: u64) -> Vec<u8> {
+    let mut input = as_read(&rehearsal(seed));
+    let mut random = Random::new(!seed);
+    if random.chance(8) {
+        match random.below(5) {
+            0 => input[0] = random.pick(&[0, 9, 255]),
+            1 => openings::value_under_clear_bit(&mut random, &mut input[1..=OPENINGS_BYTES]),
+            _ => (),
+        }
+        input.truncate(1 + random.index(OPENINGS_BYTES));
+    }
+    input
+}
+
+/// A site count over 255 becomes 255, and openings of another length are cut or get zeros.
+pub fn as_read(rehearsal: &Rehearsal) -> Vec<u8> {
+    let mut openings = rehearsal.openings.clone();
+    openings.resize(OPENINGS_BYTES, 0);
+    [vec![rehearsal.sites.min(255) as u8], openings, rehearsal.script.clone()].concat()
+}
+
 fn spoil(random: &mut Random, rehearsal: &mut Rehearsal) {
-    match random.below(4) {
+    match random.below(6) {
         0 => rehearsal.sites = random.pick(&[0, 9, 255, 256, 257, u32::MAX]),
         1 => {
             let length = random.pick(&[1, 7, 9, 32_760, 32_767, 32_769, 32_776, 40_000]);
@@ -58,6 +89,10 @@ fn spoil(random: &mut Random, rehearsal: &mut Rehearsal) {
             rehearsal.answer_bytes = rehearsal.answer_bytes.max(length);
         }
         2 => rehearsal.record_bytes = random.pick(&[0, 512, 19_455]),
+        3 => rehearsal.openings.resize(random.pick(&[0, 1, 4, 128, 131, 133, 264]), 0),
+        4 if rehearsal.openings.len() == OPENINGS_BYTES => {
+            openings::value_under_clear_bit(random, &mut rehearsal.openings)
+        }
         _ => rehearsal.answer_bytes = rehearsal.script.len().saturating_sub(1 + random.index(16)),
     }
 }

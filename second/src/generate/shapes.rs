@@ -1,17 +1,48 @@
 //! Records of every shape that pass the questions, whatever they break.
 
+use super::openings;
 use super::random::Random;
 use crate::record::{Event, Kind, Record, MOST_EVENTS};
 
 const DENSITIES: [u64; 6] = [0, 8, 30, 60, 92, 100];
 
+/// What the events are drawn from, and in how many of a hundred reads a value is put right.
+struct Drawn {
+    objects: &'static [u8],
+    values: &'static [u32],
+    right: &'static [u64],
+}
+
+const PLAIN: Drawn = Drawn { objects: &[0, 0, 0, 1, 1, 255], values: &[0, 1, 2, u32::MAX], right: &[0, 60, 97, 100] };
+
+/// The last object that can have an opening and the first that cannot are more often among these, and wrong values too.
+const BESIDE_OPENINGS: Drawn = Drawn {
+    objects: &[0, 0, 0, 0, 1, 31, 31, 32, 32, 255],
+    values: &[0, 0, 1, 2, u32::MAX],
+    right: &[0, 40, 60, 97, 100],
+};
+
+/// Of `GCR1`.
 pub fn record(random: &mut Random, n: usize) -> Record {
+    let mut record = without_right_values(random, n, &PLAIN);
+    values(random, &mut record, &PLAIN, |_, _, _| ());
+    record
+}
+
+/// Of `GCR1`, or of `GCR2` with openings that reads hold or should hold.
+pub fn of_either_edition(random: &mut Random, n: usize) -> Record {
+    let mut record = without_right_values(random, n, &BESIDE_OPENINGS);
+    record.edition = openings::edition(random);
+    values(random, &mut record, &BESIDE_OPENINGS, opening_or_none);
+    record
+}
+
+fn without_right_values(random: &mut Random, n: usize, drawn: &Drawn) -> Record {
     let sites = site_count(random);
-    let mut record = Record::in_order(sites, (0..n).map(|_| event(random, sites)).collect());
+    let mut record = Record::in_order(sites, (0..n).map(|_| event(random, sites, drawn)).collect());
     times(random, &mut record);
     positions(random, &mut record);
     visibility(random, &mut record);
-    values(random, &mut record);
     record
 }
 
@@ -23,10 +54,10 @@ pub fn site_count(random: &mut Random) -> u8 {
     }
 }
 
-fn event(random: &mut Random, sites: u8) -> Event {
+fn event(random: &mut Random, sites: u8, drawn: &Drawn) -> Event {
     let site = random.below(sites as u64) as u8;
-    let object = random.pick(&[0, 0, 0, 1, 1, 255]);
-    let value = random.pick(&[0, 1, 2, u32::MAX]);
+    let object = random.pick(drawn.objects);
+    let value = random.pick(drawn.values);
     if random.chance(50) {
         Event::write(site, object, value)
     } else {
@@ -123,23 +154,36 @@ fn chain(random: &mut Random, record: &mut Record, order: &[usize]) {
     }
 }
 
-/// Mostly right values, so that RVal is often met or breaks late.
-fn values(random: &mut Random, record: &mut Record) {
-    let right = random.pick(&[0, 60, 97, 100]);
+/// Mostly right values, so that RVal is often met or breaks late. Something else may be done to the others.
+fn values(random: &mut Random, record: &mut Record, drawn: &Drawn, otherwise: fn(&mut Random, &mut Record, usize)) {
+    let right = random.pick(drawn.right);
     for event in 0..record.events.len() {
         if random.chance(right) {
             hold_right_value(record, event);
+        } else {
+            otherwise(random, record, event);
         }
     }
 }
 
-/// Gives a returned read the value of the last visible write of its object.
+/// Now and then a read holds the opening, though a write may be visible, or none, though there may be an opening.
+fn opening_or_none(random: &mut Random, record: &mut Record, event: usize) {
+    let openings = record.edition.openings();
+    let read = &mut record.events[event];
+    if random.chance(40) && read.is_read() {
+        let opening = openings.of(read.object as usize).filter(|_| !read.pending);
+        read.value = opening.filter(|_| random.chance(50));
+    }
+}
+
+/// Gives a returned read the value of the last visible write of its object, or else the opening.
 pub fn hold_right_value(record: &mut Record, event: usize) {
     let read = &record.events[event];
     if read.is_read() && !read.pending {
         let seen = (0..record.events.len().min(MOST_EVENTS)).filter(|&w| read.visible[w]);
         let writes = seen.map(|w| &record.events[w]).filter(|w| w.is_write() && w.object == read.object);
-        let value = writes.max_by_key(|write| write.position).and_then(|write| write.value);
-        record.events[event].value = value;
+        let last = writes.max_by_key(|write| write.position);
+        let opening = record.edition.openings().of(read.object as usize);
+        record.events[event].value = last.map_or(opening, |write| write.value);
     }
 }

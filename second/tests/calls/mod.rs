@@ -1,6 +1,8 @@
-//! Short names for calls, and running a list of them.
+//! Short names for calls, and running a list of them. No test uses all of it.
+#![allow(dead_code)]
 
-use second::store::{run_script, Call, Store};
+use second::openings::Openings;
+use second::store::{Call, Store};
 
 pub fn put(site: usize, object: usize, value: u32) -> Call {
     Call::Put { site, object, value }
@@ -18,11 +20,13 @@ pub fn script(calls: &[Call]) -> Vec<u8> {
     calls.iter().flat_map(|call| call.to_bytes()).collect()
 }
 
-/// The answers of a script and the store after it.
+/// The answers of a script and the store after it, begun without openings.
 pub fn run(sites: usize, calls: &[Call]) -> (Vec<[u8; 8]>, Store) {
-    let script = script(calls);
-    let mut bytes = vec![0; script.len()];
-    let store = run_script(sites, &script, &mut bytes);
-    let answers = bytes.as_chunks().0.to_vec();
+    run_opened(sites, Openings::none(), calls)
+}
+
+pub fn run_opened(sites: usize, openings: Openings, calls: &[Call]) -> (Vec<[u8; 8]>, Store) {
+    let mut store = Store::opened(sites, openings);
+    let answers = calls.iter().map(|call| store.call(&call.to_bytes())).collect();
     (answers, store)
 }

@@ -2,7 +2,6 @@
 
 use crate::arrow::{Arrow, Says};
 use crate::chain::{chain, in_words};
-use crate::event::Event;
 use crate::record::Record;
 use gcr::Predicate;
 
@@ -52,21 +51,27 @@ impl Breach {
 }
 
 fn held(record: &Record, read: usize, last: usize) -> Breach {
-    let (holds, object) = (value(&record.events[read]), record.events[read].object);
-    let (note, reason, arrows) = if read == last {
-        let reason = format!(": it sees no write on object {object}");
-        (format!("event {read} holds {holds}, not none"), reason, Vec::new())
+    let object = record.events[read].object;
+    let (due, reason, arrows) = if read == last {
+        (record.opening(object), unwritten(record, object), Vec::new())
     } else {
-        let due = value(&record.events[last]);
         let reason =
             format!(": of the writes on object {object} that it sees, event {last} is the last in arbitration");
-        (format!("event {read} holds {holds}, not {due}"), reason, vec![Arrow::new(last, read, Says::Sees)])
+        (record.events[last].value, reason, vec![Arrow::new(last, read, Says::Sees)])
     };
+    let note = format!("event {read} holds {}, not {}", value(record.events[read].value), value(due));
     Breach { note, reason, arrows, pair: (read, last), named: Vec::new() }
 }
 
-fn value(event: &Event) -> String {
-    event.value.map_or("none".to_string(), |value| value.to_string())
+/// Why a read should hold what its object starts with.
+fn unwritten(record: &Record, object: u8) -> String {
+    let opening = record.opening(object);
+    let opens = opening.map_or("which has no opening".to_string(), |opening| format!("whose opening is {opening}"));
+    format!(": it sees no write on object {object}, {opens}")
+}
+
+fn value(value: Option<u32>) -> String {
+    value.map_or("none".to_string(), |value| value.to_string())
 }
 
 fn differing(record: &Record, predicate: Predicate, a: usize, b: usize) -> Breach {

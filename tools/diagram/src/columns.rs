@@ -73,7 +73,7 @@ mod tests {
     const GAPS: Gaps = Gaps { before_return: 4.0, before_start: 10.0 };
 
     fn event(start: u64, end: Option<u64>) -> Event {
-        Event { is_write: true, site: 0, object: 0, value: Some(0), position: 0, start, end }
+        Event { is_write: true, site: 0, object: 0, value: Some(0), position: 0, start, end, holds_opening: false }
     }
 
     #[test]

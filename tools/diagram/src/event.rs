@@ -11,10 +11,12 @@ pub struct Event {
     pub start: u64,
     /// None while pending.
     pub end: Option<u64>,
+    /// A read that sees no write on its object and holds the object's opening.
+    pub holds_opening: bool,
 }
 
 impl Event {
-    /// Reads a slot of a record that passed its questions.
+    /// Reads a slot of a record that passed its questions. Whether it holds an opening stands elsewhere.
     pub fn from_slot(slot: &[u8]) -> Event {
         let number = |at: usize, bytes: usize| (0..bytes).rev().fold(0, |sum, k| sum << 8 | u64::from(slot[at + k]));
         Event {
@@ -25,6 +27,7 @@ impl Event {
             position: number(10, 2) as u16,
             start: number(16, 8),
             end: (slot[3] == 0).then(|| number(24, 8)),
+            holds_opening: false,
         }
     }
 
@@ -36,11 +39,12 @@ impl Event {
         self.end.is_some_and(|end| end < later.start)
     }
 
-    /// Short: `W 5=100`, `R 5→200`, `R 5→none`, and `R 5→?` while pending.
+    /// Short: `W 5=100`, `R 5→200`, `R 5→300 (opening)`, `R 5→none`, and `R 5→?` while pending.
     pub fn label(&self) -> String {
         let object = self.object;
         match (self.is_write, self.value) {
             (true, value) => format!("W {object}={}", value.unwrap_or(0)),
+            (false, Some(value)) if self.holds_opening => format!("R {object}→{value} (opening)"),
             (false, Some(value)) => format!("R {object}→{value}"),
             (false, None) if self.is_pending() => format!("R {object}→?"),
             (false, None) => format!("R {object}→none"),
@@ -60,7 +64,7 @@ mod tests {
     use super::*;
 
     fn event(is_write: bool, value: Option<u32>, end: Option<u64>) -> Event {
-        Event { is_write, site: 0, object: 5, value, position: 0, start: 2, end }
+        Event { is_write, site: 0, object: 5, value, position: 0, start: 2, end, holds_opening: false }
     }
 
     #[test]
@@ -69,6 +73,12 @@ mod tests {
         assert_eq!(event(false, Some(200), Some(3)).label(), "R 5→200");
         assert_eq!(event(false, None, Some(3)).label(), "R 5→none");
         assert_eq!(event(false, None, None).label(), "R 5→?");
+    }
+
+    #[test]
+    fn an_opening_is_told_from_a_value_that_was_written() {
+        let opened = Event { holds_opening: true, ..event(false, Some(300), Some(3)) };
+        assert_eq!(opened.label(), "R 5→300 (opening)");
     }
 
     #[test]

@@ -48,7 +48,7 @@ mod tests {
     use super::*;
 
     fn event(site: usize, start: u64, end: Option<u64>) -> Event {
-        Event { is_write: true, site, object: 0, value: Some(0), position: 0, start, end }
+        Event { is_write: true, site, object: 0, value: Some(0), position: 0, start, end, holds_opening: false }
     }
 
     #[test]

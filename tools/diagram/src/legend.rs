@@ -17,6 +17,9 @@ const WORDS: f64 = 18.0;
 
 const SIGHT: &str = "An arrow leads from an event to one that sees it. What the arrows do not tell is not seen, at an \
     event's own site either; what a filled head tells needs no arrow of its own.";
+/// Of a read's label.
+pub const OPENING: &str =
+    "(opening): the read sees no write on its object and holds the object's opening, the figure that it starts with.";
 const SHARED: &str = "Arrows from one event, or to one, may share a line; lines that cross have nothing in common.";
 
 #[derive(Clone, Copy, Debug, PartialEq, Eq)]

@@ -25,8 +25,7 @@ pub fn draw(name: &str, record: &Record, finding: Option<&Finding>) -> String {
     let web = Web::new(record, breach.as_ref());
     let layout = Layout::new(record, &web, scale, &across, heading.bottom());
     let scene = Scene { record, breach: breach.as_ref(), web: &web, across: &across, layout: &layout };
-    let words = [legend::of_arrows(layout.may_share_lines()), legend::of_numbers(&scale, axis::base(&across))];
-    let legend = Legend::new(&scene.signs(), &words, across.width);
+    let legend = Legend::new(&scene.signs(), &scene.words(), across.width);
     let (width, bottom) = (layout.width, layout.rows.bottom() + axis::HEIGHT);
     let mut svg = Svg::default();
     style::write(&mut svg, &scale);
@@ -111,5 +110,13 @@ impl Scene<'_> {
             signs.extend(breach.arrows.iter().map(|arrow| Sign::Arrow(arrow.says)));
         }
         signs
+    }
+
+    /// What it says below them.
+    fn words(&self) -> Vec<String> {
+        let arrows = legend::of_arrows(self.layout.may_share_lines());
+        let numbers = legend::of_numbers(&self.layout.scale, axis::base(self.across));
+        let is_opening = self.record.events.iter().any(|event| event.holds_opening);
+        [arrows, numbers].into_iter().chain(is_opening.then(|| legend::OPENING.to_string())).collect()
     }
 }

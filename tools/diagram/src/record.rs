@@ -1,15 +1,18 @@
 //! A record that passed the library's questions, with its relations.
 
 use crate::event::Event;
-use gcr::Refusal;
+use gcr::{Openings, Refusal};
 
 const BLOCK: usize = 512;
 const SLOT: usize = 64;
 const SLOTS: usize = 7;
+/// Where a record has its openings; one of edition GCR1 has zeros there, and no openings.
+const OPENINGS: std::ops::Range<usize> = 12..144;
 
 pub struct Record {
     pub sites: usize,
     pub events: Vec<Event>,
+    openings: Openings,
     /// The visible sets as the library lays them out.
     visible: Vec<u64>,
 }
@@ -20,7 +23,25 @@ impl Record {
         gcr::read(bytes, &mut visible)?;
         let count = u16::from_le_bytes([bytes[4], bytes[5]]);
         let events = (0..count.into()).map(|number| Event::from_slot(slot(bytes, number))).collect();
-        Ok(Record { sites: bytes[6].into(), events, visible })
+        let openings = Openings::from_bytes(&bytes[OPENINGS]).expect("question 5 has asked for them");
+        let mut record = Record { sites: bytes[6].into(), events, openings, visible };
+        for number in record.numbers() {
+            record.events[number].holds_opening = record.holds_opening(number);
+        }
+        Ok(record)
+    }
+
+    /// What an object starts with, if it has an opening.
+    pub fn opening(&self, object: u8) -> Option<u32> {
+        self.openings.get(object)
+    }
+
+    /// Only of a read that sees no write on its object: any other value is from a write, though it may be the same.
+    fn holds_opening(&self, number: usize) -> bool {
+        let event = &self.events[number];
+        let is_write_on_it = |&other: &usize| self.events[other].is_write && self.events[other].object == event.object;
+        let sees_write = self.numbers().filter(is_write_on_it).any(|write| self.is_visible(write, number));
+        !event.is_write && !sees_write && event.value.is_some() && event.value == self.opening(event.object)
     }
 
     /// The numbers of all events.

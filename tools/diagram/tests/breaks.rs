@@ -3,6 +3,7 @@
 mod support;
 
 use second::models::{answer_of, MODELS};
+use second::openings::Openings;
 use second::predicates::{Answer, Judged, PREDICATES};
 use second::record::{Event, Record};
 use support::drawing::Drawing;
@@ -70,10 +71,15 @@ fn seen_by_read(last: Event) -> Record {
 }
 
 fn of_values_and_orders() -> Vec<Case> {
+    let unwritten = |value| one_site(vec![Event::read(0, 3, value).at(0, 1)]);
     let pending = |last: Event| one_site(vec![Event::write(0, 0, 7).pending_from(0), read(2).sees(&[0]), last]);
     vec![
         (1, records::shipped()[2].clone(), "event 2 holds 7, not 8: of the writes on object 0 that it sees, event 1 is the last in arbitration"),
-        (1, one_site(vec![Event::read(0, 3, Some(0)).at(0, 1)]), "event 0 holds 0, not none: it sees no write on object 3"),
+        (1, records::shipped()[5].clone(), "event 1 holds 40, not 41: of the writes on object 0 that it sees, event 0 is the last in arbitration"),
+        (1, unwritten(Some(0)), "event 0 holds 0, not none: it sees no write on object 3, which has no opening"),
+        (1, unwritten(Some(0)).opened(Openings::none().with(2, 0)), "event 0 holds 0, not none: it sees no write on object 3, which has no opening"),
+        (1, unwritten(None).opened(Openings::none().with(3, 0)), "event 0 holds none, not 0: it sees no write on object 3, whose opening is 0"),
+        (1, unwritten(Some(40)).opened(Openings::none().with(3, 41)), "event 0 holds 40, not 41: it sees no write on object 3, whose opening is 41"),
         (2, records::write_then_read(false), "event 1 does not see event 0, though arbitration places event 0 before event 1"),
         (2, records::write_then_read(true).with_positions(&[1, 0]), "event 1 sees event 0, though arbitration places event 1 before event 0"),
         (2, pending(read(4).sees(&[1])), "event 2 does not see event 0, though arbitration places event 0 before event 2; event 0 is pending, but event 1 sees it"),
@@ -139,7 +145,7 @@ fn told(drawing: &Drawing, record: &Record, (a, b): (usize, usize)) -> String {
     assert!(arrows.iter().all(|&(from, to)| [(a, b), (b, a)].contains(&(from, to))));
     assert_eq!(notes.len(), usize::from(!arrows.is_empty()));
     assert!(notes.iter().all(|note| sentence.starts_with(note)));
-    // Only a value that should be none has no second event to draw an arrow from.
+    // Only a value that should be an opening or none has no second event to draw an arrow from.
     assert!(!arrows.is_empty() || sentence.contains("it sees no write"));
     sentence
 }

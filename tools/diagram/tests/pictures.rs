@@ -24,6 +24,8 @@ fn the_pictures_of_the_documents_are_what_the_program_draws() {
     assert!(drawn(&["--predicate", "5", &record("stale-read.gcr")], &[]) == kept);
     let kept = include_str!("../../../docs/pictures/listing.svg");
     assert!(drawn(&["--predicate", "3", &record("listing.gcr")], &[]) == kept);
+    let kept = include_str!("../../../docs/pictures/opening.svg");
+    assert!(drawn(&["--predicate", "1", &record("opening.gcr")], &[]) == kept);
 }
 
 #[test]

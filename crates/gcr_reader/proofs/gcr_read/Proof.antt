@@ -5,7 +5,7 @@ use native.Mathlib.Omega.{arith}
 use borrow.Author.Needs.{needs}
 use lib.ListN.{length}
 use Rattle.record.specs.declared.Reading.{Reading}
-use Rattle.record.specs.Layout.{gcr1}
+use Rattle.record.specs.Layout.{editionOf}
 use Rattle.record.specs.Questions.{numberOf, placeOf, reading}
 use Rattle.record.specs.Words.{workAfter}
 use Rattle.record.proofs.QuestionsAnswered.{number-most, place-small, packed-passed, packed-refused}
@@ -21,7 +21,7 @@ start c = c .before .before .before .before
 
 -- the reading that the contract speaks of
 abbrev read : tie.Start → Reading
-read c = reading gcr1 (length (c .args .work .now)) (c .args .s .now)
+read c = reading (editionOf (c .args .s .now)) (length (c .args .work .now)) (c .args .s .now)
 
 number-is : (c : tie.After-number) → c .number .result ≡ numberOf (read (start (done c)))
 number-is c = c .number .ensures ∙ ap numberOf (done c .read .ensures .0)
@@ -32,10 +32,10 @@ place-is c = c .place .ensures ∙ ap placeOf (done (c .before .before) .read .e
 few : (c : tie.After-number) → c .number .result ≤ 10
 few c = rw (number-is c) (number-most (read (start (done c))))
 
-work : (c : tie.After-read) → let a = start c .args in c .read .last .1 .0 ≡ workAfter gcr1 (numberOf (read (start c))) (a .s .now) (a .work .now)
+work : (c : tie.After-read) → let a = start c .args in c .read .last .1 .0 ≡ workAfter (editionOf (a .s .now)) (numberOf (read (start c))) (a .s .now) (a .work .now)
 work c =
     let a = start c .args in
-    c .read .ensures .1 ∙ ap (λ r. workAfter gcr1 (numberOf r) (a .s .now) (a .work .now)) (c .read .ensures .0)
+    c .read .ensures .1 ∙ ap (λ r. workAfter (editionOf (a .s .now)) (numberOf r) (a .s .now) (a .work .now)) (c .read .ensures .0)
 
 read-requires : tie.Need-read-requires
 read-requires c κs = search needs

@@ -5,10 +5,10 @@ use Prim.Native.Nat.{ℕ, _<_}
 use native.Mathlib.Omega.{arith}
 use borrow.Author.Needs.{needs}
 use lib.ListN.{length, take, replicate}
-use Rattle.record.specs.Layout.{gcr1}
-use Rattle.record.specs.History.{historyOf}
+use Rattle.record.specs.Layout.{editionOf}
+use Rattle.record.specs.History.{historyOf, under}
 use Rattle.record.specs.Questions.{numberOf, placeOf, questions}
-use Rattle.record.specs.Words.{visibleWords, historyFrom}
+use Rattle.record.specs.Words.{visibleWords, historyFrom, termsFrom}
 use Rattle.record.specs.declared.Reading.{Reading}
 use Rattle.record.specs.declared.Reading.the-variants.{Passed}
 use Rattle.record.proofs.StoresLaws.{Bytes}
@@ -36,7 +36,7 @@ range c i = reader c .before .before .before .shared-slice-known .given i .fits
 none : (c : tie.Else1) → numberOf (reader (c .before) .read .result) ≡ 0
 none c = sym (c .before .number .ensures) ∙ c .if1 .left
 
-passed : (c : tie.Else1) → questions gcr1 (bytes (c .before)) ≡ Passed
+passed : (c : tie.Else1) → questions (editionOf (bytes (c .before))) (bytes (c .before)) ≡ Passed
 passed c =
     let n = c .before in
     reading-passed (length (start n .args .work .now)) (bytes n) (ap numberOf (sym (reader n .read .ensures .0)) ∙ none c)
@@ -45,7 +45,7 @@ passed c =
 abbrev sets : tie.After-number → List ℕ
 sets c = reader c .read .last .1 .0
 
-visible : (c : tie.Else1) → take 1024 (sets (c .before)) ≡ visibleWords gcr1 (bytes (c .before))
+visible : (c : tie.Else1) → take 1024 (sets (c .before)) ≡ visibleWords (editionOf (bytes (c .before))) (bytes (c .before))
 visible c =
     let n = c .before in
     work-visible (bytes n) (passed c) (numberOf (reader n .read .result)) (start n .args .work .now) (sets n) (none c) (reader n .read .ensures .1)
@@ -57,33 +57,35 @@ counted c = c .before .before
 abbrev words : tie.After-load → List ℕ
 words c = c .load .last .1 .1 .1 .1 .0
 
-told : (c : tie.After-load) → Told (bytes (counted c .before .before)) (counted c .count .result) (words c) (sets (counted c .before .before))
+abbrev loaded : tie.After-load-terms → tie.After-load
+loaded c = c .before .before .before
+
+abbrev terms : tie.After-load-terms → List ℕ
+terms c = c .load-terms .last .1 .0
+
+told : (c : tie.After-load-terms)
+    → let k = counted (loaded c) in Told (bytes (k .before .before)) (k .count .result) (words (loaded c)) (sets (k .before .before)) (terms c)
 told c =
-    let k = counted c in
+    let k = counted (loaded c) in
     let e = k .before in
     let n = e .before in
-    words-told (bytes n) (passed e) (range n) (k .count .result) (k .count .ensures) (replicate 1024 0) (words c) (sets n) (c .load .ensures) (visible e)
+    words-told (bytes n) (passed e) (range n) (k .count .result) (k .count .ensures) (replicate 1024 0) (words (loaded c)) (sets n) (terms c) (loaded c .load .ensures) (visible e) (c .load-terms .ensures)
 
--- src/lib.rt:104:9
 read-requires : tie.Need-read-requires
 read-requires c κs = search needs
 
--- src/lib.rt:105:8
 number-requires : tie.Need-number-requires
 number-requires c κs = search needs
 
--- src/lib.rt:106:13
 pack-requires : tie.Need-pack-requires
 pack-requires c κs =
     let n = c .before in
     let a = reader n .read in
     fitting-small (Refused (a .result)) (subst (λ (r : Reading). placeOf r < 1024) (sym (a .ensures .0)) (place-small (length (start n .args .work .now)) (bytes n)))
 
--- src/lib.rt:107:9
 same-length : tie.Need-same-length
 same-length c = search needs
 
--- src/lib.rt:107:9
 returns : tie.Need-returns
 returns c =
     let t = c .before in
@@ -97,15 +99,12 @@ returns c =
       ),
     )
 
--- src/lib.rt:112:9
 count-requires : tie.Need-count-requires
 count-requires c κs = passed-long (bytes (c .before)) (passed c)
 
--- src/lib.rt:114:37
 slice-aggregate-load : tie.Need-slice-aggregate-load
 slice-aggregate-load c = search needs
 
--- src/lib.rt:114:5
 load-requires : tie.Need-load-requires
 load-requires c κs =
     let k = c .before in
@@ -113,29 +112,35 @@ load-requires c κs =
     let n = e .before in
     (blocks-long (bytes n) (passed e) (k .count .result) (k .count .ensures), (omega arith, omega (arith, count-small (bytes n) (passed e) (k .count .result) (k .count .ensures))))
 
--- src/lib.rt:115:40
+slice-aggregate-load-terms : tie.Need-slice-aggregate-load-terms
+slice-aggregate-load-terms c = search needs
+
+load-terms-requires : tie.Need-load-terms-requires
+load-terms-requires c κs = let e = counted (c .before .before) .before in (passed-long (bytes (e .before)) (passed e), search needs)
+
+slice-aggregate-verdicts-2 : tie.Need-slice-aggregate-verdicts-2
+slice-aggregate-verdicts-2 c = search needs
+
 slice-aggregate-verdicts : tie.Need-slice-aggregate-verdicts
 slice-aggregate-verdicts c = search needs
 
--- src/lib.rt:115:9
 verdicts-requires : tie.Need-verdicts-requires
-verdicts-requires c κs = told (c .before .before .before) .given
+verdicts-requires c κs = (told (c .before .before .before .before) .given, search needs)
 
--- src/lib.rt:99:1
 same-length-2 : tie.Need-same-length-2
 same-length-2 c = search needs
 
--- src/lib.rt:99:1
 returns-2 : tie.Need-returns-2
 returns-2 c =
-    let l = c .before .before .before .before in
+    let t = c .before .before .before .before .before in
+    let l = loaded t in
     let k = counted l in
     let e = k .before in
     let n = e .before in
     let a = reader n .read in (
       a .ensures .0,
       (
-        c .verdicts .ensures ∙ sym (packed-same (historyOf gcr1 (bytes n)) (historyFrom (k .count .result) 4 (words l) (sets n)) (told l .agree) 13)
+        c .verdicts .ensures ∙ sym (packed-same (historyOf (editionOf (bytes n)) (bytes n)) (under (termsFrom (terms t)) (historyFrom (k .count .result) 4 (words l) (sets n))) (told t .agree) 13)
             ∙ judgments-judged (length (start n .args .work .now)) (bytes n) (a .result) (a .ensures .0) (none e) 13 (omega arith),
         a .ensures .1,
       ),
@@ -153,7 +158,10 @@ judge-all-spec =
     count-requires
     slice-aggregate-load
     load-requires
+    slice-aggregate-load-terms
+    load-terms-requires
     slice-aggregate-verdicts
+    slice-aggregate-verdicts-2
     verdicts-requires
     same-length-2
     returns-2)

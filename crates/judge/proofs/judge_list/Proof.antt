@@ -3,7 +3,7 @@ use mathlib.Core.Path.{_≡_, sym, _∙_}
 use mathlib.Core.List.{List}
 use Prim.Native.Nat.{ℕ}
 use borrow.Author.Needs.{needs}
-use Rattle.record.specs.Layout.{gcr1}
+use Rattle.record.specs.Layout.{editionOf}
 use Rattle.record.specs.Questions.{numberOf, questions}
 use Rattle.record.specs.declared.Reading.the-variants.{Passed}
 use Rattle.judge.specs.Lists.{upToZero}
@@ -27,7 +27,7 @@ bytes c = start c .args .s .now
 none : (c : tie.Else1) → numberOf (asked (c .before) .ask .result) ≡ 0
 none c = sym (c .before .number .ensures) ∙ c .if1 .left
 
-passed : (c : tie.Else1) → questions gcr1 (bytes (c .before)) ≡ Passed
+passed : (c : tie.Else1) → questions (editionOf (bytes (c .before))) (bytes (c .before)) ≡ Passed
 passed c = let a = asked (c .before) in sym (a .ask .ensures .0) ∙ number-passed (a .ask .result) (none c)
 
 ask-requires : tie.Need-ask-requires

@@ -4,7 +4,7 @@ use mathlib.Core.List.{List}
 use Prim.Native.Nat.{ℕ}
 use borrow.Author.Needs.{needs}
 use lib.ListN.{length}
-use Rattle.record.specs.Layout.{gcr1}
+use Rattle.record.specs.Layout.{editionOf}
 use Rattle.record.specs.Words.{workAfter}
 use Rattle.consistency.specs.Models.{listOf}
 use Rattle.judge.specs.Judgments.{judgedList, modelJudgment}
@@ -25,21 +25,21 @@ unfolding modelJudgment workAfter
 returns c =
     let a = c .before .before .before in
     let q = judged-short (words a) (a .args .number) (bytes a) (listOf (a .args .number)) (c .if1 .taken) in
-    (q, (exact-of gcr1 (words a) (a .args .number) (listOf (a .args .number)) (bytes a) q, refl))
+    (q, (exact-of (editionOf (bytes a)) (words a) (a .args .number) (listOf (a .args .number)) (bytes a) q, refl))
 
 returns-2 : tie.Need-returns-2
 unfolding modelJudgment workAfter
 returns-2 c =
     let a = c .before .before .before .before in
     let q = judged-low (words a) (a .args .number) (bytes a) (listOf (a .args .number)) (c .before .if1 .left) (c .if2 .taken) in
-    (q, (exact-of gcr1 (words a) (a .args .number) (listOf (a .args .number)) (bytes a) q, refl))
+    (q, (exact-of (editionOf (bytes a)) (words a) (a .args .number) (listOf (a .args .number)) (bytes a) q, refl))
 
 returns-3 : tie.Need-returns-3
 unfolding modelJudgment workAfter
 returns-3 c =
     let a = c .before .before .before .before .before in
     let q = judged-high (words a) (a .args .number) (bytes a) (listOf (a .args .number)) (c .before .before .if1 .left) (c .if3 .taken) in
-    (q, (exact-of gcr1 (words a) (a .args .number) (listOf (a .args .number)) (bytes a) q, refl))
+    (q, (exact-of (editionOf (bytes a)) (words a) (a .args .number) (listOf (a .args .number)) (bytes a) q, refl))
 
 of-model-requires : tie.Need-of-model-requires
 of-model-requires c κs = search needs
@@ -58,9 +58,9 @@ returns-4 c =
     let e = m .before in
     let a = e .before .before .before .before .before in
     let q =
-    l .judge-list .ensures .0 ∙ ap (judgedList gcr1 (bytes a)) (m .of-model .ensures .0)
+    l .judge-list .ensures .0 ∙ ap (judgedList (editionOf (bytes a)) (bytes a)) (m .of-model .ensures .0)
     ∙ judged-list (words a) (a .args .number) (bytes a) (listOf (a .args .number)) (e .before .before .if1 .left) (e .before .if2 .left) (e .if3 .left) in
-    (q, (exact-of gcr1 (words a) (a .args .number) (listOf (a .args .number)) (bytes a) q, l .judge-list .ensures .1))
+    (q, (exact-of (editionOf (bytes a)) (words a) (a .args .number) (listOf (a .args .number)) (bytes a) q, l .judge-list .ensures .1))
 
 pub judge-model-spec : {M : Type 1} → statement M
 judge-model-spec =

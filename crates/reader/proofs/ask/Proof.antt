@@ -5,7 +5,7 @@ use Prim.Native.Nat.{ℕ, _≤_}
 use native.Mathlib.Omega.{arith}
 use borrow.Author.Needs.{needs}
 use lib.ListN.{drop}
-use Rattle.record.specs.Layout.{gcr1, countIn}
+use Rattle.record.specs.Layout.{editionOf, countIn}
 use Rattle.record.specs.History.{historyOf, vis}
 use Rattle.record.specs.Questions.{numberOf, setQuestions}
 use Rattle.record.proofs.WorkLaws.{zero-first, work-refused}
@@ -27,11 +27,11 @@ asked c = c .before .before
 none : (c : tie.Else1) → numberOf (asked c .ask-bytes .result) ≡ 0
 none c = sym (c .before .number .ensures) ∙ c .if1 .left
 
-right : (c : tie.Else1) → BytesRight gcr1 (bytes (asked c))
-right c = bytes-right gcr1 (bytes (asked c)) (asked c .ask-bytes .result) (asked c .ask-bytes .ensures) (none c)
+right : (c : tie.Else1) → BytesRight (editionOf (bytes (asked c))) (bytes (asked c))
+right c = bytes-right (editionOf (bytes (asked c))) (bytes (asked c)) (asked c .ask-bytes .result) (asked c .ask-bytes .ensures) (none c)
 
 few : (c : tie.Else1) → countIn (bytes (asked c)) ≤ 256
-few c = header-says gcr1 (bytes (asked c)) (right c .header)
+few c = header-says (editionOf (bytes (asked c))) (bytes (asked c)) (right c .header)
 
 ask-bytes-requires : tie.Need-ask-bytes-requires
 ask-bytes-requires c κs = search needs
@@ -62,20 +62,20 @@ returns c =
     let work = start a .args .work .now in
     let z = c .before .before .clear .last .0 in
     let no : numberOf (a .ask-bytes .result) ≡ 0 → ⊥ = λ e. t .if1 .taken (n .number .ensures ∙ e) in (
-      questions-refused gcr1 (bytes a) (a .ask-bytes .result) (a .ask-bytes .ensures) no,
-      work-refused gcr1 (numberOf (a .ask-bytes .result)) (bytes a) work (z ++ drop 1024 work) (bytes-late gcr1 (bytes a) (a .ask-bytes .result) (a .ask-bytes .ensures) no)
+      questions-refused (editionOf (bytes a)) (bytes a) (a .ask-bytes .result) (a .ask-bytes .ensures) no,
+      work-refused (editionOf (bytes a)) (numberOf (a .ask-bytes .result)) (bytes a) work (z ++ drop 1024 work) (bytes-late (editionOf (bytes a)) (bytes a) (a .ask-bytes .result) (a .ask-bytes .ensures) no)
           (zero-first 1024 work work z (start a .pre) refl (c .before .before .clear .ensures)),
     )
 
 count-requires : tie.Need-count-requires
-count-requires c κs = length-says gcr1 (bytes (asked c)) (right c .length) .0
+count-requires c κs = length-says (editionOf (bytes (asked c))) (bytes (asked c)) (right c .length) .0
 
 ask-requires : tie.Need-ask-requires
 ask-requires c κs =
     let n = c .before in
     let e = n .before in (
       (n .count .ensures, omega (arith, n .count .ensures, few e)),
-      (omega (arith, n .count .ensures, blocks-say gcr1 (bytes (asked e)) (right e .blocks)), search needs),
+      (omega (arith, n .count .ensures, blocks-say (editionOf (bytes (asked e))) (bytes (asked e)) (right e .blocks)), search needs),
     )
 
 same-length-2 : tie.Need-same-length-2
@@ -88,8 +88,8 @@ returns-2 c =
     let e = n .before in
     let a = asked e in
     let s = bytes a in (
-      q .ask .ensures .0 ∙ ap (λ k. setQuestions gcr1 k (vis (historyOf gcr1 s))) (n .count .ensures)
-          ∙ sym (questions-passed gcr1 s (a .ask-bytes .result) (a .ask-bytes .ensures) (none e)),
+      q .ask .ensures .0 ∙ ap (λ k. setQuestions (editionOf s) k (vis (historyOf (editionOf s) s))) (n .count .ensures)
+          ∙ sym (questions-passed (editionOf s) s (a .ask-bytes .result) (a .ask-bytes .ensures) (none e)),
       q .ask .ensures .1,
     )
 

@@ -9,7 +9,7 @@ use lib.ListN.{length}
 use Rattle.rows.specs.Lowest.{lowest}
 use Rattle.rows.proofs.Tests.{told-true, told-false}
 use Rattle.record.specs.declared.Reading.the-variants.{Passed, WrongLength, WrongCheck, WrongHeader, WrongBlocks, WrongSlot, WrongPosition}
-use Rattle.record.specs.Layout.{gcr1, countIn}
+use Rattle.record.specs.Layout.{editionOf, countIn}
 use Rattle.record.specs.Blocks.{blockRight}
 use Rattle.record.specs.History.{historyOf}
 use Rattle.record.specs.Slots.{slotRight}
@@ -36,48 +36,48 @@ abbrev bytes5 : tie.Else5 → List ℕ
 bytes5 c = bytes4 (c .before .before)
 
 -- what is known after each yes, and the questions that are left
-length-yes : (c : tie.Else1) → lengthRight gcr1 (bytes1 c) ≡ true
+length-yes : (c : tie.Else1) → lengthRight (editionOf (bytes1 c)) (bytes1 c) ≡ true
 length-yes c = told-true (c .before .length-holds .ensures) (c .if1 .left)
 
 long : (c : tie.Else1) → (512 ≤ length (bytes1 c)) × (length (bytes1 c) ≤ 19456) × (length (bytes1 c) % 512 ≡ 0)
-long c = length-says gcr1 (bytes1 c) (length-yes c)
+long c = length-says (editionOf (bytes1 c)) (bytes1 c) (length-yes c)
 
-to-checks : (c : tie.Else1) → byteQuestions gcr1 (bytes1 c) ≡ fromChecks gcr1 (bytes1 c) Passed
-to-checks c = bytes-asked gcr1 (bytes1 c) ∙ ask-yes (lengthRight gcr1 (bytes1 c)) WrongLength (fromChecks gcr1 (bytes1 c) Passed) (length-yes c)
+to-checks : (c : tie.Else1) → byteQuestions (editionOf (bytes1 c)) (bytes1 c) ≡ fromChecks (editionOf (bytes1 c)) (bytes1 c) Passed
+to-checks c = bytes-asked (editionOf (bytes1 c)) (bytes1 c) ∙ ask-yes (lengthRight (editionOf (bytes1 c)) (bytes1 c)) WrongLength (fromChecks (editionOf (bytes1 c)) (bytes1 c) Passed) (length-yes c)
 
-to-header : (c : tie.Else2) → byteQuestions gcr1 (bytes2 c) ≡ fromHeader gcr1 (bytes2 c) Passed
+to-header : (c : tie.Else2) → byteQuestions (editionOf (bytes2 c)) (bytes2 c) ≡ fromHeader (editionOf (bytes2 c)) (bytes2 c) Passed
 to-header c =
     let w = c .before .wrong-block in
     to-checks (c .before .before)
-    ∙ each-past (blocksIn (bytes2 c)) (λ k. not (blockRight (bytes2 c) k)) WrongCheck (fromHeader gcr1 (bytes2 c) Passed) (w .result) (w .ensures) (c .if2 .left)
+    ∙ each-past (blocksIn (bytes2 c)) (λ k. not (blockRight (bytes2 c) k)) WrongCheck (fromHeader (editionOf (bytes2 c)) (bytes2 c) Passed) (w .result) (w .ensures) (c .if2 .left)
 
-header-yes : (c : tie.Else3) → headerRight gcr1 (bytes3 c) ≡ true
+header-yes : (c : tie.Else3) → headerRight (editionOf (bytes3 c)) (bytes3 c) ≡ true
 header-yes c = told-true (c .before .header-holds .ensures) (c .if3 .left)
 
-to-blocks : (c : tie.Else3) → byteQuestions gcr1 (bytes3 c) ≡ fromBlocks gcr1 (bytes3 c) Passed
-to-blocks c = to-header (c .before .before) ∙ ask-yes (headerRight gcr1 (bytes3 c)) WrongHeader (fromBlocks gcr1 (bytes3 c) Passed) (header-yes c)
+to-blocks : (c : tie.Else3) → byteQuestions (editionOf (bytes3 c)) (bytes3 c) ≡ fromBlocks (editionOf (bytes3 c)) (bytes3 c) Passed
+to-blocks c = to-header (c .before .before) ∙ ask-yes (headerRight (editionOf (bytes3 c)) (bytes3 c)) WrongHeader (fromBlocks (editionOf (bytes3 c)) (bytes3 c) Passed) (header-yes c)
 
 few : (c : tie.After-count) → c .count .result ≤ 256
-few c = rw (c .count .ensures) (header-says gcr1 (bytes3 (c .before)) (header-yes (c .before)))
+few c = rw (c .count .ensures) (header-says (editionOf (bytes3 (c .before))) (bytes3 (c .before)) (header-yes (c .before)))
 
-to-slots : (c : tie.Else4) → byteQuestions gcr1 (bytes4 c) ≡ fromSlots gcr1 (bytes4 c) Passed
+to-slots : (c : tie.Else4) → byteQuestions (editionOf (bytes4 c)) (bytes4 c) ≡ fromSlots (editionOf (bytes4 c)) (bytes4 c) Passed
 to-slots c =
     let n = c .before .count in
     to-blocks (c .before .before)
-    ∙ ask-yes (blocksRight gcr1 (bytes4 c)) WrongBlocks (fromSlots gcr1 (bytes4 c) Passed) (blocks-yes gcr1 (bytes4 c) (n .result) (n .ensures) (c .if4 .left))
+    ∙ ask-yes (blocksRight (editionOf (bytes4 c)) (bytes4 c)) WrongBlocks (fromSlots (editionOf (bytes4 c)) (bytes4 c) Passed) (blocks-yes (editionOf (bytes4 c)) (bytes4 c) (n .result) (n .ensures) (c .if4 .left))
 
-to-positions : (c : tie.Else5) → byteQuestions gcr1 (bytes5 c) ≡ fromPositions gcr1 (bytes5 c) Passed
+to-positions : (c : tie.Else5) → byteQuestions (editionOf (bytes5 c)) (bytes5 c) ≡ fromPositions (editionOf (bytes5 c)) (bytes5 c) Passed
 to-positions c =
     let w = c .before .wrong-slot in
     to-slots (c .before .before)
-    ∙ each-past (slotsIn gcr1 (bytes5 c)) (λ e. not (slotRight gcr1 (bytes5 c) e)) WrongSlot (fromPositions gcr1 (bytes5 c) Passed) (w .result) (w .ensures) (c .if5 .left)
+    ∙ each-past (slotsIn (editionOf (bytes5 c)) (bytes5 c)) (λ e. not (slotRight (editionOf (bytes5 c)) (bytes5 c) e)) WrongSlot (fromPositions (editionOf (bytes5 c)) (bytes5 c) Passed) (w .result) (w .ensures) (c .if5 .left)
 
 -- the event that the search for a wrong position answered
 event : (c : tie.After-wrong-position)
-    → c .wrong-position .result ≡ lowest (countIn (bytes5 (c .before))) (wrongPosition (historyOf gcr1 (bytes5 (c .before))))
+    → c .wrong-position .result ≡ lowest (countIn (bytes5 (c .before))) (wrongPosition (historyOf (editionOf (bytes5 (c .before))) (bytes5 (c .before))))
 event c =
     let e = c .before in
-    subst (λ n. c .wrong-position .result ≡ lowest n (wrongPosition (historyOf gcr1 (bytes5 e)))) (e .before .before .before .count .ensures) (c .wrong-position .ensures)
+    subst (λ n. c .wrong-position .result ≡ lowest n (wrongPosition (historyOf (editionOf (bytes5 e)) (bytes5 e)))) (e .before .before .before .count .ensures) (c .wrong-position .ensures)
 
 length-holds-requires : tie.Need-length-holds-requires
 length-holds-requires c κs = search needs
@@ -85,7 +85,7 @@ length-holds-requires c κs = search needs
 returns : tie.Need-returns
 returns c =
     let s = c .before .before .before .args .s .now in
-    sym (bytes-asked gcr1 s ∙ ask-no (lengthRight gcr1 s) WrongLength (fromChecks gcr1 s Passed) (told-false (c .before .length-holds .ensures) (c .if1 .taken)))
+    sym (bytes-asked (editionOf s) s ∙ ask-no (lengthRight (editionOf s) s) WrongLength (fromChecks (editionOf s) s Passed) (told-false (c .before .length-holds .ensures) (c .if1 .taken)))
 
 wrong-block-requires : tie.Need-wrong-block-requires
 wrong-block-requires c κs = omega (arith, long c)
@@ -94,7 +94,7 @@ returns-2 : tie.Need-returns-2
 returns-2 c =
     let e = c .before .before in
     let w = c .before .wrong-block in
-    sym (to-checks e ∙ each-found (blocksIn (bytes1 e)) (λ k. not (blockRight (bytes1 e) k)) WrongCheck (fromHeader gcr1 (bytes1 e) Passed) (w .result) (w .ensures) (c .if2 .taken))
+    sym (to-checks e ∙ each-found (blocksIn (bytes1 e)) (λ k. not (blockRight (bytes1 e) k)) WrongCheck (fromHeader (editionOf (bytes1 e)) (bytes1 e) Passed) (w .result) (w .ensures) (c .if2 .taken))
 
 header-holds-requires : tie.Need-header-holds-requires
 header-holds-requires c κs = long (c .before .before) .0
@@ -102,7 +102,7 @@ header-holds-requires c κs = long (c .before .before) .0
 returns-3 : tie.Need-returns-3
 returns-3 c =
     let e = c .before .before in
-    sym (to-header e ∙ ask-no (headerRight gcr1 (bytes2 e)) WrongHeader (fromBlocks gcr1 (bytes2 e) Passed) (told-false (c .before .header-holds .ensures) (c .if3 .taken)))
+    sym (to-header e ∙ ask-no (headerRight (editionOf (bytes2 e)) (bytes2 e)) WrongHeader (fromBlocks (editionOf (bytes2 e)) (bytes2 e) Passed) (told-false (c .before .header-holds .ensures) (c .if3 .taken)))
 
 count-requires : tie.Need-count-requires
 count-requires c κs = long (c .before .before .before .before) .0
@@ -117,7 +117,7 @@ returns-4 : tie.Need-returns-4
 returns-4 c =
     let e = c .before .before in
     let n = c .before .count in
-    sym (to-blocks e ∙ ask-no (blocksRight gcr1 (bytes3 e)) WrongBlocks (fromSlots gcr1 (bytes3 e) Passed) (blocks-no gcr1 (bytes3 e) (n .result) (n .ensures) (c .if4 .taken)))
+    sym (to-blocks e ∙ ask-no (blocksRight (editionOf (bytes3 e)) (bytes3 e)) WrongBlocks (fromSlots (editionOf (bytes3 e)) (bytes3 e) Passed) (blocks-no (editionOf (bytes3 e)) (bytes3 e) (n .result) (n .ensures) (c .if4 .taken)))
 
 wrong-slot-requires : tie.Need-wrong-slot-requires
 wrong-slot-requires c κs = search needs
@@ -132,7 +132,7 @@ returns-5 : tie.Need-returns-5
 returns-5 c =
     let e = c .before .before in
     let w = c .before .wrong-slot in
-    sym (to-slots e ∙ each-found (slotsIn gcr1 (bytes4 e)) (λ k. not (slotRight gcr1 (bytes4 e) k)) WrongSlot (fromPositions gcr1 (bytes4 e) Passed) (w .result) (w .ensures) (c .if5 .taken))
+    sym (to-slots e ∙ each-found (slotsIn (editionOf (bytes4 e)) (bytes4 e)) (λ k. not (slotRight (editionOf (bytes4 e)) (bytes4 e) k)) WrongSlot (fromPositions (editionOf (bytes4 e)) (bytes4 e) Passed) (w .result) (w .ensures) (c .if5 .taken))
 
 wrong-position-requires : tie.Need-wrong-position-requires
 wrong-position-requires c κs =
@@ -143,13 +143,13 @@ returns-6 : tie.Need-returns-6
 returns-6 c =
     let w = c .before in
     let e = w .before in
-    sym (to-positions e ∙ each-found (countIn (bytes5 e)) (wrongPosition (historyOf gcr1 (bytes5 e))) WrongPosition Passed (w .wrong-position .result) (event w) (omega (arith, e .before .before .before .count .ensures, c .if6 .taken)))
+    sym (to-positions e ∙ each-found (countIn (bytes5 e)) (wrongPosition (historyOf (editionOf (bytes5 e)) (bytes5 e))) WrongPosition Passed (w .wrong-position .result) (event w) (omega (arith, e .before .before .before .count .ensures, c .if6 .taken)))
 
 returns-7 : tie.Need-returns-7
 returns-7 c =
     let w = c .before in
     let e = w .before in
-    sym (to-positions e ∙ each-past (countIn (bytes5 e)) (wrongPosition (historyOf gcr1 (bytes5 e))) WrongPosition Passed (w .wrong-position .result) (event w) (omega (arith, e .before .before .before .count .ensures, c .if6 .left)))
+    sym (to-positions e ∙ each-past (countIn (bytes5 e)) (wrongPosition (historyOf (editionOf (bytes5 e)) (bytes5 e))) WrongPosition Passed (w .wrong-position .result) (event w) (omega (arith, e .before .before .before .count .ensures, c .if6 .left)))
 
 pub ask-bytes-spec : {M : Type 1} → statement M
 ask-bytes-spec =

@@ -2,7 +2,7 @@
 use mathlib.Core.Path.{refl, sym, _∙_}
 use borrow.Author.Needs.{needs}
 use lib.ListN.{length}
-use Rattle.record.specs.Layout.{gcr1}
+use Rattle.record.specs.Layout.{editionOf}
 use Rattle.record.specs.Words.{workAfter}
 use Rattle.record.proofs.QuestionLaws.{reading-short, reading-long}
 use Rattle.reader.proofs.read.Statement.{statement}
@@ -12,7 +12,7 @@ returns : tie.Need-returns
 unfolding workAfter
 returns c =
     let a = c .before .before .before .args in
-    (sym (reading-short gcr1 (length (a .work .now)) (a .s .now) (c .if1 .taken)), refl)
+    (sym (reading-short _ (length (a .work .now)) (a .s .now) (c .if1 .taken)), refl)
 
 ask-requires : tie.Need-ask-requires
 ask-requires c κs = search needs
@@ -23,7 +23,7 @@ same-length c = search needs
 returns-2 : tie.Need-returns-2
 returns-2 c =
     let a = c .before .before .before .before .before .before .before .args in
-    (c .before .before .ask .ensures .0 ∙ sym (reading-long gcr1 (length (a .work .now)) (a .s .now) (search needs)), c .before .before .ask .ensures .1)
+    (c .before .before .ask .ensures .0 ∙ sym (reading-long _ (length (a .work .now)) (a .s .now) (search needs)), c .before .before .ask .ensures .1)
 
 pub read-spec : {M : Type 1} → statement M
 read-spec = tie.close (tie.spec returns ask-requires same-length returns-2)

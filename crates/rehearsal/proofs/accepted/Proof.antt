@@ -7,23 +7,23 @@ use Rattle.rehearsal.proofs.RehearsalLaws.{Accepted, accepted, run-boun
 use Rattle.rehearsal.proofs.accepted.Statement.{statement}
 use Rattle.rehearsal.proofs.accepted.Tie as tie
 
--- questions 20 to 23 got a yes
-right : (c : tie.Start) → let g = c .args in Accepted (g .sites) (g .script .now) (g .rec .now) (g .answers .now)
-right c = let g = c .args in accepted (g .sites) (g .script .now) (g .rec .now) (g .answers .now) (c .pre)
+-- questions 20 to 23 and 40 got a yes
+right : (c : tie.Start) → let g = c .args in Accepted (g .sites) (g .openings .now) (g .script .now) (g .rec .now) (g .answers .now)
+right c = let g = c .args in accepted (g .sites) (g .openings .now) (g .script .now) (g .rec .now) (g .answers .now) (c .pre)
 
 abbrev entry : tie.After-run → tie.Start
-entry c = c .before .before .before .before .before
+entry c = c .before .before .before .before .before .before
 
 small : (c : tie.After-run) → Bounded (c .run .result .count) (c .run .result .events)
-small c = let g = entry c .args in run-bounded (g .sites) (right (entry c) .most) (g .script .now) (c .run .result) (c .run .ensures .1)
+small c = let g = entry c .args in run-bounded (g .sites) (right (entry c) .most) (g .openings .now) (g .script .now) (c .run .result) (c .run .ensures .1)
 
 distinct : (c : tie.After-run) → DistinctStamps (ranStore (c .run .result))
-distinct c = let g = entry c .args in run-distinct (g .sites) (right (entry c) .most) (g .script .now) (c .run .result) (c .run .ensures .1)
+distinct c = let g = entry c .args in run-distinct (g .sites) (right (entry c) .most) (g .openings .now) (g .script .now) (c .run .result) (c .run .ensures .1)
 
 run-requires : tie.Need-run-requires
 run-requires c κs =
-    let a = right (c .before .before .before .before) in
-    (a .most, (a .whole, (a .short, a .answered)))
+    let a = right (c .before .before .before .before .before) in
+    (a .most, (a .opened, (a .whole, (a .short, a .answered))))
 
 cast-write : tie.Need-cast-write
 cast-write c = omega (arith, right (entry (c .before .before)) .most)
@@ -31,7 +31,8 @@ cast-write c = omega (arith, right (entry (c .before .before)) .most)
 write-requires : tie.Need-write-requires
 write-requires c κs =
     let run = c .before .before .before in
-    (small run, (distinct run, right (entry run) .room))
+    let a = right (entry run) in
+    ((a .opened, a .right), (small run, (distinct run, a .room)))
 
 slice-aggregate-outstanding : tie.Need-slice-aggregate-outstanding
 slice-aggregate-outstanding c = search needs
@@ -55,8 +56,8 @@ returns c =
     let write = c .before .before .before .before .before .before .before in
     let run = write .before .before .before .before in
     let g = entry run .args in
-    accepted-rehearses (g .sites) (g .script .now) (g .rec .now) (g .answers .now) (entry run .pre)
-    (λ i. run .before .before .before .before .shared-slice-known .given i .fits) (run .run .result) (run .run .ensures .1) _ _ _ _
+    accepted-rehearses (g .sites) (g .openings .now) (g .script .now) (g .rec .now) (g .answers .now) (entry run .pre)
+    (λ i. run .before .before .before .before .before .shared-slice-known .given i .fits) (λ i. run .before .before .before .before .shared-slice-known2 .given i .fits) (run .run .result) (run .run .ensures .1) _ _ _ _
     (run .run .ensures .0) (write .write .ensures .1) (write .write .ensures .0) (c .outstanding .ensures)
 
 pub accepted-spec : {M : Type 1} → statement M

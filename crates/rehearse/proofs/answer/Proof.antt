@@ -4,8 +4,8 @@ use borrow.Author.Needs.{needs}
 use Rattle.rehearse.proofs.answer.Statement.{statement}
 use Rattle.rehearse.proofs.answer.Tie as tie
 
-rehearse-requires : tie.Need-rehearse-requires
-rehearse-requires c κs = search needs
+opened-requires : tie.Need-opened-requires
+opened-requires c κs = search needs
 
 same-length : tie.Need-same-length
 same-length c = search needs
@@ -16,23 +16,23 @@ same-length-2 c = search needs
 returns : tie.Need-returns
 returns c = search needs
 
-shared-slice-read-rehearse : tie.Need-shared-slice-read-rehearse
-shared-slice-read-rehearse c = search needs
+shared-slice-read-opened : tie.Need-shared-slice-read-opened
+shared-slice-read-opened c = search needs
 
-cast-rehearse : tie.Need-cast-rehearse
-cast-rehearse c = omega (arith, c .shared-slice-known2 .given 0)
+cast-opened : tie.Need-cast-opened
+cast-opened c = omega (arith, c .shared-slice-known2 .given 0)
 
-sub-rehearse : tie.Need-sub-rehearse
-sub-rehearse c = search needs
+sub-opened : tie.Need-sub-opened
+sub-opened c = search needs
 
-part-rehearse-start : tie.Need-part-rehearse-start
-part-rehearse-start c = search needs
+part-opened-start : tie.Need-part-opened-start
+part-opened-start c = search needs
 
-part-rehearse-end : tie.Need-part-rehearse-end
-part-rehearse-end c = search needs
+part-opened-end : tie.Need-part-opened-end
+part-opened-end c = search needs
 
-rehearse-requires-2 : tie.Need-rehearse-requires-2
-rehearse-requires-2 c κs = search needs
+opened-requires-2 : tie.Need-opened-requires-2
+opened-requires-2 c κs = search needs
 
 same-length-3 : tie.Need-same-length-3
 same-length-3 c = search needs
@@ -47,16 +47,16 @@ pub answer-spec : {M : Type 1} → statement M
 answer-spec =
     tie.close
     (tie.spec
-    rehearse-requires
+    opened-requires
     same-length
     same-length-2
     returns
-    shared-slice-read-rehearse
-    cast-rehearse
-    sub-rehearse
-    part-rehearse-start
-    part-rehearse-end
-    rehearse-requires-2
+    shared-slice-read-opened
+    cast-opened
+    sub-opened
+    part-opened-start
+    part-opened-end
+    opened-requires-2
     same-length-3
     same-length-4
     returns-2)

@@ -10,10 +10,10 @@ use Rattle.rehearse.proofs.rehearse.Statement.{statement}
 use Rattle.rehearse.proofs.rehearse.Tie as tie
 
 -- the record is in its buffer
-inside : (c : tie.After-rehearse) → let r = c .rehearse in r .result .length ≤ length (r .last .1 .1 .0)
+inside : (c : tie.After-rehearse) → let r = c .rehearse in r .result .length ≤ length (r .last .1 .1 .1 .0)
 inside c =
-    let g = c .before .before .before .before .before .before .args in
-    record-inside (g .sites) (g .script .now) (g .rec .now) (g .answers .now) _ _ (c .rehearse .result) (c .rehearse .ensures .0)
+    let g = c .before .before .before .before .before .before .before .args in
+    record-inside (g .sites) (g .openings .now) (g .script .now) (g .rec .now) (g .answers .now) _ _ (c .rehearse .result) (c .rehearse .ensures .0)
 
 rehearse-requires : tie.Need-rehearse-requires
 rehearse-requires c κs = search needs
@@ -36,7 +36,7 @@ slice-reshare-prefix-write-all c = omega (arith, inside (c .before .before .befo
 slice-aggregate-write-all : tie.Need-slice-aggregate-write-all
 slice-aggregate-write-all c =
     let r = c .before .before .before .before .before .before .before in
-    sym (length-take-le (r .rehearse .result .length) (r .rehearse .last .1 .1 .0) (inside r))
+    sym (length-take-le (r .rehearse .result .length) (r .rehearse .last .1 .1 .1 .0) (inside r))
 
 write-all-requires : tie.Need-write-all-requires
 write-all-requires c κs = search needs

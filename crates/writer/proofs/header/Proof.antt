@@ -3,7 +3,7 @@ use mathlib.Core.Path.{refl, _∙_}
 use native.Mathlib.Omega.{arith}
 use lib.ListN.{length-set}
 use borrow.Author.Needs.{needs}
-use Rattle.record.specs.Layout.{gcr1}
+use Rattle.record.specs.Layout.{gcr2}
 use Rattle.record.proofs.WrittenLaws.{header-stored}
 use Rattle.writer.proofs.header.Statement.{statement}
 use Rattle.writer.proofs.header.Tie as tie
@@ -33,7 +33,7 @@ returns c =
     let count = c .before .before in
     let letters = count .before .before .before .before in
     let a = letters .before .before .before .before .args in
-    header-stored (gcr1 .letters) (a .s .now) _ _ (a .n) (a .sites) refl (omega arith) (letters .copy .ensures .1) (count .put-u16 .ensures)
+    header-stored (gcr2 .letters) (a .s .now) _ _ (a .n) (a .sites) refl (omega arith) (letters .copy .ensures .1) (count .put-u16 .ensures)
 
 pub header-spec : {M : Type 1} → statement M
 header-spec =

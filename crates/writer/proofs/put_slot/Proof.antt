@@ -3,7 +3,7 @@ use mathlib.Core.Path.{_∙_, ap}
 use Prim.Native.Nat.{ℕ}
 use lib.Seq.{sets}
 use borrow.Author.Needs.{needs}
-use Rattle.record.specs.Layout.{gcr1}
+use Rattle.record.specs.Layout.{gcr2}
 use Rattle.record.specs.Encode.{slotBytes}
 use Rattle.record.proofs.SlotStored.{slot-stored}
 use Rattle.writer.proofs.put_slot.Statement.{statement}
@@ -61,7 +61,7 @@ returns c =
     slot-stored h (a .e) (a .x) of (first .before .first-word .result) (second .before .second-word .result) (first .before .first-word .ensures) (second .before .second-word .ensures)
     (a .s .now) _ _ _ _ _ (place .slot-at .result)
     (first .put-u64 .ensures) (second .put-u642 .ensures) (third .put-u643 .ensures) (fourth .put-u644 .ensures) (sees .put-row .ensures)
-    ∙ ap (λ (p : ℕ). sets (a .s .now) p (slotBytes gcr1 h (a .e))) (place .slot-at .ensures)
+    ∙ ap (λ (p : ℕ). sets (a .s .now) p (slotBytes gcr2 h (a .e))) (place .slot-at .ensures)
 
 pub put-slot-spec : {M : Type 1} → statement M
 put-slot-spec =

@@ -1,9 +1,9 @@
 //! Records to draw.
 
 use second::generate::random::Random;
-use second::generate::shapes;
+use second::generate::{openings, shapes};
 use second::record::{Event, Record};
-use second::store::{run_script, Call};
+use second::store::{Call, Store};
 
 /// Records of every shape and of a moderate size, each with a number to tell it by.
 pub fn random() -> impl Iterator<Item = (u64, Record)> {
@@ -21,14 +21,18 @@ fn of_seed(seed: u64) -> Record {
             let n = random.index(8);
             shapes::record(&mut random, n)
         }
-        _ => {
+        2 => {
             let n = random.index(45);
             shapes::record(&mut random, n)
+        }
+        _ => {
+            let n = random.index(45);
+            shapes::of_either_edition(&mut random, n)
         }
     }
 }
 
-/// What a store leaves after random calls.
+/// What a store leaves after random calls, begun with random openings.
 pub fn rehearsed(random: &mut Random, sites: usize, calls: usize) -> Record {
     let mut script = Vec::new();
     for _ in 0..calls {
@@ -40,7 +44,9 @@ pub fn rehearsed(random: &mut Random, sites: usize, calls: usize) -> Record {
         };
         script.extend(call.to_bytes());
     }
-    run_script(sites, &script, &mut vec![0; script.len()]).record()
+    let mut store = Store::opened(sites, openings::openings(random));
+    store.run(&script, &mut vec![0; script.len()]);
+    store.record()
 }
 
 /// The largest records: one site and eight, each event sees a part of those before it.
@@ -70,5 +76,7 @@ pub fn shipped() -> Vec<Record> {
     let stale_read = include_bytes!("../../../../records/stale-read.gcr");
     let stale_value = include_bytes!("../../../../records/stale-value.gcr");
     let empty = include_bytes!("../../../../records/empty-one-site.gcr");
-    [&listing[..], stale_read, stale_value, empty].map(Record::from_bytes).to_vec()
+    let opening = include_bytes!("../../../../records/opening.gcr");
+    let stale_opening = include_bytes!("../../../../records/stale-opening.gcr");
+    [&listing[..], stale_read, stale_value, empty, opening, stale_opening].map(Record::from_bytes).to_vec()
 }

@@ -107,7 +107,12 @@ impl Facts<'_> {
     fn of_value(&self, part: &str, shape: &str, numbers: &[usize]) -> Option<bool> {
         Some(match (shape, numbers) {
             (shape, _) if shape.contains(" holds ") => self.holds(part),
-            ("it sees no write on object #", &[object]) => self.last_write(object).is_none(),
+            ("it sees no write on object #, which has no opening", &[object]) => {
+                self.last_write(object).is_none() && self.opening(object).is_none()
+            }
+            ("it sees no write on object #, whose opening is #", &[object, opening]) => {
+                self.last_write(object).is_none() && self.opening(object) == Some(opening as u32)
+            }
             ("of the writes on object # that it sees, event # is the last in arbitration", &[object, last]) => {
                 self.last_write(object) == Some(last)
             }
@@ -120,14 +125,23 @@ impl Facts<'_> {
         returned_before(a, b) && (a.end, b.start) == (numbers[1] as u64, numbers[3] as u64)
     }
 
-    /// `event 2 holds 7, not 8`: the value that the read has, and the one that its last visible write has.
+    /// `event 2 holds 7, not 8`: the value that the read has, and the one that its last visible write has, or where there
+    /// is none its object's opening.
     fn holds(&self, part: &str) -> bool {
         let (_, values) = part.split_once(" holds ").expect("it is there");
         let (held, due) = values.split_once(", not ").expect("it is there");
         let read = &self.record.events[self.subject];
         let text = |value: Option<u32>| value.map_or("none".to_string(), |value| value.to_string());
-        let last = self.last_write(read.object.into()).and_then(|write| self.record.events[write].value);
-        read.is_read() && !read.pending && held != due && text(read.value) == held && text(last) == due
+        let object = read.object.into();
+        let right = match self.last_write(object) {
+            Some(write) => self.record.events[write].value,
+            None => self.opening(object),
+        };
+        read.is_read() && !read.pending && held != due && text(read.value) == held && text(right) == due
+    }
+
+    fn opening(&self, object: usize) -> Option<u32> {
+        self.record.edition.openings().of(object)
     }
 
     fn last_write(&self, object: usize) -> Option<usize> {

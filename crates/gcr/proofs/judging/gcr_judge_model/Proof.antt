@@ -1,7 +1,7 @@
 -- `gcr::judging::gcr_judge_model` meets its contract: the parts of a judgment fit into a host's number. Assumes nothing.
 use mathlib.Core.Path.{ap, _∙_}
 use borrow.Author.Needs.{needs}
-use Rattle.record.specs.Layout.{gcr1}
+use Rattle.record.specs.Layout.{editionOf}
 use Rattle.judge.specs.Judgments.{modelJudgment, packedJudgment}
 use Rattle.judge.proofs.JudgmentLaws.{model-fits, fitting-small}
 use Rattle.gcr.proofs.judging.gcr_judge_model.Statement.{statement}
@@ -16,7 +16,7 @@ judge-model-requires c κs = search needs
 pack-requires : tie.Need-pack-requires
 pack-requires c κs =
     let a = c .before .before .before .before .args in
-    rw (c .before .judge-model .ensures .0) (fitting-small (modelJudgment gcr1 1024 (a .model) (a .s .now)) (model-fits (a .s .now) 1024 (a .model)))
+    rw (c .before .judge-model .ensures .0) (fitting-small (modelJudgment (editionOf (a .s .now)) 1024 (a .model) (a .s .now)) (model-fits (a .s .now) 1024 (a .model)))
 
 returns : tie.Need-returns
 returns c = c .pack .ensures ∙ ap packedJudgment (c .before .before .judge-model .ensures .0)

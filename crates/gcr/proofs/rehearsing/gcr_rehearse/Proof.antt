@@ -10,8 +10,8 @@ use Rattle.gcr.proofs.rehearsing.gcr_rehearse.Tie as tie
 -- the parts fit
 small : (c : tie.After-rehearse) → SmallResult (c .rehearse .result)
 small c =
-    let g = c .before .before .before .before .before .before .args in
-    result-small (g .sites) (g .script .now) (g .rec .now) (g .answers .now) _ _ (c .rehearse .result) (c .rehearse .ensures .0)
+    let g = c .before .before .before .before .before .before .before .args in
+    result-small (g .sites) (g .openings .now) (g .script .now) (g .rec .now) (g .answers .now) _ _ (c .rehearse .result) (c .rehearse .ensures .0)
 
 rehearse-requires : tie.Need-rehearse-requires
 rehearse-requires c κs = search needs

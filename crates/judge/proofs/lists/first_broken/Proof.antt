@@ -3,8 +3,8 @@ use mathlib.Core.Path.{_≡_, sym, _∙_}
 use Prim.Native.Nat.{_-_, _≤_}
 use native.Mathlib.Omega.{arith}
 use lib.ListN.{drop}
-use Rattle.record.specs.History.{History}
-use Rattle.record.specs.Words.{historyFrom}
+use Rattle.record.specs.History.{History, under}
+use Rattle.record.specs.Words.{historyFrom, termsFrom}
 use Rattle.consistency.specs.Models.{firstBroken}
 use Rattle.judge.specs.Lists.{upToZero}
 use Rattle.judge.proofs.ListLaws.{left-end, left-past, left-met, left-broken}
@@ -13,78 +13,65 @@ use Rattle.judge.proofs.lists.first_broken.Statement.{statement}
 use Rattle.judge.proofs.lists.first_broken.Tie as tie
 
 abbrev Inv-loop : tie.InvT-loop
-Inv-loop l v n list groups t k₀ k =
-    (k ≤ 4) × (firstBroken (upToZero list) (historyFrom n 4 l v) ≡ firstBroken (upToZero (drop k list)) (historyFrom n 4 l v))
+Inv-loop l v terms n list groups t k₀ k =
+    (k ≤ 4) × (firstBroken (upToZero list) (under (termsFrom terms) (historyFrom n 4 l v)) ≡ firstBroken (upToZero (drop k list)) (under (termsFrom terms) (historyFrom n 4 l v)))
 
 abbrev μ-loop : tie.MeasureT-loop
-μ-loop l v n list groups t k₀ k = 4 - k
+μ-loop l v terms n list groups t k₀ k = 4 - k
 
 abbrev history : tie.Start Inv-loop μ-loop → History
-history s = historyFrom (s .args .n) 4 (s .args .l .now) (s .args .v .now)
+history s = under (termsFrom (s .args .terms .now)) (historyFrom (s .args .n) 4 (s .args .l .now) (s .args .v .now))
 
--- src/lists.rt:68:27
 slice-aggregate-fill : tie.Need-slice-aggregate-fill Inv-loop μ-loop
 slice-aggregate-fill c = search needs
 
--- src/lists.rt:68:5
 fill-requires : tie.Need-fill-requires Inv-loop μ-loop
-fill-requires c κs = let g = c .before .before .before .pre .0 in ((g .heads, g .rows .wide, omega arith, omega arith), omega arith)
+fill-requires c κs = let g = c .before .before .before .before .pre .0 in ((g .heads, g .rows .wide, omega arith, omega arith), omega arith)
 
--- src/lists.rt:70:32
 slice-aggregate-prepare : tie.Need-slice-aggregate-prepare Inv-loop μ-loop
 slice-aggregate-prepare c = search needs
 
--- src/lists.rt:70:41
 slice-aggregate-prepare-2 : tie.Need-slice-aggregate-prepare-2 Inv-loop μ-loop
 slice-aggregate-prepare-2 c = search needs
 
--- src/lists.rt:70:5
 prepare-requires : tie.Need-prepare-requires Inv-loop μ-loop
-prepare-requires c κs = let g = c .before .before .before .before .before .before .before .pre .0 in (g, c .before .before .before .fill .ensures .0, omega (arith, g .rows .wide))
+prepare-requires c κs = let g = c .before .before .before .before .before .before .before .before .pre .0 in (g, c .before .before .before .fill .ensures .0, omega (arith, g .rows .wide))
 
--- src/lists.rt:71:5
 loop-holds : tie.Need-loop-holds Inv-loop μ-loop
 loop-holds c = search needs
 
--- src/lists.rt:72:22
 array-read-number : tie.Need-array-read-number Inv-loop μ-loop
 array-read-number c = search needs
 
--- src/lists.rt:74:13
 returns : tie.Need-returns Inv-loop μ-loop
 returns c =
-    let s = c .before .before .before .before .before .before .before .before .before .before .before .before in
+    let s = c .before .before .before .before .before .before .before .before .before .before .before .before .before in
     let l = c .before .before .loop in
     sym (l .inv .1 ∙ left-end (history s) (s .args .t1) (l .k) (c .if1 .taken))
 
--- src/lists.rt:76:13
 by-number-requires : tie.Need-by-number-requires Inv-loop μ-loop
-by-number-requires c κs = (omega arith, c .before .before .before .before .before .before .before .before .before .before .before .before .pre .1 .small (c .before .before .loop .k))
+by-number-requires c κs = (omega arith, c .before .before .before .before .before .before .before .before .before .before .before .before .before .pre .1 .small (c .before .before .loop .k))
 
--- src/lists.rt:77:49
 slice-aggregate-judge : tie.Need-slice-aggregate-judge Inv-loop μ-loop
 slice-aggregate-judge c = search needs
 
--- src/lists.rt:77:58
 slice-aggregate-judge-2 : tie.Need-slice-aggregate-judge-2 Inv-loop μ-loop
 slice-aggregate-judge-2 c = search needs
 
--- src/lists.rt:77:13
 judge-requires : tie.Need-judge-requires Inv-loop μ-loop
-judge-requires c κs = ((c .before .before .before .before .before .before .before .before .before .before .before .before .before .before .before .pre .0, c .before .before .before .before .before .before .before .before .before .before .before .fill .ensures .0), c .before .before .before .before .before .before .before .prepare .ensures .0)
+judge-requires c κs =
+    let p = c .before .before .before .before .before .before .before .before .before .before .before .before .before .before .before .before .pre in
+    ((p .0, c .before .before .before .before .before .before .before .before .before .before .before .fill .ensures .0, p .2), c .before .before .before .before .before .before .before .prepare .ensures .0)
 
--- src/lists.rt:78:32
 enum-known-found : tie.Need-enum-known-found Inv-loop μ-loop
 enum-known-found c = search needs
 
--- src/lists.rt:79:38
-cast-t29 : tie.Need-cast-t29 Inv-loop μ-loop
-cast-t29 c = omega (arith, c .before .before .before .before .before .before .before .before .before .before .before .before .before .before .before .before .before .before .before .pre .1 .small (c .before .before .before .before .before .before .before .before .before .loop .k))
+cast-t30 : tie.Need-cast-t30 Inv-loop μ-loop
+cast-t30 c = omega (arith, c .before .before .before .before .before .before .before .before .before .before .before .before .before .before .before .before .before .before .before .before .pre .1 .small (c .before .before .before .before .before .before .before .before .before .loop .k))
 
--- src/lists.rt:79:13
 returns-2 : tie.Need-returns-2 Inv-loop μ-loop
 returns-2 c =
-    let s = c .before .before .before .before .before .before .before .before .before .before .before .before .before .before .before .before .before .before .before in
+    let s = c .before .before .before .before .before .before .before .before .before .before .before .before .before .before .before .before .before .before .before .before in
     let l = c .before .before .before .before .before .before .before .before .before .loop in
     let b = c .before .before .before .before .before .before .by-number in
     let j = c .before .before .before .judge in
@@ -94,27 +81,23 @@ returns-2 c =
 enum-told : tie.Need-enum-told Inv-loop μ-loop
 enum-told c = search needs
 
--- src/lists.rt:71:9
 add-k : tie.Need-add-k Inv-loop μ-loop
 add-k c = search needs
 
--- src/lists.rt:71:5
 loop-less : tie.Need-loop-less Inv-loop μ-loop
 loop-less c = search needs
 
--- src/lists.rt:71:5
 loop-again : tie.Need-loop-again Inv-loop μ-loop
 loop-again c =
-    let s = c .before .before .before .before .before .before .before .before .before .before .before .before .before .before .before .before .before .before in
+    let s = c .before .before .before .before .before .before .before .before .before .before .before .before .before .before .before .before .before .before .before in
     let l = c .before .before .before .before .before .before .before .before .loop in
     let b = c .before .before .before .before .before .by-number in
     let j = c .before .before .judge in
     (omega (arith, c .before .before .before .before .before .before .before .loop-test .taken), left-met (history s) (s .args .t1) (l .k) (c .before .before .before .before .before .before .if1 .left) (b .result) (j .result) (b .ensures) (j .ensures) _ (l .inv .1) (c .enum-told .given .1))
 
--- src/lists.rt:63:1
 returns-3 : tie.Need-returns-3 Inv-loop μ-loop
 returns-3 c =
-    let s = c .before .before .before .before .before .before .before .before .before .before .before in
+    let s = c .before .before .before .before .before .before .before .before .before .before .before .before in
     let l = c .before .loop in
     sym (l .inv .1 ∙ left-past (history s) (s .args .t1) (l .k) (s .pre .1) (omega arith))
 
@@ -137,7 +120,7 @@ first-broken-spec =
     slice-aggregate-judge-2
     judge-requires
     enum-known-found
-    cast-t29
+    cast-t30
     returns-2
     enum-told
     add-k

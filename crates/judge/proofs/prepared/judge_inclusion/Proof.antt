@@ -9,55 +9,42 @@ use Rattle.judge.proofs.prepared.judge_inclusion.Reads as reads
 use Rattle.judge.proofs.prepared.judge_inclusion.Lts as lts
 use Rattle.pairs.proofs.inclusion.first_outside.Reads as first-outside-reads
 
--- src/prepared.rt:69:13
 mul-a : tie.Need-mul-a
 mul-a c = search needs
 
--- src/prepared.rt:70:13
 mul-b : tie.Need-mul-b
 mul-b c = search needs
 
--- src/prepared.rt:71:62
 add-first-outside : tie.Need-add-first-outside
 add-first-outside c = search needs
 
--- src/prepared.rt:71:51
 mul-first-outside : tie.Need-mul-first-outside
 mul-first-outside c = search needs
 
--- src/prepared.rt:71:51
 sub-first-outside : tie.Need-sub-first-outside
 sub-first-outside c = search needs
 
--- src/prepared.rt:71:51
 part-first-outside-start : tie.Need-part-first-outside-start
 part-first-outside-start c = search needs
 
--- src/prepared.rt:71:51
 part-first-outside-end : tie.Need-part-first-outside-end
 part-first-outside-end c = search needs
 
--- src/prepared.rt:71:81
 add-first-outside-2 : tie.Need-add-first-outside-2
 add-first-outside-2 c = search needs
 
--- src/prepared.rt:71:70
 mul-first-outside-2 : tie.Need-mul-first-outside-2
 mul-first-outside-2 c = search needs
 
--- src/prepared.rt:71:70
 sub-first-outside-2 : tie.Need-sub-first-outside-2
 sub-first-outside-2 c = search needs
 
--- src/prepared.rt:71:70
 part-first-outside-start-2 : tie.Need-part-first-outside-start-2
 part-first-outside-start-2 c = search needs
 
--- src/prepared.rt:71:70
 part-first-outside-end-2 : tie.Need-part-first-outside-end-2
 part-first-outside-end-2 c = search needs
 
--- src/prepared.rt:71:5
 first-outside-requires : tie.Need-first-outside-requires
 first-outside-requires c κs =
     let s = c .before .before .before .before .before in
@@ -67,7 +54,6 @@ first-outside-requires c κs =
     let ends = length-ends (a .n) (a .groups .now) (a .starts) (a .ends) (p .3) (p .4) (p .5) in
     (rw (starts, ends) (omega arith), (rw starts (omega arith), ends-whole (a .n) (a .groups .now) (a .starts) (a .ends) (p .3) (p .4) (p .5) (s .pre .1)))
 
--- src/prepared.rt:57:1
 returns : tie.Need-returns
 returns c =
     let s = c .before .before .before .before .before .before in

@@ -8,70 +8,54 @@ use borrow.Author.Needs.{needs}
 use Rattle.judge.proofs.prepared.prepare.Statement.{statement}
 use Rattle.judge.proofs.prepared.prepare.Tie as tie
 
--- src/prepared.rt:48:16
 mul-size : tie.Need-mul-size
 mul-size c = search needs
 
--- src/prepared.rt:49:17
 mul-steps : tie.Need-mul-steps
 mul-steps c = search needs
 
--- src/prepared.rt:50:21
 mul-positions : tie.Need-mul-positions
 mul-positions c = search needs
 
--- src/prepared.rt:51:5
 sweep-requires : tie.Need-sweep-requires
 sweep-requires c κs = search needs
 
--- src/prepared.rt:52:34
 add-close : tie.Need-add-close
 add-close c = search needs
 
--- src/prepared.rt:52:20
 mul-close : tie.Need-mul-close
 mul-close c = search needs
 
--- src/prepared.rt:52:20
 sub-close : tie.Need-sub-close
 sub-close c = search needs
 
--- src/prepared.rt:52:20
 part-close-start : tie.Need-part-close-start
 part-close-start c = search needs
 
--- src/prepared.rt:52:20
 part-close-end : tie.Need-part-close-end
 part-close-end c = search needs
 
--- src/prepared.rt:52:5
 close-requires : tie.Need-close-requires
 close-requires c κs =
     let s = c .before .before .before .before .before .before .before .before .before in
     let w = c .before .before .before .sweep in
     (steps-graph (s .args .n) (s .args .l .now) (s .args .v .now) (w .last .1 .1 .1 .1 .1 .0) (s .pre .0) (w .ensures .0) (omega (arith, s .pre .2, w .ensures .1 .0)), omega arith)
 
--- src/prepared.rt:53:50
 add-fill : tie.Need-add-fill
 add-fill c = search needs
 
--- src/prepared.rt:53:32
 mul-fill : tie.Need-mul-fill
 mul-fill c = search needs
 
--- src/prepared.rt:53:32
 sub-fill : tie.Need-sub-fill
 sub-fill c = search needs
 
--- src/prepared.rt:53:32
 part-fill-start : tie.Need-part-fill-start
 part-fill-start c = search needs
 
--- src/prepared.rt:53:32
 part-fill-end : tie.Need-part-fill-end
 part-fill-end c = search needs
 
--- src/prepared.rt:53:5
 fill-requires : tie.Need-fill-requires
 fill-requires c κs =
     let s = c .before .before .before .before .before .before .before .before .before .before .before .before .before in
@@ -80,11 +64,9 @@ fill-requires c κs =
     let long = positions-long (s .args .n) (s .args .l .now) (s .args .v .now) (w .last .1 .1 .1 .1 .1 .0) (s .pre .0) (w .ensures .0) (omega (arith, s .pre .2, w .ensures .1 .0)) (k .last .0) (k .ensures) in
     (s .pre .0 .heads, s .pre .0 .rows .wide, omega arith, omega (arith, long), s .pre .0 .placed)
 
--- src/prepared.rt:43:1
 same-length : tie.Need-same-length
 same-length c = search needs
 
--- src/prepared.rt:43:1
 returns : tie.Need-returns
 returns c =
     let s = c .before .before .before .before .before .before .before .before .before .before .before .before .before .before .before .before in

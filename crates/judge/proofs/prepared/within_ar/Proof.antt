@@ -9,63 +9,48 @@ use Rattle.judge.proofs.prepared.within_ar.Reads as reads
 use Rattle.judge.proofs.prepared.within_ar.Lts as lts
 use Rattle.judge.proofs.prepared.judge_inclusion.Reads as judge-inclusion-reads
 
--- src/prepared.rt:80:16
 mul-size : tie.Need-mul-size
 mul-size c = search needs
 
--- src/prepared.rt:81:14
 mul-at : tie.Need-mul-at
 mul-at c = omega (arith, part-end (c .before .before .args .n) (c .before .before .args .k) (omega arith))
 
--- src/prepared.rt:82:14
 mul-ar : tie.Need-mul-ar
 mul-ar c = search needs
 
--- src/prepared.rt:85:16
 add-judge-inclusion : tie.Need-add-judge-inclusion
 add-judge-inclusion c = omega (arith, part-end (c .before .before .args .n) (c .before .before .args .k) (omega arith))
 
--- src/prepared.rt:85:9
 mul-judge-inclusion : tie.Need-mul-judge-inclusion
 mul-judge-inclusion c = omega (arith, part-end (c .before .before .args .n) (c .before .before .args .k) (omega arith))
 
--- src/prepared.rt:85:9
 sub-judge-inclusion : tie.Need-sub-judge-inclusion
 sub-judge-inclusion c = search needs
 
--- src/prepared.rt:85:9
 part-judge-inclusion-start : tie.Need-part-judge-inclusion-start
 part-judge-inclusion-start c = search needs
 
--- src/prepared.rt:85:9
 part-judge-inclusion-end : tie.Need-part-judge-inclusion-end
 part-judge-inclusion-end c = omega (arith, part-end (c .before .before .args .n) (c .before .before .args .k) (omega arith))
 
--- src/prepared.rt:89:16
 add-judge-inclusion-2 : tie.Need-add-judge-inclusion-2
 add-judge-inclusion-2 c = search needs
 
--- src/prepared.rt:89:9
 mul-judge-inclusion-2 : tie.Need-mul-judge-inclusion-2
 mul-judge-inclusion-2 c = search needs
 
--- src/prepared.rt:89:9
 sub-judge-inclusion-2 : tie.Need-sub-judge-inclusion-2
 sub-judge-inclusion-2 c = search needs
 
--- src/prepared.rt:89:9
 part-judge-inclusion-start-2 : tie.Need-part-judge-inclusion-start-2
 part-judge-inclusion-start-2 c = search needs
 
--- src/prepared.rt:89:9
 part-judge-inclusion-end-2 : tie.Need-part-judge-inclusion-end-2
 part-judge-inclusion-end-2 c = search needs
 
--- src/prepared.rt:83:5
 judge-inclusion-requires : tie.Need-judge-inclusion-requires
 judge-inclusion-requires c κs = search needs
 
--- src/prepared.rt:75:1
 returns : tie.Need-returns
 returns c = rw (add-sub-cancel-left, add-sub-cancel-left) at (c .judge-inclusion .ensures)
 

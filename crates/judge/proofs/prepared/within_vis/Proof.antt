@@ -9,39 +9,30 @@ use Rattle.judge.proofs.prepared.within_vis.Reads as reads
 use Rattle.judge.proofs.prepared.within_vis.Lts as lts
 use Rattle.judge.proofs.prepared.judge_inclusion.Reads as judge-inclusion-reads
 
--- src/prepared.rt:107:16
 mul-size : tie.Need-mul-size
 mul-size c = search needs
 
--- src/prepared.rt:108:14
 mul-at : tie.Need-mul-at
 mul-at c = omega (arith, part-end (c .before .before .before .args .n) (c .before .before .before .args .k) (omega arith))
 
--- src/prepared.rt:109:31
 add-judge-inclusion : tie.Need-add-judge-inclusion
 add-judge-inclusion c = omega (arith, part-end (c .before .before .before .args .n) (c .before .before .before .args .k) (omega arith))
 
--- src/prepared.rt:109:24
 mul-judge-inclusion : tie.Need-mul-judge-inclusion
 mul-judge-inclusion c = omega (arith, part-end (c .before .before .before .args .n) (c .before .before .before .args .k) (omega arith))
 
--- src/prepared.rt:109:24
 sub-judge-inclusion : tie.Need-sub-judge-inclusion
 sub-judge-inclusion c = search needs
 
--- src/prepared.rt:109:24
 part-judge-inclusion-start : tie.Need-part-judge-inclusion-start
 part-judge-inclusion-start c = search needs
 
--- src/prepared.rt:109:24
 part-judge-inclusion-end : tie.Need-part-judge-inclusion-end
 part-judge-inclusion-end c = omega (arith, part-end (c .before .before .before .args .n) (c .before .before .before .args .k) (omega arith))
 
--- src/prepared.rt:109:5
 judge-inclusion-requires : tie.Need-judge-inclusion-requires
 judge-inclusion-requires c κs = search needs
 
--- src/prepared.rt:94:1
 returns : tie.Need-returns
 returns c = rw add-sub-cancel-left at (c .judge-inclusion .ensures)
 

@@ -3,8 +3,8 @@ use mathlib.Core.Path.{_≡_, refl, _∙_}
 use Prim.Native.Nat.{_-_, _≤_}
 use native.Mathlib.Omega.{arith}
 use lib.ListN.{length, take, length-set}
-use Rattle.record.specs.History.{History}
-use Rattle.record.specs.Words.{historyFrom}
+use Rattle.record.specs.History.{History, under}
+use Rattle.record.specs.Words.{historyFrom, termsFrom}
 use Rattle.judge.specs.Lists.{packedVerdicts}
 use Rattle.judge.proofs.ThirteenLaws.{packed-small, packed-more, packed-all}
 use borrow.Author.Needs.{needs}
@@ -12,98 +12,81 @@ use Rattle.judge.proofs.thirteen.verdicts.Statement.{statement}
 use Rattle.judge.proofs.thirteen.verdicts.Tie as tie
 
 abbrev Inv-loop : tie.InvT-loop
-Inv-loop l v n groups t answers₀ k₀ answers k =
-    (k ≤ 13) × (length answers ≡ 13) × (take k answers ≡ packedVerdicts k (historyFrom n 4 l v))
+Inv-loop l v terms n groups t answers₀ k₀ answers k =
+    (k ≤ 13) × (length answers ≡ 13) × (take k answers ≡ packedVerdicts k (under (termsFrom terms) (historyFrom n 4 l v)))
 
 abbrev μ-loop : tie.MeasureT-loop
-μ-loop l v n groups t answers₀ k₀ answers k = 13 - k
+μ-loop l v terms n groups t answers₀ k₀ answers k = 13 - k
 
 abbrev history : tie.Start Inv-loop μ-loop → History
-history s = historyFrom (s .args .n) 4 (s .args .l .now) (s .args .v .now)
+history s = under (termsFrom (s .args .terms .now)) (historyFrom (s .args .n) 4 (s .args .l .now) (s .args .v .now))
 
--- src/thirteen.rt:29:27
 slice-aggregate-fill : tie.Need-slice-aggregate-fill Inv-loop μ-loop
 slice-aggregate-fill c = search needs
 
--- src/thirteen.rt:29:5
 fill-requires : tie.Need-fill-requires Inv-loop μ-loop
-fill-requires c κs = let g = c .before .before .before .pre in ((g .heads, g .rows .wide, omega arith, omega arith), omega arith)
+fill-requires c κs = let g = c .before .before .before .before .pre .0 in ((g .heads, g .rows .wide, omega arith, omega arith), omega arith)
 
--- src/thirteen.rt:31:32
 slice-aggregate-prepare : tie.Need-slice-aggregate-prepare Inv-loop μ-loop
 slice-aggregate-prepare c = search needs
 
--- src/thirteen.rt:31:41
 slice-aggregate-prepare-2 : tie.Need-slice-aggregate-prepare-2 Inv-loop μ-loop
 slice-aggregate-prepare-2 c = search needs
 
--- src/thirteen.rt:31:5
 prepare-requires : tie.Need-prepare-requires Inv-loop μ-loop
-prepare-requires c κs = let g = c .before .before .before .before .before .before .before .pre in (g, c .before .before .before .fill .ensures .0, omega (arith, g .rows .wide))
+prepare-requires c κs = let g = c .before .before .before .before .before .before .before .before .pre .0 in (g, c .before .before .before .fill .ensures .0, omega (arith, g .rows .wide))
 
--- src/thirteen.rt:33:5
 loop-holds : tie.Need-loop-holds Inv-loop μ-loop
 unfolding packedVerdicts
 loop-holds c = (omega arith, refl, refl)
 
--- src/thirteen.rt:34:34
 cast-by-number : tie.Need-cast-by-number Inv-loop μ-loop
 cast-by-number c = search needs
 
--- src/thirteen.rt:34:34
 add-by-number : tie.Need-add-by-number Inv-loop μ-loop
 add-by-number c = search needs
 
--- src/thirteen.rt:34:13
 by-number-requires : tie.Need-by-number-requires Inv-loop μ-loop
 by-number-requires c κs = search needs
 
--- src/thirteen.rt:35:49
 slice-aggregate-judge : tie.Need-slice-aggregate-judge Inv-loop μ-loop
 slice-aggregate-judge c = search needs
 
--- src/thirteen.rt:35:58
 slice-aggregate-judge-2 : tie.Need-slice-aggregate-judge-2 Inv-loop μ-loop
 slice-aggregate-judge-2 c = search needs
 
--- src/thirteen.rt:35:13
 judge-requires : tie.Need-judge-requires Inv-loop μ-loop
-judge-requires c κs = ((c .before .before .before .before .before .before .before .before .before .before .before .before .before .before .pre, c .before .before .before .before .before .before .before .before .before .before .fill .ensures .0), c .before .before .before .before .before .before .prepare .ensures .0)
+judge-requires c κs =
+    let p = c .before .before .before .before .before .before .before .before .before .before .before .before .before .before .before .pre in
+    ((p .0, c .before .before .before .before .before .before .before .before .before .before .fill .ensures .0, p .1), c .before .before .before .before .before .before .prepare .ensures .0)
 
--- src/thirteen.rt:36:22
 pack-requires : tie.Need-pack-requires Inv-loop μ-loop
 unfolding historyFrom
-pack-requires c κs = let s = c .before .before .before .before .before .before .before .before .before .before .before .before .before .before .before in packed-small (c .before .before .before .by-number .result) (history s) (c .judge .result) (s .pre .rows .wide) (c .judge .ensures)
+pack-requires c κs = let s = c .before .before .before .before .before .before .before .before .before .before .before .before .before .before .before .before in packed-small (c .before .before .before .by-number .result) (history s) (c .judge .result) (s .pre .0 .rows .wide) (c .judge .ensures)
 
--- src/thirteen.rt:36:9
 mul-answers : tie.Need-mul-answers Inv-loop μ-loop
 mul-answers c = search needs
 
--- src/thirteen.rt:36:9
 array-write-answers : tie.Need-array-write-answers Inv-loop μ-loop
 array-write-answers c = search needs
 
--- src/thirteen.rt:33:9
 add-k : tie.Need-add-k Inv-loop μ-loop
 add-k c = search needs
 
--- src/thirteen.rt:33:5
 loop-less : tie.Need-loop-less Inv-loop μ-loop
 loop-less c = search needs
 
--- src/thirteen.rt:33:5
 loop-again : tie.Need-loop-again Inv-loop μ-loop
 loop-again c =
-    let s = c .before .before .before .before .before .before .before .before .before .before .before .before .before .before .before .before in
+    let s = c .before .before .before .before .before .before .before .before .before .before .before .before .before .before .before .before .before in
     let l = c .before .before .before .before .before .before .loop in
     let b = c .before .before .before .before .by-number in
     let j = c .before .judge in
     let h = c .before .before .before .before .before .loop-test .taken in
     (omega (arith, h), length-set (l .answers) (l .k) (c .pack .result) ∙ l .inv .1, packed-more (history s) (l .answers) (l .k) (l .inv .2) (b .result) (j .result) (c .pack .result) (omega (arith, h, l .inv .1)) (b .ensures) (j .ensures) (c .pack .ensures))
 
--- src/thirteen.rt:24:1
 returns : tie.Need-returns Inv-loop μ-loop
-returns c = let l = c .before .loop in packed-all (history (c .before .before .before .before .before .before .before .before .before .before .before)) (l .answers) (l .k) (l .inv .2) (omega arith) (l .inv .1)
+returns c = let l = c .before .loop in packed-all (history (c .before .before .before .before .before .before .before .before .before .before .before .before)) (l .answers) (l .k) (l .inv .2) (omega arith) (l .inv .1)
 
 pub verdicts-spec : {M : Type 1} → statement M
 verdicts-spec =

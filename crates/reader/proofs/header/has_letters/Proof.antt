@@ -15,8 +15,8 @@ array-read-if1 c = search needs
 
 returns : tie.Need-returns
 returns c =
-    let s = c .before .before .args .s .now in
-    rw (same-four s _ _ _ _ (omega arith)) (search tests)
+    let a = c .before .before .args in
+    rw (same-four (a .s .now) (a .t2) (omega arith) (search needs)) (search tests)
 
 shared-slice-read-if2 : tie.Need-shared-slice-read-if2
 shared-slice-read-if2 c = search needs
@@ -26,8 +26,8 @@ array-read-if2 c = search needs
 
 returns-2 : tie.Need-returns-2
 returns-2 c =
-    let s = c .before .before .before .before .args .s .now in
-    rw (same-four s _ _ _ _ (omega arith)) (search tests)
+    let a = c .before .before .before .before .args in
+    rw (same-four (a .s .now) (a .t2) (omega arith) (search needs)) (search tests)
 
 shared-slice-read-if3 : tie.Need-shared-slice-read-if3
 shared-slice-read-if3 c = search needs
@@ -37,8 +37,8 @@ array-read-if3 c = search needs
 
 returns-3 : tie.Need-returns-3
 returns-3 c =
-    let s = c .before .before .before .before .before .before .args .s .now in
-    rw (same-four s _ _ _ _ (omega arith)) (search tests)
+    let a = c .before .before .before .before .before .before .args in
+    rw (same-four (a .s .now) (a .t2) (omega arith) (search needs)) (search tests)
 
 shared-slice-read-result : tie.Need-shared-slice-read-result
 shared-slice-read-result c = search needs
@@ -48,8 +48,8 @@ array-read-result c = search needs
 
 returns-4 : tie.Need-returns-4
 returns-4 c =
-    let s = c .before .before .before .before .before .before .before .args .s .now in
-    rw (same-four s _ _ _ _ (omega arith)) (search eq-eqb)
+    let a = c .before .before .before .before .before .before .before .args in
+    rw (same-four (a .s .now) (a .t2) (omega arith) (search needs)) (search eq-eqb)
 
 pub has-letters-spec : {M : Type 1} → statement M
 has-letters-spec =

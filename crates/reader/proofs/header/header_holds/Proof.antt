@@ -5,12 +5,12 @@ use Rattle.record.specs.Questions.{headerRight}
 use Rattle.reader.proofs.header.header_holds.Statement.{statement}
 use Rattle.reader.proofs.header.header_holds.Tie as tie
 
-has-letters-requires : tie.Need-has-letters-requires
-has-letters-requires c κs = search needs
+is-edition-requires : tie.Need-is-edition-requires
+is-edition-requires c κs = search needs
 
 returns : tie.Need-returns
 unfolding headerRight
-returns c = rw (told-false (c .before .has-letters .ensures) (c .if1 .taken))
+returns c = rw (told-false (c .before .is-edition .ensures) (c .if1 .taken))
 
 count-requires : tie.Need-count-requires
 count-requires c κs = search needs
@@ -19,7 +19,7 @@ returns-2 : tie.Need-returns-2
 unfolding headerRight
 returns-2 c =
     let l = c .before .before in
-    rw (told-true (l .before .has-letters .ensures) (l .if1 .left)) (search (tests, ← (c .before .count .ensures)))
+    rw (told-true (l .before .is-edition .ensures) (l .if1 .left)) (search (tests, ← (c .before .count .ensures)))
 
 sites-requires : tie.Need-sites-requires
 sites-requires c κs = search needs
@@ -29,7 +29,7 @@ unfolding headerRight
 returns-3 c =
     let n = c .before .before in
     let l = n .before .before in
-    rw (told-true (l .before .has-letters .ensures) (l .if1 .left)) (search (tests, ← (n .before .count .ensures), ← (c .before .sites .ensures)))
+    rw (told-true (l .before .is-edition .ensures) (l .if1 .left)) (search (tests, ← (n .before .count .ensures), ← (c .before .sites .ensures)))
 
 returns-4 : tie.Need-returns-4
 unfolding headerRight
@@ -37,10 +37,10 @@ returns-4 c =
     let m = c .before .before in
     let n = m .before in
     let l = n .before .before in
-    rw (told-true (l .before .has-letters .ensures) (l .if1 .left)) (search (tests, ← (n .before .count .ensures), ← (m .sites .ensures)))
+    rw (told-true (l .before .is-edition .ensures) (l .if1 .left)) (search (tests, ← (n .before .count .ensures), ← (m .sites .ensures)))
 
-is-zero-requires : tie.Need-is-zero-requires
-is-zero-requires c κs = search needs
+terms-hold-requires : tie.Need-terms-hold-requires
+terms-hold-requires c κs = search needs
 
 returns-5 : tie.Need-returns-5
 unfolding headerRight
@@ -48,18 +48,18 @@ returns-5 c =
     let m = c .before .before .before in
     let n = m .before in
     let l = n .before .before in
-    rw (told-true (l .before .has-letters .ensures) (l .if1 .left)) (search (tests, ← (n .before .count .ensures), ← (m .sites .ensures), ← (c .is-zero .ensures)))
+    rw (told-true (l .before .is-edition .ensures) (l .if1 .left)) (search (tests, ← (n .before .count .ensures), ← (m .sites .ensures), ← (c .terms-hold .ensures)))
 
 pub header-holds-spec : {M : Type 1} → statement M
 header-holds-spec =
     tie.close
     (tie.spec
-    has-letters-requires
+    is-edition-requires
     returns
     count-requires
     returns-2
     sites-requires
     returns-3
     returns-4
-    is-zero-requires
+    terms-hold-requires
     returns-5)

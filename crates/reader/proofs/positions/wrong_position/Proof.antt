@@ -6,27 +6,27 @@ use borrow.Author.Needs.{needs}
 use lib.ListN.{length}
 use Rattle.rows.specs.Octets.{little}
 use Rattle.rows.proofs.LowestLaws.{Searched, searched-start, searched-more, searched-hit, searched-end}
-use Rattle.record.specs.Layout.{gcr1, slotAt}
+use Rattle.record.specs.Layout.{editionOf, slotAt}
 use Rattle.record.specs.History.{historyOf}
 use Rattle.record.specs.Questions.{wrongPosition}
-use Rattle.record.proofs.SoundLayout.{gcr1-sound, slot-step}
+use Rattle.record.proofs.SoundLayout.{sound-of, slot-step}
 use Rattle.record.proofs.PositionLaws.{taken-none, position-large, position-taken, position-free, taken-more, Taken}
 use Rattle.reader.proofs.positions.wrong_position.Statement.{statement}
 use Rattle.reader.proofs.positions.wrong_position.Tie as tie
 
 abbrev Inv-loop : tie.InvT-loop
-Inv-loop s n taken₀ at₀ e₀ taken at e = Searched n (wrongPosition (historyOf gcr1 s)) e × (length taken ≡ 8) × Taken (historyOf gcr1 s) e taken × (at ≡ slotAt gcr1 e)
+Inv-loop s n taken₀ at₀ e₀ taken at e = Searched n (wrongPosition (historyOf (editionOf s) s)) e × (length taken ≡ 8) × Taken (historyOf (editionOf s) s) e taken × (at ≡ slotAt (editionOf s) e)
 
 abbrev μ-loop : tie.MeasureT-loop
 μ-loop s n taken₀ at₀ e₀ taken at e = n - e
 
 -- what was read is the position of event e
-read : (c : tie.After-u16-at Inv-loop μ-loop) → c .u16-at .result ≡ historyOf gcr1 (c .before .before .before .before .args .s .now) .position (c .before .before .loop .e)
+read : (c : tie.After-u16-at Inv-loop μ-loop) → c .u16-at .result ≡ historyOf (editionOf (c .before .before .before .before .args .s .now)) (c .before .before .before .before .args .s .now) .position (c .before .before .loop .e)
 unfolding historyOf
 read c = c .u16-at .ensures ∙ ap (λ (x : ℕ). little 2 (c .before .before .before .before .args .s .now) (x + 10)) (c .before .before .loop .inv .3)
 
 loop-holds : tie.Need-loop-holds Inv-loop μ-loop
-loop-holds c = (searched-start _ _, refl, taken-none (historyOf gcr1 (c .before .args .s .now)) 8 _ refl, refl)
+loop-holds c = (searched-start _ _, refl, taken-none (historyOf (editionOf (c .before .args .s .now)) (c .before .args .s .now)) 8 _ refl, refl)
 
 add-u16-at : tie.Need-add-u16-at Inv-loop μ-loop
 add-u16-at c = search needs
@@ -41,7 +41,8 @@ returns : tie.Need-returns Inv-loop μ-loop
 unfolding historyOf
 returns c =
     let l = c .before .before .before in
-    searched-hit (l .loop .inv .0) (c .before .before .loop-test .taken) (position-large (historyOf gcr1 _) (l .loop .e) (c .before .u16-at .result) (l .loop .taken) (l .loop .inv .2) (read (c .before)) (omega arith))
+    let h = historyOf (editionOf (l .before .before .args .s .now)) (l .before .before .args .s .now) in
+    searched-hit (l .loop .inv .0) (c .before .before .loop-test .taken) (position-large h (l .loop .e) (c .before .u16-at .result) (l .loop .taken) (l .loop .inv .2) (read (c .before)) (omega arith))
 
 slice-aggregate-test : tie.Need-slice-aggregate-test Inv-loop μ-loop
 slice-aggregate-test c = search needs
@@ -53,7 +54,8 @@ returns-2 : tie.Need-returns-2 Inv-loop μ-loop
 returns-2 c =
     let l = c .before .before .before .before .before .before in
     let p = c .before .before .before .before in
-    searched-hit (l .loop .inv .0) (p .before .loop-test .taken) (position-taken (historyOf gcr1 _) (l .loop .e) (p .u16-at .result) (l .loop .taken) (l .loop .inv .2) (read p) (sym (c .before .test .ensures) ∙ c .if2 .taken))
+    let h = historyOf (editionOf (l .before .before .args .s .now)) (l .before .before .args .s .now) in
+    searched-hit (l .loop .inv .0) (p .before .loop-test .taken) (position-taken h (l .loop .e) (p .u16-at .result) (l .loop .taken) (l .loop .inv .2) (read p) (sym (c .before .test .ensures) ∙ c .if2 .taken))
 
 slice-aggregate-set : tie.Need-slice-aggregate-set Inv-loop μ-loop
 slice-aggregate-set c = search needs
@@ -76,11 +78,11 @@ loop-again c =
     let free = c .before .before .before .before in
     let p = free .before .before .before .before in
     let l = p .before .before in
-    let h = historyOf gcr1 (l .before .before .args .s .now) in (
+    let h = historyOf (editionOf (l .before .before .args .s .now)) (l .before .before .args .s .now) in (
       searched-more (l .loop .inv .0) (p .before .loop-test .taken) (position-free h (l .loop .e) (p .u16-at .result) (l .loop .taken) (l .loop .inv .2) (read p) (omega arith) (sym (free .before .test .ensures) ∙ free .if2 .left)),
       search needs,
       taken-more h (l .loop .e) (p .u16-at .result) (l .loop .taken) (l .loop .inv .2) (read p) (c .before .before .set .last .0) (c .before .before .set .ensures) (search needs),
-      slot-step gcr1 gcr1-sound (l .loop .e) (l .loop .at) _ (l .loop .inv .3) (c .next-slot .ensures),
+      slot-step _ (sound-of (l .before .before .args .s .now)) (l .loop .e) (l .loop .at) _ (l .loop .inv .3) (c .next-slot .ensures),
     )
 
 returns-3 : tie.Need-returns-3 Inv-loop μ-loop

@@ -10,7 +10,7 @@ use lib.ListN.{length, take, drop, replicate}
 use Rattle.rows.specs.Lowest.{lowest}
 use Rattle.rows.specs.Relation.{Rel}
 use Rattle.record.specs.declared.Reading.the-variants.{Passed, WrongSet, OnRing}
-use Rattle.record.specs.Layout.{gcr1}
+use Rattle.record.specs.Layout.{editionOf}
 use Rattle.record.specs.History.{historyOf, vis}
 use Rattle.record.specs.Questions.{wrongSet, onRing, askEach, setQuestions}
 use Rattle.record.specs.Words.{slotWords, workAfter}
@@ -30,7 +30,7 @@ abbrev bytes : tie.After-load-sets → List ℕ
 bytes c = start c .args .s .now
 
 abbrev sees : tie.After-load-sets → Rel
-sees c = vis (historyOf gcr1 (bytes c))
+sees c = vis (historyOf (editionOf (bytes c)) (bytes c))
 
 range : (c : tie.After-load-sets) → Bytes (bytes c)
 range c i = c .before .before .before .shared-slice-known .given i .fits
@@ -45,21 +45,21 @@ long c = search needs
 past : (c : tie.After-load-sets) → drop 1024 (table c) ≡ drop 1024 (start c .args .table .now)
 past c =
     let k : ℕ = min (start c .args .n) (c .load-sets .result + 1) in
-    loaded-past (slotWords gcr1 32 4 (bytes c) k) (start c .args .table .now) (table c) (k * 4) 1024 (c .load-sets .ensures .1)
-    (length-slot-words gcr1 32 4 (bytes c) k) (omega arith)
+    loaded-past (slotWords (editionOf (bytes c)) 32 4 (bytes c) k) (start c .args .table .now) (table c) (k * 4) 1024 (c .load-sets .ensures .1)
+    (length-slot-words (editionOf (bytes c)) 32 4 (bytes c) k) (omega arith)
 
 -- a no: all words cleared
 cleared : (c : tie.After-load-sets) (number : ℕ) (z : List ℕ) → 3 ≤ number → z ≡ replicate (length (take 1024 (table c))) 0
-    → z ++ drop 1024 (table c) ≡ workAfter gcr1 number (bytes c) (start c .args .table .now)
+    → z ++ drop 1024 (table c) ≡ workAfter (editionOf (bytes c)) number (bytes c) (start c .args .table .now)
 cleared c number z h q =
     let t = start c .args .table .now in
-    work-refused gcr1 number (bytes c) t (z ++ drop 1024 (table c)) h (zero-first 1024 t (table c) z (long c) (past c) q)
+    work-refused (editionOf (bytes c)) number (bytes c) t (z ++ drop 1024 (table c)) h (zero-first 1024 t (table c) z (long c) (past c) q)
 
 -- question 9 got a yes
 abbrev loaded : tie.Else1 → tie.After-load-sets
 loaded c = c .before .before .before
 
-all : (c : tie.Else1) → table (loaded c) ≡ slotWords gcr1 32 4 (bytes (loaded c)) (start (loaded c) .args .n) ++ drop (start (loaded c) .args .n * 4) (start (loaded c) .args .table .now)
+all : (c : tie.Else1) → table (loaded c) ≡ slotWords (editionOf (bytes (loaded c))) 32 4 (bytes (loaded c)) (start (loaded c) .args .n) ++ drop (start (loaded c) .args .n * 4) (start (loaded c) .args .table .now)
 all c =
     let l = loaded c in
     let n = start l .args .n in
@@ -73,7 +73,7 @@ right c =
 
 to-rings : (c : tie.Else1)
     → let n = start (loaded c) .args .n in
-    setQuestions gcr1 n (sees (loaded c)) ≡ askEach n (onRing n (sees (loaded c))) OnRing Passed
+    setQuestions (editionOf (bytes (loaded c))) n (sees (loaded c)) ≡ askEach n (onRing n (sees (loaded c))) OnRing Passed
 unfolding setQuestions
 to-rings c = let n = start (loaded c) .args .n in each-yes n (wrongSet 4 n (sees (loaded c))) WrongSet _ (right c)
 
@@ -83,7 +83,7 @@ ring : (c : tie.After-lowest-on-ring)
 ring c =
     let e = c .before .before in
     let l = loaded e in
-    c .lowest-on-ring .ensures ∙ loaded-ring gcr1 (bytes l) (range l) (start l .args .n) _ (table l) (all e) (search needs) (right e)
+    c .lowest-on-ring .ensures ∙ loaded-ring (editionOf (bytes l)) (bytes l) (range l) (start l .args .n) _ (table l) (all e) (search needs) (right e)
 
 load-sets-requires : tie.Need-load-sets-requires
 load-sets-requires c κs = search needs
@@ -115,7 +115,7 @@ lowest-on-ring-requires : tie.Need-lowest-on-ring-requires
 lowest-on-ring-requires c κs =
     let e = c .before in
     let l = loaded e in
-    (loaded-graph gcr1 (bytes l) (range l) (start l .args .n) _ (table l) (all e) (omega arith) (right e) (omega arith), omega arith)
+    (loaded-graph (editionOf (bytes l)) (bytes l) (range l) (start l .args .n) _ (table l) (all e) (omega arith) (right e) (omega arith), omega arith)
 
 sub-clear-2 : tie.Need-sub-clear-2
 sub-clear-2 c = search needs
@@ -171,8 +171,8 @@ returns-3 c =
     let a = start l .args in
     let n = a .n in (
       sym (to-rings e ∙ each-past n (onRing n (sees l)) OnRing Passed (r .lowest-on-ring .result) (ring r) (k .if2 .left)),
-      work-passed gcr1 0 (bytes l) (a .table .now) _ refl
-          (visible-cleared gcr1 (bytes l) (omega arith) n (a .table .now) (table l) _ (start l .pre .0 .0) (all e) (long l) (c .before .before .clear3 .ensures)),
+      work-passed (editionOf (bytes l)) 0 (bytes l) (a .table .now) _ refl
+          (visible-cleared (editionOf (bytes l)) (bytes l) (omega arith) n (a .table .now) (table l) _ (start l .pre .0 .0) (all e) (long l) (c .before .before .clear3 .ensures)),
     )
 
 pub ask-spec : {M : Type 1} → statement M

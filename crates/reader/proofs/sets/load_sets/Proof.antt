@@ -10,18 +10,18 @@ use Rattle.rows.specs.Octets.{words}
 use Rattle.rows.proofs.Tests.{told-true, told-false}
 use Rattle.rows.proofs.LowestLaws.{Searched, searched-start, searched-more, searched-hit, searched-end}
 use Rattle.rows.proofs.TableLaws.{length-row}
-use Rattle.record.specs.Layout.{gcr1, slotAt}
+use Rattle.record.specs.Layout.{editionOf, slotAt}
 use Rattle.record.specs.History.{historyOf, vis}
 use Rattle.record.specs.Questions.{wrongSet}
 use Rattle.record.specs.Words.{slotWords}
-use Rattle.record.proofs.SoundLayout.{gcr1-sound, slot-step}
+use Rattle.record.proofs.SoundLayout.{sound-of, slot-step}
 use Rattle.record.proofs.SlotWords.{slot-words-none, slot-words-put}
 use Rattle.record.proofs.SetLaws.{byte-itself, loaded-outside, loaded-right}
 use Rattle.reader.proofs.sets.load_sets.Statement.{statement}
 use Rattle.reader.proofs.sets.load_sets.Tie as tie
 
 abbrev Inv-loop : tie.InvT-loop
-Inv-loop s n table₀ below slot₀ e₀ table slot e = Searched n (wrongSet 4 n (vis (historyOf gcr1 s))) e × (length table ≡ length table₀) × (table ≡ slotWords gcr1 32 4 s e ++ drop (e * 4) table₀) × (slot ≡ slotAt gcr1 e)
+Inv-loop s n table₀ below slot₀ e₀ table slot e = Searched n (wrongSet 4 n (vis (historyOf (editionOf s) s))) e × (length table ≡ length table₀) × (table ≡ slotWords (editionOf s) 32 4 s e ++ drop (e * 4) table₀) × (slot ≡ slotAt (editionOf s) e)
 
 abbrev μ-loop : tie.MeasureT-loop
 μ-loop s n table₀ below slot₀ e₀ table slot e = n - e
@@ -43,11 +43,11 @@ table c = let l = at-loop c .loop in take (l .e * 4) (l .table) ++ (c .load .las
 put : (c : tie.After-load Inv-loop μ-loop)
     → let a = entry c .before .args in
     let e = at-loop c .loop .e in
-    table c ≡ slotWords gcr1 32 4 (a .s .now) (e + 1) ++ drop ((e + 1) * 4) (a .table .now)
+    table c ≡ slotWords (editionOf (a .s .now)) 32 4 (a .s .now) (e + 1) ++ drop ((e + 1) * 4) (a .table .now)
 put c =
     let a = entry c .before .args in
     let l = at-loop c .loop in
-    slot-words-put gcr1 32 4 (a .s .now) (l .e) (a .table .now) (l .table) (c .load .last .0) (l .inv .2)
+    slot-words-put (editionOf (a .s .now)) 32 4 (a .s .now) (l .e) (a .table .now) (l .table) (c .load .last .0) (l .inv .2)
     (c .load .ensures ∙ ap₂ (λ k p. words k (a .s .now) (p + 32)) (rw add-sub-cancel-left (length-row (l .table) 4 (l .e) (search needs))) (l .inv .3))
 
 slice-aggregate-fill-below : tie.Need-slice-aggregate-fill-below Inv-loop μ-loop
@@ -113,7 +113,7 @@ returns c =
     let e = l .loop .e in
     let m : min (a .n) (e + 1) ≡ e + 1 = omega arith in (
       searched-hit (l .loop .inv .0) (d .before .before .loop-test .taken)
-          (loaded-outside gcr1 (a .s .now) (λ b. entry d .shared-slice-known .given b .fits) (e + 1) _ (table d) (put d) (a .n) e
+          (loaded-outside (editionOf (a .s .now)) (a .s .now) (λ b. entry d .shared-slice-known .given b .fits) (e + 1) _ (table d) (put d) (a .n) e
           (f .fill-below .last .0) (f .fill-below .ensures .0) (omega arith)
           (rw add-sub-cancel-left at (told-false (c .before .is-subset .ensures) (c .if1 .taken)))),
       rw (add-sub-cancel-left, m) (put d),
@@ -136,7 +136,7 @@ returns-2 c =
     let e = l .loop .e in
     let m : min (a .n) (e + 1) ≡ e + 1 = omega arith in (
       searched-hit (l .loop .inv .0) (d .before .before .loop-test .taken)
-          (byte-itself gcr1 (a .s .now) (a .n) e (omega arith) (rw (l .loop .inv .3) at (sym (c .before .test .ensures) ∙ c .if2 .taken))),
+          (byte-itself (editionOf (a .s .now)) (a .s .now) (a .n) e (omega arith) (rw (l .loop .inv .3) at (sym (c .before .test .ensures) ∙ c .if2 .taken))),
       rw (add-sub-cancel-left, m) (put d),
     )
 
@@ -158,13 +158,13 @@ loop-again c =
     let a = entry d .before .args in
     let e = l .loop .e in (
       searched-more (l .loop .inv .0) (d .before .before .loop-test .taken)
-          (loaded-right gcr1 (a .s .now) (λ b. entry d .shared-slice-known .given b .fits) (e + 1) _ (table d) (put d) (a .n) e
+          (loaded-right (editionOf (a .s .now)) (a .s .now) (λ b. entry d .shared-slice-known .given b .fits) (e + 1) _ (table d) (put d) (a .n) e
           (f .fill-below .last .0) (f .fill-below .ensures .0) (omega arith)
           (rw add-sub-cancel-left at (told-true (k .before .is-subset .ensures) (k .if1 .left))) (omega arith)
           (rw (l .loop .inv .3) at (sym (c .before .before .test .ensures) ∙ c .before .if2 .left))),
       omega (arith, k .before .before .before .before .before .before .table .given),
       rw add-sub-cancel-left (put d),
-      slot-step gcr1 gcr1-sound e (l .loop .slot) _ (l .loop .inv .3) (c .next-slot .ensures),
+      slot-step _ (sound-of (a .s .now)) e (l .loop .slot) _ (l .loop .inv .3) (c .next-slot .ensures),
     )
 
 same-length-3 : tie.Need-same-length-3 Inv-loop μ-loop

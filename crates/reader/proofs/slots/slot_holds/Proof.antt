@@ -2,7 +2,7 @@
 use mathlib.Core.Logic.{⊎-elim}
 use borrow.Author.Needs.{needs}
 use Rattle.rows.proofs.Tests.{told-false, told-true}
-use Rattle.record.specs.Layout.{gcr1}
+use Rattle.record.specs.Layout.{editionOf}
 use Rattle.record.proofs.SlotLaws.{slot-below, slot-from}
 use Rattle.reader.proofs.slots.slot_holds.Statement.{statement}
 use Rattle.reader.proofs.slots.slot_holds.Tie as tie
@@ -13,7 +13,7 @@ event-holds-requires c κs = search needs
 returns : tie.Need-returns
 returns c =
     let a = c .before .before .before .before in
-    rw (slot-below gcr1 _ _ _ _ (a .pre .0) (a .pre .1 .0) (c .before .before .if1 .taken), told-false (c .before .event-holds .ensures) (c .if2 .taken))
+    rw (slot-below (editionOf (a .args .s .now)) _ _ _ _ (a .pre .0) (a .pre .1 .0) (c .before .before .if1 .taken), told-false (c .before .event-holds .ensures) (c .if2 .taken))
 
 is-zero-requires : tie.Need-is-zero-requires
 is-zero-requires c κs = search needs
@@ -21,7 +21,7 @@ is-zero-requires c κs = search needs
 returns-2 : tie.Need-returns-2
 returns-2 c =
     let a = c .before .before .before .before in
-    rw (slot-from gcr1 _ _ _ _ (a .pre .0) (a .pre .1 .0) (c .before .before .if1 .left), told-false (c .before .is-zero .ensures) (c .if3 .taken))
+    rw (slot-from (editionOf (a .args .s .now)) _ _ _ _ (a .pre .0) (a .pre .1 .0) (c .before .before .if1 .left), told-false (c .before .is-zero .ensures) (c .if3 .taken))
 
 tail-holds-requires : tie.Need-tail-holds-requires
 tail-holds-requires c κs = search needs
@@ -31,8 +31,8 @@ returns-3 c =
     let a = c .before .before .before in
     let tail = c .tail-holds .ensures (a .args .e) (a .pre .1 .0) in
     ⊎-elim
-    (λ w. rw (slot-below gcr1 _ _ _ _ (a .pre .0) (a .pre .1 .0) (w .0 .taken), told-true (w .1 .ensures) (w .2 .left)) tail)
-    (λ w. rw (slot-from gcr1 _ _ _ _ (a .pre .0) (a .pre .1 .0) (w .0 .left), told-true (w .1 .ensures) (w .2 .left)) tail)
+    (λ w. rw (slot-below (editionOf (a .args .s .now)) _ _ _ _ (a .pre .0) (a .pre .1 .0) (w .0 .taken), told-true (w .1 .ensures) (w .2 .left)) tail)
+    (λ w. rw (slot-from (editionOf (a .args .s .now)) _ _ _ _ (a .pre .0) (a .pre .1 .0) (w .0 .left), told-true (w .1 .ensures) (w .2 .left)) tail)
     (c .before .if1 .came)
 
 pub slot-holds-spec : {M : Type 1} → statement M

@@ -4,7 +4,7 @@ use Prim.Native.Nat.{_+_, _/_, _%_}
 use native.Mathlib.Omega.{arith}
 use borrow.Author.Tests.{eq-eqb, ne-eqb}
 use borrow.Author.Needs.{needs}
-use Rattle.record.specs.Layout.{gcr1, tailAt}
+use Rattle.record.specs.Layout.{editionOf, tailAt}
 use Rattle.record.specs.Slots.{tailRight}
 use Rattle.reader.proofs.slots.tail_holds.Statement.{statement}
 use Rattle.reader.proofs.slots.tail_holds.Tie as tie
@@ -27,7 +27,7 @@ unfolding tailRight
 returns-2 c = λ e q.
     let block : c .before .before .before .args .at / 512 ≡ 1 + e / 7 = omega arith in
     let last : e % 7 ≡ 6 = omega arith in
-    let next : c .before .before .before .args .at + 64 ≡ tailAt gcr1 e = omega arith in
+    let next : c .before .before .before .args .at + 64 ≡ tailAt (editionOf (c .before .before .before .args .s .now)) e = omega arith in
     rw (eq-eqb _ _ last, ← next) (c .is-zero .ensures)
 
 pub tail-holds-spec : {M : Type 1} → statement M

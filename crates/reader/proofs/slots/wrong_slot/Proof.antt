@@ -4,14 +4,14 @@ use mathlib.Core.Bool.{not}
 use Prim.Native.Nat.{_-_}
 use borrow.Author.Needs.{needs}
 use Rattle.rows.proofs.LowestLaws.{Searched, searched-start, searched-more, searched-hit, searched-end}
-use Rattle.record.specs.Layout.{gcr1, slotAt}
+use Rattle.record.specs.Layout.{editionOf, slotAt}
 use Rattle.record.specs.Slots.{slotRight}
-use Rattle.record.proofs.SoundLayout.{gcr1-sound, slot-step}
+use Rattle.record.proofs.SoundLayout.{sound-of, slot-step}
 use Rattle.reader.proofs.slots.wrong_slot.Statement.{statement}
 use Rattle.reader.proofs.slots.wrong_slot.Tie as tie
 
 abbrev Inv-loop : tie.InvT-loop
-Inv-loop s n slots at₀ e₀ at e = Searched slots (λ b. not (slotRight gcr1 s b)) e × (at ≡ slotAt gcr1 e)
+Inv-loop s n slots at₀ e₀ at e = Searched slots (λ b. not (slotRight (editionOf s) s b)) e × (at ≡ slotAt (editionOf s) e)
 
 abbrev μ-loop : tie.MeasureT-loop
 μ-loop s n slots at₀ e₀ at e = slots - e
@@ -45,7 +45,7 @@ loop-less c = search needs
 loop-again : tie.Need-loop-again Inv-loop μ-loop
 loop-again c =
     let l = c .before .before .before .before in
-    (searched-more (l .loop .inv .0) (c .before .before .before .loop-test .taken) (rw (c .before .before .slot-holds .ensures) at (c .before .if1 .left)), slot-step gcr1 gcr1-sound (l .loop .e) (l .loop .at) _ (l .loop .inv .1) (c .next-slot .ensures))
+    (searched-more (l .loop .inv .0) (c .before .before .before .loop-test .taken) (rw (c .before .before .slot-holds .ensures) at (c .before .if1 .left)), slot-step _ (sound-of (l .before .before .args .s .now)) (l .loop .e) (l .loop .at) _ (l .loop .inv .1) (c .next-slot .ensures))
 
 returns-2 : tie.Need-returns-2 Inv-loop μ-loop
 returns-2 c = searched-end (c .before .loop .inv .0) (c .loop-test .left)

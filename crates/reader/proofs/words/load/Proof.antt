@@ -8,15 +8,15 @@ use borrow.Author.Needs.{needs}
 use lib.ListN.{length, drop}
 use Rattle.rows.specs.Octets.{words}
 use Rattle.rows.proofs.TableLaws.{row-room, length-row}
-use Rattle.record.specs.Layout.{gcr1, slotAt}
+use Rattle.record.specs.Layout.{editionOf, slotAt}
 use Rattle.record.specs.Words.{slotWords}
-use Rattle.record.proofs.SoundLayout.{gcr1-sound, slot-step}
+use Rattle.record.proofs.SoundLayout.{sound-of, slot-step}
 use Rattle.record.proofs.SlotWords.{slot-words-none, slot-words-put}
 use Rattle.reader.proofs.words.load.Statement.{statement}
 use Rattle.reader.proofs.words.load.Tie as tie
 
 abbrev Inv-loop : tie.InvT-loop
-Inv-loop s n off w out₀ slot₀ e₀ out slot e = (e ≤ n) × (length out ≡ length out₀) × (out ≡ slotWords gcr1 off w s e ++ drop (e * w) out₀) × (slot ≡ slotAt gcr1 e)
+Inv-loop s n off w out₀ slot₀ e₀ out slot e = (e ≤ n) × (length out ≡ length out₀) × (out ≡ slotWords (editionOf s) off w s e ++ drop (e * w) out₀) × (slot ≡ slotAt (editionOf s) e)
 
 abbrev μ-loop : tie.MeasureT-loop
 μ-loop s n off w out₀ slot₀ e₀ out slot e = n - e
@@ -70,9 +70,9 @@ loop-again c =
     let a = i .before .before .before .before .args in (
       search needs,
       search needs,
-      rw add-sub-cancel-left (slot-words-put gcr1 (a .off) (a .w) (a .s .now) (l .e) (a .out .now) (l .out) (c .before .before .before .load .last .0) (l .inv .2)
+      rw add-sub-cancel-left (slot-words-put (editionOf (a .s .now)) (a .off) (a .w) (a .s .now) (l .e) (a .out .now) (l .out) (c .before .before .before .load .last .0) (l .inv .2)
           (c .before .before .before .load .ensures ∙ ap₂ (λ k p. words k (a .s .now) (p + a .off)) (rw add-sub-cancel-left (length-row (l .out) (a .w) (l .e) (room i))) (l .inv .3))),
-      slot-step gcr1 gcr1-sound (l .e) (l .slot) _ (l .inv .3) (c .next-slot .ensures),
+      slot-step _ (sound-of (a .s .now)) (l .e) (l .slot) _ (l .inv .3) (c .next-slot .ensures),
     )
 
 same-length : tie.Need-same-length Inv-loop μ-loop

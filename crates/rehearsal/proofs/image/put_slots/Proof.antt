@@ -3,7 +3,7 @@ use borrow.Author.Needs.{needs}
 use mathlib.Core.Path.{_≡_, ap, _∙_}
 use Prim.Native.Nat.{ℕ, _-_}
 use native.Mathlib.Omega.{arith}
-use Rattle.record.specs.Layout.{gcr1}
+use Rattle.record.specs.Layout.{gcr2}
 use Rattle.record.specs.Encode.{withSlots}
 use Rattle.store.specs.Recorded.{recorded}
 use Rattle.rehearsal.specs.Arrays.{ranStore}
@@ -75,7 +75,7 @@ returns c =
     let l = c .before .loop in
     let g = c .before .before .before .before .before .before .args in
     let all : l .k ≡ g .ran .count = omega (arith, l .inv .within) in
-    l .inv .written ∙ ap (λ (i : ℕ). withSlots gcr1 (recorded (ranStore (g .ran))) i (g .rec .now)) all
+    l .inv .written ∙ ap (λ (i : ℕ). withSlots gcr2 (recorded (ranStore (g .ran))) i (g .rec .now)) all
 
 pub put-slots-spec : {M : Type 1} → statement M
 put-slots-spec =

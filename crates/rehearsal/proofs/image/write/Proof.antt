@@ -2,6 +2,7 @@
 use mathlib.Core.Path.{refl}
 use borrow.Author.Needs.{needs}
 use native.Mathlib.Omega.{arith}
+use Rattle.store.specs.Rehearsal.{termsOf}
 use Rattle.rehearsal.specs.Arrays.{ranStore}
 use Rattle.rehearsal.proofs.ImageLaws.{image-written}
 use Rattle.rehearsal.proofs.image.write.Statement.{statement}
@@ -22,12 +23,16 @@ clear-requires c κs = search needs
 header-requires : tie.Need-header-requires
 header-requires c κs = search needs
 
+openings-requires : tie.Need-openings-requires
+openings-requires c κs = search needs
+
 put-slots-requires : tie.Need-put-slots-requires
 put-slots-requires c κs =
-    let header = c .before .before .before in
+    let openings = c .before .before .before in
+    let header = openings .before .before .before .before in
     let clear = header .before .before .before .before in
-    let start = clear .before .before .before in
-    (start .pre .0, (start .pre .1 .0, omega arith))
+    let start = clear .before .before .before .before in
+    (start .pre .1 .0, (start .pre .1 .1 .0, omega arith))
 
 seal-requires : tie.Need-seal-requires
 seal-requires c κs = search needs
@@ -42,12 +47,13 @@ returns : tie.Need-returns
 returns c =
     let seal = c .before .before in
     let slots = seal .before .before .before .before in
-    let header = slots .before .before .before .before in
+    let openings = slots .before .before .before .before in
+    let header = openings .before .before .before .before in
     let clear = header .before .before .before .before in
-    let g = clear .before .before .before .args in (
+    let g = clear .before .before .before .before .args in (
       refl,
-      image-written (g .n) (ranStore (g .ran)) _ (g .rec .now) _ _ _ _ refl (clear .clear .ensures) (header .header .ensures)
-          (slots .put-slots .ensures) (seal .seal .ensures),
+      image-written (g .n) (termsOf (g .openings .now)) (ranStore (g .ran)) _ (g .rec .now) _ _ _ _ _ refl (clear .clear .ensures) (header .header .ensures)
+          (openings .openings .ensures) (slots .put-slots .ensures) (seal .seal .ensures),
     )
 
 pub write-spec : {M : Type 1} → statement M
@@ -59,6 +65,7 @@ write-spec =
     mul-clear
     clear-requires
     header-requires
+    openings-requires
     put-slots-requires
     seal-requires
     mul-result

@@ -1,5 +1,14 @@
 -- `rehearsal::refuse::rehearsal_refused` meets its contract: each return is the first question that got a no. Assumes nothing.
-use borrow.Author.Tests.{le-leb, lt-leb, eq-eqb, ne-eqb}
+use mathlib.Core.Path.{_≡_, sym, _∙_}
+use mathlib.Core.Bool.{_&&_}
+use mathlib.Core.List.{List}
+use Prim.Native.Nat.{ℕ}
+use native.Mathlib.Omega.{arith}
+use lib.Dec.{eqb}
+use lib.ListN.{length}
+use borrow.Author.Tests.{le-leb, lt-leb, eq-eqb, ne-eqb, not-true, not-false}
+use Rattle.record.specs.Terms.{openingsRight}
+use Rattle.record.specs.Questions.{ask}
 use Rattle.store.specs.Rehearsal.{rehearsalRefusal}
 use Rattle.rehearsal.proofs.refuse.rehearsal_refused.Statement.{statement}
 use Rattle.rehearsal.proofs.refuse.rehearsal_refused.Tie as tie
@@ -56,9 +65,12 @@ returns-6 c =
       lt-leb _ _ (c .if6 .taken),
     )
 
-returns-7 : tie.Need-returns-7
+-- 20 to 23 let it pass: 40 is asked
+late : (c : tie.Else6) → let g = c .before .before .before .before .before .before .before .args in
+    (s t u : List ℕ) → length s ≡ g .script → length t ≡ g .rec → length u ≡ g .answers
+    → rehearsalRefusal (g .n) (g .opened .now) s t u ≡ ask (eqb (length (g .opened .now)) 132 && openingsRight (g .opened .now) 0) 40 0
 unfolding rehearsalRefusal
-returns-7 c =
+late c =
     let script = c .before .before in
     let sites = script .before .before in
     λ s t u e f g.
@@ -74,6 +86,22 @@ returns-7 c =
       le-leb _ _ (c .if6 .left),
     )
 
+returns-7 : tie.Need-returns-7
+returns-7 c = λ s t u e f g. rw (late (c .before) s t u e f g, ne-eqb _ _ (c .if7 .taken))
+
+hold-requires : tie.Need-hold-requires
+hold-requires c κs = omega arith
+
+returns-8 : tie.Need-returns-8
+returns-8 c =
+    let long = c .before .before in
+    λ s t u e f g. rw (late (long .before) s t u e f g, eq-eqb _ _ (long .if7 .left), sym (c .before .hold .ensures) ∙ not-true _ (c .if8 .taken))
+
+returns-9 : tie.Need-returns-9
+returns-9 c =
+    let long = c .before .before in
+    λ s t u e f g. rw (late (long .before) s t u e f g, eq-eqb _ _ (long .if7 .left), sym (c .before .hold .ensures) ∙ not-false _ (c .if8 .left))
+
 pub rehearsal-refused-spec : {M : Type 1} → statement M
 rehearsal-refused-spec =
-    tie.close (tie.spec returns returns-2 returns-3 returns-4 returns-5 returns-6 returns-7)
+    tie.close (tie.spec returns returns-2 returns-3 returns-4 returns-5 returns-6 returns-7 hold-requires returns-8 returns-9)

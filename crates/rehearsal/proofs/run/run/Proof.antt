@@ -9,6 +9,8 @@ use lib.ListN.{length, length-set}
 use Rattle.rows.specs.Lowest.{lowest}
 use Rattle.rows.specs.Row.{has, rowAt}
 use Rattle.rows.proofs.TableLaws.{has-row}
+use Rattle.store.specs.Rehearsal.{termsOf}
+use Rattle.store.proofs.Invariant.{StoreInv}
 use Rattle.store.proofs.Sizes.{Limits}
 use Rattle.calls.specs.Mirror.{lackedBySome}
 use borrow.Author.Needs.{needs}
@@ -20,34 +22,34 @@ use Rattle.rehearsal.proofs.run.run.Statement.{statement}
 use Rattle.rehearsal.proofs.run.run.Tie as tie
 
 abbrev Inv-loop3 : tie.InvT-loop3
-Inv-loop3 n script out kept₀ known₀ cells₀ events sees puts count k s w number copies₀ lacked copy t₀ kept known cells copies t =
+Inv-loop3 n openings script out kept₀ known₀ cells₀ events sees puts count k s w number copies₀ lacked copy t₀ kept known cells copies t =
     Copying n
-    (record { count = count; events = events; sees = sees; kept = kept₀; known = known₀; cells = cells₀; puts = puts })
+    (record { terms = termsOf openings; count = count; events = events; sees = sees; kept = kept₀; known = known₀; cells = cells₀; puts = puts })
     lacked copies₀ kept known cells copies t
 
 abbrev μ-loop3 : tie.MeasureT-loop3
-μ-loop3 n script out kept₀ known₀ cells₀ events sees puts count k s w number copies₀ lacked copy t₀ kept known cells copies t =
+μ-loop3 n openings script out kept₀ known₀ cells₀ events sees puts count k s w number copies₀ lacked copy t₀ kept known cells copies t =
     n - t
 
 abbrev Inv-loop2 : tie.InvT-loop2
-Inv-loop2 n script out kept₀ known₀ cells₀ events sees puts count k s w number copies₀ lacked₀ kept known cells copies lacked =
+Inv-loop2 n openings script out kept₀ known₀ cells₀ events sees puts count k s w number copies₀ lacked₀ kept known cells copies lacked =
     ClosingIn n
-    (record { count = count; events = events; sees = sees; kept = kept₀; known = known₀; cells = cells₀; puts = puts })
+    (record { terms = termsOf openings; count = count; events = events; sees = sees; kept = kept₀; known = known₀; cells = cells₀; puts = puts })
     kept known cells copies
     × (lacked ≡ lowest 256 (lackedBySome puts known n))
 
 abbrev μ-loop2 : tie.MeasureT-loop2
-μ-loop2 n script out kept₀ known₀ cells₀ events sees puts count k s w number copies₀ lacked₀ kept known cells copies lacked =
+μ-loop2 n openings script out kept₀ known₀ cells₀ events sees puts count k s w number copies₀ lacked₀ kept known cells copies lacked =
     256 - lacked
 
 abbrev Inv-loop : tie.InvT-loop
-Inv-loop n script out₀ kept₀ known₀ cells₀ events₀ sees₀ puts₀ count₀ k₀ out kept known cells events sees puts count k =
+Inv-loop n openings script out₀ kept₀ known₀ cells₀ events₀ sees₀ puts₀ count₀ k₀ out kept known cells events sees puts count k =
     Turned n script out₀ out
-    (record { count = count; events = events; sees = sees; kept = kept; known = known; cells = cells; puts = puts })
+    (record { terms = termsOf openings; count = count; events = events; sees = sees; kept = kept; known = known; cells = cells; puts = puts })
     k
 
 abbrev μ-loop : tie.MeasureT-loop
-μ-loop n script out₀ kept₀ known₀ cells₀ events₀ sees₀ puts₀ count₀ k₀ out kept known cells events sees puts count k =
+μ-loop n openings script out₀ kept₀ known₀ cells₀ events₀ sees₀ puts₀ count₀ k₀ out kept known cells events sees puts count k =
     length script / 8 - k
 
 -- where it is told whether a call is refused: the function's entry, the loop's turn, and what holds of it
@@ -55,7 +57,7 @@ abbrev Here : Type 0
 Here = tie.After-refused Inv-loop3 μ-loop3 Inv-loop2 μ-loop2 Inv-loop μ-loop
 
 abbrev entry : Here → tie.Start Inv-loop3 μ-loop3 Inv-loop2 μ-loop2 Inv-loop μ-loop
-entry c = c .before .before .before .before .before .before .before .before .before .before .before .before .before
+entry c = c .before .before .before .before .before .before .before .before .before .before .before .before .before .before
 
 abbrev turn : Here → tie.At-loop Inv-loop3 μ-loop3 Inv-loop2 μ-loop2 Inv-loop μ-loop
 turn c = c .before .before .before .before .before .before .before
@@ -70,7 +72,7 @@ here c =
       script = g .script .now;
       out₀ = g .out .now;
       out = l .out;
-      z = record { count = l .count; events = l .events; sees = l .sees; kept = l .kept; known = l .known; cells = l .cells; puts = l .puts };
+      z = record { terms = termsOf (g .openings .now); count = l .count; events = l .events; sees = l .sees; kept = l .kept; known = l .known; cells = l .cells; puts = l .puts };
       k = l .k;
       c = a;
       s = a .site % 8;
@@ -87,7 +89,7 @@ right c = record {
   site = refl;
   event = refl;
   told = c .refused .ensures (keptSite (here c)) (keptEvent (here c)) refl;
-  short = entry c .pre .1 .1 .1;
+  short = entry c .pre .1 .1 .1 .1;
   next = c .before .before .before .before .before .before .loop-test .taken;
 }
 
@@ -96,7 +98,7 @@ answered : (c : Here) → 8 * turn c .loop .k + 8 ≤ length (turn c .loop .out)
 answered c = omega (arith, right c .next, right c .short, turn c .loop .inv .long)
 
 few : (c : Here) → turn c .loop .k < 4096
-few c = omega (arith, right c .next, entry c .pre .1 .1 .0)
+few c = omega (arith, right c .next, entry c .pre .1 .1 .1 .0)
 
 -- a delivery, and a put or a get, that is not refused
 delivery : (c : tie.Else3 Inv-loop3 μ-loop3 Inv-loop2 μ-loop2 Inv-loop μ-loop) → Delivered (here (c .before .before .before .before .before .before .before .before .before))
@@ -129,8 +131,11 @@ bounds c =
     let g = c .before .loop2 in
     closing-limits (entry o .args .n) (h .sites) (here o .z) (h .inv .laid) (keeps (here o) h) (limits (here o) h) (g .kept) (g .known) (g .cells) (g .copies) (g .inv .0)
 
+keeping : (c : Lacked) → StoreInv (entry (outer c) .args .n) (part c .terms) (storeIn (part c) .event) (storeIn (part c))
+keeping c = let o = outer c in c .before .loop2 .inv .0 .closing .keeps (keeps (here o) (right o))
+
 isPut : (c : Lacked) → has (here (outer c) .z .puts) (c .before .loop2 .lacked) ≡ true
-isPut c = lacked-put (entry (outer c) .args .n) (right (outer c) .sites) (part c) (right (outer c) .inv .laid) (c .before .loop2 .inv .0 .closing .keeps) (bounds c) (c .before .loop2 .lacked) (c .before .loop2 .inv .1) (c .loop2-test .taken)
+isPut c = lacked-put (entry (outer c) .args .n) (right (outer c) .sites) (part c) (right (outer c) .inv .laid) (keeping c) (bounds c) (c .before .loop2 .lacked) (c .before .loop2 .inv .1) (c .loop2-test .taken)
 
 abbrev Each : Type 0
 Each = tie.In-loop3 Inv-loop3 μ-loop3 Inv-loop2 μ-loop2 Inv-loop μ-loop
@@ -144,7 +149,7 @@ site c = omega (arith, c .loop3-test .taken, entry (outer (up c)) .pre .0)
 copy : (c : Each) → let l = c .before .loop3 in Copyable (closingArrays (part (up c)) (l .kept) (l .known) (l .cells)) (up c .before .loop2 .lacked) (l .t)
 copy c =
     let l = c .before .loop3 in
-    copying-copyable (entry (outer (up c)) .args .n) (right (outer (up c)) .sites) (part (up c)) (right (outer (up c)) .inv .laid) ((up c) .before .loop2 .inv .0 .closing .keeps) (bounds (up c)) (l .kept) (l .known) (l .cells) (l .copies) (up c .before .loop2 .lacked) (up c .before .loop2 .copies) (isPut (up c)) (l .t) (l .inv) (c .loop3-test .taken)
+    copying-copyable (entry (outer (up c)) .args .n) (right (outer (up c)) .sites) (part (up c)) (right (outer (up c)) .inv .laid) (keeping (up c)) (bounds (up c)) (l .kept) (l .known) (l .cells) (l .copies) (up c .before .loop2 .lacked) (up c .before .loop2 .copies) (isPut (up c)) (l .t) (l .inv) (c .loop3-test .taken)
 
 -- whether the site knows it
 told : (c : tie.After-test Inv-loop3 μ-loop3 Inv-loop2 μ-loop2 Inv-loop μ-loop) → let i = c .before .before in c .test .result ≡ has (rowAt (i .before .loop3 .known) 4 (i .before .loop3 .t)) (up i .before .loop2 .lacked)
@@ -168,17 +173,17 @@ joined c =
 fresh-site-requires : tie.Need-fresh-site-requires Inv-loop3 μ-loop3 Inv-loop2 μ-loop2 Inv-loop μ-loop
 fresh-site-requires c κs = search needs
 
-no-cell-requires : tie.Need-no-cell-requires Inv-loop3 μ-loop3 Inv-loop2 μ-loop2 Inv-loop μ-loop
-no-cell-requires c κs = search needs
+opened-cells-requires : tie.Need-opened-cells-requires Inv-loop3 μ-loop3 Inv-loop2 μ-loop2 Inv-loop μ-loop
+opened-cells-requires c κs = c .before .before .before .before .pre .1 .0
 
 no-event-requires : tie.Need-no-event-requires Inv-loop3 μ-loop3 Inv-loop2 μ-loop2 Inv-loop μ-loop
 no-event-requires c κs = search needs
 
 loop-holds : tie.Need-loop-holds Inv-loop3 μ-loop3 Inv-loop2 μ-loop2 Inv-loop μ-loop
 loop-holds c =
-    let g = c .before .before .before .before .before .args in
-    turned-none (g .n) (g .script .now) (g .out .now) (c .before .before .fresh-site .result) (c .before .no-cell .result) (c .no-event .result)
-    (c .before .before .fresh-site .ensures) (c .before .no-cell .ensures) (c .no-event .ensures)
+    let g = c .before .before .before .before .before .before .args in
+    turned-none (g .n) (termsOf (g .openings .now)) (g .script .now) (g .out .now) (c .before .before .fresh-site .result) (c .before .opened-cells .result) (c .no-event .result)
+    (c .before .before .fresh-site .ensures) (search needs) (c .before .opened-cells .ensures) (c .no-event .ensures)
 
 mul-asked-at : tie.Need-mul-asked-at Inv-loop3 μ-loop3 Inv-loop2 μ-loop2 Inv-loop μ-loop
 mul-asked-at c = omega arith
@@ -203,9 +208,9 @@ slice-aggregate-refused c = omega arith
 
 refused-requires : tie.Need-refused-requires Inv-loop3 μ-loop3 Inv-loop2 μ-loop2 Inv-loop μ-loop
 refused-requires c κs =
-    let g = c .before .before .before .before .before .before .before .before .before .before .before .before .args in
+    let g = c .before .before .before .before .before .before .before .before .before .before .before .before .before .args in
     let l = c .before .before .before .before .before .before .loop in (
-      c .before .before .before .before .before .before .before .before .before .before .before .before .pre .0,
+      c .before .before .before .before .before .before .before .before .before .before .before .before .before .pre .0,
       count-few (g .n) (g .script .now) (g .out .now) (l .out) _ (l .k) (l .inv),
       l .inv .sized .known,
       c .before .before .before .before .asked-at .ensures .1,
@@ -315,7 +320,7 @@ loop3-holds : tie.Need-loop3-holds Inv-loop3 μ-loop3 Inv-loop2 μ-loop2 Inv-loo
 loop3-holds c =
     let i = c .before in
     let g = i .before .loop2 in
-    copying-start (entry (outer i) .args .n) (right (outer i) .sites) (part i) (right (outer i) .inv .laid) (i .before .loop2 .inv .0 .closing .keeps) (bounds i) (g .lacked) (g .inv .1) (g .inv .0 .sized) (g .copies)
+    copying-start (entry (outer i) .args .n) (right (outer i) .sites) (part i) (right (outer i) .inv .laid) (keeping i) (bounds i) (g .lacked) (g .inv .1) (g .inv .0 .sized) (g .copies)
 
 slice-aggregate-test : tie.Need-slice-aggregate-test Inv-loop3 μ-loop3 Inv-loop2 μ-loop2 Inv-loop μ-loop
 slice-aggregate-test c = sym (c .before .before .loop3 .inv .here .sized .known)
@@ -401,11 +406,11 @@ loop3-again c =
     elim (c .if5 .came) [
       | inl w ↦
           copying-carried (w .10) (w .11) (w .12) (w .13)
-          (copying-copy (entry (outer (up i)) .args .n) (right (outer (up i)) .sites) (part (up i)) (right (outer (up i)) .inv .laid) ((up i) .before .loop2 .inv .0 .closing .keeps) (bounds (up i)) (l .kept) (l .known) (l .cells) (l .copies) (g .lacked) (g .copies) (isPut (up i)) (l .t) (l .inv) (i .loop3-test .taken) (sym (told (c .before)) ∙ not-true _ (w .0 .taken)) _ _ _ _ refl
+          (copying-copy (entry (outer (up i)) .args .n) (right (outer (up i)) .sites) (part (up i)) (right (outer (up i)) .inv .laid) (keeping (up i)) (bounds (up i)) (l .kept) (l .known) (l .cells) (l .copies) (g .lacked) (g .copies) (isPut (up i)) (l .t) (l .inv) (i .loop3-test .taken) (sym (told (c .before)) ∙ not-true _ (w .0 .taken)) _ _ _ _ refl
           (w .4 .ensures) (w .5 .ensures) (w .8 .ensures .0) (w .8 .ensures .1))
       | inr w ↦
           copying-carried (w .1) (w .2) (w .3) (w .4)
-          (copying-pass (entry (outer (up i)) .args .n) (right (outer (up i)) .sites) (part (up i)) (right (outer (up i)) .inv .laid) ((up i) .before .loop2 .inv .0 .closing .keeps) (bounds (up i)) (l .kept) (l .known) (l .cells) (l .copies) (g .lacked) (g .copies) (isPut (up i)) (l .t) (l .inv) (i .loop3-test .taken) (sym (told (c .before)) ∙ not-false _ (w .0 .left)))
+          (copying-pass (entry (outer (up i)) .args .n) (right (outer (up i)) .sites) (part (up i)) (right (outer (up i)) .inv .laid) (keeping (up i)) (bounds (up i)) (l .kept) (l .known) (l .cells) (l .copies) (g .lacked) (g .copies) (isPut (up i)) (l .t) (l .inv) (i .loop3-test .taken) (sym (told (c .before)) ∙ not-false _ (w .0 .left)))
     ]
 
 slice-aggregate-first-lacked-3 : tie.Need-slice-aggregate-first-lacked-3 Inv-loop3 μ-loop3 Inv-loop2 μ-loop2 Inv-loop μ-loop
@@ -424,7 +429,7 @@ loop2-less c =
     let i = c .before .before .before .before .before .before in
     let g = i .before .loop2 in
     let l = c .before .before .before .before .loop3 in
-    omega (arith, i .loop2-test .taken, copied-higher (entry (outer i) .args .n) (right (outer i) .sites) (part i) (right (outer i) .inv .laid) (i .before .loop2 .inv .0 .closing .keeps) (bounds i) (l .kept) (l .known) (l .cells) (l .copies) (g .lacked) (g .copies) (l .t) (c .first-lacked2 .result) (l .inv) (c .before .before .before .loop3-test .left) (i .loop2-test .taken) (c .first-lacked2 .ensures))
+    omega (arith, i .loop2-test .taken, copied-higher (entry (outer i) .args .n) (right (outer i) .sites) (part i) (right (outer i) .inv .laid) (keeping i) (bounds i) (l .kept) (l .known) (l .cells) (l .copies) (g .lacked) (g .copies) (l .t) (c .first-lacked2 .result) (l .inv) (c .before .before .before .loop3-test .left) (i .loop2-test .taken) (c .first-lacked2 .ensures))
 
 loop2-again : tie.Need-loop2-again Inv-loop3 μ-loop3 Inv-loop2 μ-loop2 Inv-loop μ-loop
 loop2-again c = (joined (c .before .before .before .before), c .first-lacked2 .ensures)
@@ -561,11 +566,11 @@ same-length c = c .before .loop .inv .long
 
 returns : tie.Need-returns Inv-loop3 μ-loop3 Inv-loop2 μ-loop2 Inv-loop μ-loop
 returns c =
-    let g = c .before .before .before .before .before .before .before .args in
+    let g = c .before .before .before .before .before .before .before .before .args in
     let l = c .before .loop in
     let all : l .k ≡ length (g .script .now) / 8 = omega (arith, l .inv .within) in (
-      whole-answers (g .n) (g .script .now) (g .out .now) (l .out) _ (l .k) (l .inv) all (c .before .before .before .before .before .before .before .pre .1 .0),
-      whole-ends (g .n) (g .script .now) (g .out .now) (l .out) _ (l .k) (l .inv) all,
+      whole-answers (g .n) (g .script .now) (g .out .now) (l .out) _ (l .k) (l .inv) all (c .before .before .before .before .before .before .before .before .pre .1 .1 .0),
+      whole-ends (g .n) (g .script .now) (g .out .now) (l .out) _ (l .k) (l .inv) all (g .openings .now) refl,
     )
 
 pub run-spec : {M : Type 1} → statement M
@@ -579,7 +584,7 @@ run-spec =
     Inv-loop
     μ-loop
     fresh-site-requires
-    no-cell-requires
+    opened-cells-requires
     no-event-requires
     loop-holds
     mul-asked-at

@@ -2,7 +2,7 @@
 use mathlib.Core.Logic.{⊎-elim}
 use mathlib.Core.Path.{_≡_}
 use Rattle.calls.specs.Mirror.{shownOf}
-use Rattle.store.specs.Rules.{valueOr0}
+use Rattle.record.specs.Terms.{valueOr0}
 use borrow.Author.Needs.{needs}
 use Rattle.rehearsal.proofs.slots.slot.Statement.{statement}
 use Rattle.rehearsal.proofs.slots.slot.Tie as tie

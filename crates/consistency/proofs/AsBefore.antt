@@ -1,0 +1,85 @@
+-- Records of letters other than those of `GCR2`, so every `GCR1`, are read and judged as before there was a second edition. Assumes nothing.
+use mathlib.Core.Path.{_≡_, refl, sym, ap, subst, _∙_}
+use mathlib.Core.Bool.{Bool, true, false, not, _&&_}
+use mathlib.Core.List.{List}
+use Prim.Native.Nat.{ℕ}
+use lib.Dec.{eqb, leb}
+use lib.ListN.{take}
+use Rattle.rows.specs.Relation.{Rel}
+use Rattle.record.specs.Layout.{Layout, edition, gcr1, gcr2, editionOf, countIn, sitesIn, zeros, same}
+use Rattle.record.specs.Terms.{Held, none, value}
+use Rattle.record.specs.History.{History, historyOf}
+use Rattle.record.specs.Questions.{termsRight, headerRight}
+use Rattle.record.proofs.LayoutLaws.{one-edition}
+use Rattle.consistency.specs.FirstPair.{first}
+use Rattle.consistency.specs.Relations.{read}
+use Rattle.consistency.specs.Reads.{lastWrite, sameHeld, held, leftBy, expected, wrongRead, lastOr, wrong}
+use Rattle.consistency.specs.Predicates.{rule, breaks, verdict}
+use Rattle.consistency.specs.declared.Last.{Last}
+use Rattle.consistency.specs.declared.Last.the-variants.{Nothing, At}
+use Rattle.consistency.specs.declared.Predicate.the-variants.{RVal}
+use Rattle.consistency.proofs.FirstPairLaws.{first-same}
+
+-- ---- what was asked of block 0, and what a read was held to, before
+
+abbrev pub headerBefore : List ℕ → Bool
+headerBefore s = same (take 4 s) (gcr1 .letters) && (leb (countIn s) 256 && (leb 1 (sitesIn s) && (leb (sitesIn s) 8 && zeros 501 s 7)))
+
+-- none where it sees no write
+abbrev pub leftBefore : History → Last → Held
+leftBefore h Nothing = none
+leftBefore h (At w) = value (h .value w)
+
+abbrev pub wrongBefore : History → Rel
+wrongBefore h e w =
+    ((read h e && not (h .isPending e)) && not (sameHeld (held h e) (leftBefore h (lastWrite h e)))) && eqb w (lastOr e (lastWrite h e))
+
+-- ---- as before
+
+pub record AsBefore (s : List ℕ) : Type 0 where
+  -- so every definition over an edition is that of `GCR1`, whose numbers stay
+  pub edition : editionOf s ≡ gcr1
+  -- question 5
+  pub header : headerRight (editionOf s) s ≡ headerBefore s
+  -- predicate 1; the definitions of the others do not ask for terms (TermsLaws)
+  pub reads : verdict RVal (historyOf (editionOf s) s) ≡ first (countIn s) (wrongBefore (historyOf (editionOf s) s))
+
+left-before : (h : History) → ((o : ℕ) → h .terms .opening o ≡ none) → (e : ℕ) (l : Last) → leftBy h e l ≡ leftBefore h l
+left-before h so e Nothing = so (h .object e)
+left-before h so e (At w) = refl
+
+wrong-before : (h : History) → ((o : ℕ) → h .terms .opening o ≡ none) → (e w : ℕ) → wrong h e w ≡ wrongBefore h e w
+unfolding wrong wrongRead expected
+wrong-before h so e w =
+    ap (λ (x : Held). ((read h e && not (h .isPending e)) && not (sameHeld (held h e) x)) && eqb w (lastOr e (lastWrite h e)))
+    (left-before h so e (lastWrite h e))
+
+reads-before : (h : History) → ((o : ℕ) → h .terms .opening o ≡ none) → verdict RVal h ≡ first (h .count) (wrongBefore h)
+unfolding verdict rule breaks
+reads-before h so = first-same (h .count) (wrong h) (wrongBefore h) (λ a b i j. wrong-before h so a b)
+
+header-before : (s : List ℕ) → headerRight gcr1 s ≡ headerBefore s
+unfolding headerRight termsRight
+header-before s = refl
+
+none-before : (s : List ℕ) (o : ℕ) → historyOf gcr1 s .terms .opening o ≡ none
+unfolding historyOf
+none-before s o = refl
+
+first-count : (s : List ℕ) → historyOf gcr1 s .count ≡ countIn s
+unfolding historyOf
+first-count s = refl
+
+pub as-before : (s : List ℕ) → same (take 4 s) (gcr2 .letters) ≡ false → AsBefore s
+as-before s e =
+    let first-one : editionOf s ≡ gcr1 = ap edition e in
+    record {
+      edition = first-one;
+      header = ap (λ (L : Layout). headerRight L s) first-one ∙ header-before s;
+      reads = subst (λ (L : Layout). verdict RVal (historyOf L s) ≡ first (countIn s) (wrongBefore (historyOf L s))) (sym first-one)
+          (reads-before (historyOf gcr1 s) (none-before s) ∙ ap (λ (n : ℕ). first n (wrongBefore (historyOf gcr1 s))) (first-count s));
+    }
+
+-- as every `GCR1` is
+pub gcr1-as-before : (s : List ℕ) → same (take 4 s) (gcr1 .letters) ≡ true → AsBefore s
+gcr1-as-before s e = as-before s (one-edition s e)

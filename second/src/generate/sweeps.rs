@@ -1,0 +1,161 @@
+//! Fixed inputs, one for each byte or object that could be overlooked.
+
+use super::scripts::{as_read, Rehearsal};
+use crate::openings::{value_at, Openings, OBJECTS, OPENINGS_BYTES};
+use crate::record::*;
+use crate::store::Call;
+
+/// An input under a name of its own.
+pub type Named<T> = (String, T);
+
+/// Records with one bit turned in one byte of block 0, and letters of all sorts, sealed again. All have a read of each
+/// object that can have an opening and of two that cannot, so that every opening shows in predicate 1.
+pub fn block_0() -> Vec<Named<Vec<u8>>> {
+    let mut all = Vec::new();
+    for (name, every_byte, record) in unwritten() {
+        let bytes = record.to_bytes();
+        for at in (0..CHECKED_BYTES).filter(|_| every_byte) {
+            all.push((format!("{name}-byte-{at}"), sealed(turned(&bytes, at))));
+        }
+        all.extend(LETTERS.map(|letters| (format!("{name}-as-{}", letters.escape_ascii()), lettered(&bytes, letters))));
+        all.push((name.to_string(), bytes));
+    }
+    all
+}
+
+/// Fewer of them, as a program is slow to start: in each edition still every byte is turned.
+pub fn block_0_of_programs() -> Vec<Named<Vec<u8>>> {
+    let mut all = block_0();
+    all.retain(|(name, _)| !name.starts_with("gcr2-odd"));
+    all
+}
+
+const LETTERS: [&[u8; 4]; 14] = [
+    b"GCR1",
+    b"GCR2",
+    b"GCR0",
+    b"GCR3",
+    b"GCR4",
+    b"GCR9",
+    b"GCR ",
+    b"GCR\0",
+    b"GCR\xb2",
+    b"gcr1",
+    b"Gcr2",
+    b"RGC2",
+    b"2RCG",
+    b"\0\0\0\0",
+];
+
+/// In `GCR1`, and in `GCR2` with openings of no object, of even ones, of odd ones, and of all. With those of the even
+/// and of the odd ones every object has one and has none, so that in these every byte is turned.
+fn unwritten() -> [(&'static str, bool, Record); 5] {
+    [
+        ("gcr1", true, reads_of(Openings::none(), Edition::Gcr1)),
+        ("gcr2-none", false, opened(|_| false)),
+        ("gcr2-even", true, opened(|object| object % 2 == 0)),
+        ("gcr2-odd", true, opened(|object| object % 2 == 1)),
+        ("gcr2-all", false, opened(|_| true)),
+    ]
+}
+
+fn opened(has: impl Fn(usize) -> bool) -> Record {
+    let openings = figures(has);
+    reads_of(openings, Edition::Gcr2(openings))
+}
+
+/// Figures that differ in all their bytes, but for two objects that open with 0.
+pub fn figures(has: impl Fn(usize) -> bool) -> Openings {
+    let figure = |object: usize| match object {
+        6 | 7 => 0,
+        _ => 0x0102_0408u32.wrapping_mul(object as u32 + 1),
+    };
+    Openings::from_figures(std::array::from_fn(|object| has(object).then(|| figure(object))))
+}
+
+fn reads_of(openings: Openings, edition: Edition) -> Record {
+    let objects = (0..OBJECTS).chain([32, 255]);
+    let reads = objects.map(|object| Event::read(0, object as u8, openings.of(object)));
+    Record { edition, ..Record::in_order(1, reads.collect()) }
+}
+
+fn turned(bytes: &[u8], at: usize) -> Vec<u8> {
+    let mut turned = bytes.to_vec();
+    turned[at] ^= 1 << (at % 8);
+    turned
+}
+
+fn sealed(mut bytes: Vec<u8>) -> Vec<u8> {
+    seal(&mut bytes);
+    bytes
+}
+
+fn lettered(bytes: &[u8], letters: &[u8; 4]) -> Vec<u8> {
+    let mut lettered = bytes.to_vec();
+    lettered[..4].copy_from_slice(letters);
+    sealed(lettered)
+}
+
+/// Lengths of a slice of openings that is refused for it.
+const WRONG_LENGTHS: [usize; 9] = [0, 1, 4, 128, 131, 133, 136, 264, 20_000];
+
+/// Openings of every object, each byte changed; a value under every clear bit; slices of other lengths; and what 20 to
+/// 23 refuse beside what 40 does.
+pub fn rehearsals() -> Vec<Named<Rehearsal>> {
+    let all = figures(|_| true).to_bytes();
+    let mut slices: Vec<Named<Vec<u8>>> = vec![("none".to_string(), vec![0; OPENINGS_BYTES])];
+    slices.extend((0..OPENINGS_BYTES).map(|at| (format!("byte-{at}"), turned(&all, at))));
+    slices.extend((0..OBJECTS).map(|object| (format!("opening-{object}"), alone(object).to_bytes().to_vec())));
+    slices.extend((0..OBJECTS).map(|object| (format!("clear-bit-{object}"), under_clear_bit(object))));
+    slices.extend(WRONG_LENGTHS.map(|length| (format!("length-{length}"), resized(&all, length))));
+    slices.extend(WRONG_LENGTHS.map(|length| (format!("zeros-{length}"), vec![0; length])));
+    let plain = slices.into_iter().map(|(name, openings)| (name, Rehearsal::plain(2, openings, gets_and_puts())));
+    plain.chain(refused_twice()).collect()
+}
+
+/// What the program reads: the same, and an input that ends after each of its bytes up to the script.
+pub fn program_inputs() -> Vec<Named<Vec<u8>>> {
+    let whole = as_read(&Rehearsal::plain(2, figures(|_| true).to_bytes().to_vec(), vec![]));
+    let cut = (0..=whole.len()).map(|length| (format!("cut-{length}"), whole[..length].to_vec()));
+    let rehearsed = rehearsals().into_iter().map(|(name, rehearsal)| (name, as_read(&rehearsal)));
+    rehearsed.chain(cut).collect()
+}
+
+fn resized(bytes: &[u8], length: usize) -> Vec<u8> {
+    let mut resized = bytes.to_vec();
+    resized.resize(length, 0);
+    resized
+}
+
+fn alone(object: usize) -> Openings {
+    Openings::none().with(object, 7)
+}
+
+/// All others have openings.
+fn under_clear_bit(object: usize) -> Vec<u8> {
+    let mut bytes = figures(|other| other != object).to_bytes().to_vec();
+    bytes[value_at(object) + object % 4] = 1;
+    bytes
+}
+
+/// Every object is got at one site, three are put there, two of these are delivered, and every one is got at the other.
+fn gets_and_puts() -> Vec<u8> {
+    let gets = |site| (0..OBJECTS).map(move |object| Call::Get { site, object });
+    let puts = [0, 6, 31].map(|object| Call::Put { site: 0, object, value: 100 + object as u32 });
+    let delivered = [32, 33].map(|event| Call::Deliver { site: 1, event });
+    gets(0).chain(puts).chain(delivered).chain(gets(1)).flat_map(Call::to_bytes).collect()
+}
+
+/// Openings that 40 refuses, in rehearsals that each of 20 to 23 refuses.
+fn refused_twice() -> Vec<Named<Rehearsal>> {
+    let mut all = Vec::new();
+    for (slice, openings) in [("length", vec![0; 131]), ("clear-bit", under_clear_bit(31))] {
+        let plain = || Rehearsal::plain(2, openings.clone(), gets_and_puts());
+        let calls = gets_and_puts().len();
+        all.push((format!("20-and-{slice}"), Rehearsal { sites: 9, ..plain() }));
+        all.push((format!("21-and-{slice}"), Rehearsal { script: vec![0; calls - 1], ..plain() }));
+        all.push((format!("22-and-{slice}"), Rehearsal { record_bytes: MOST_BYTES - 1, ..plain() }));
+        all.push((format!("23-and-{slice}"), Rehearsal { answer_bytes: calls - 1, ..plain() }));
+    }
+    all
+}
