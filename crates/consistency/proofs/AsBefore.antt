@@ -1,14 +1,14 @@
 -- Records of letters other than those of `GCR2`, so every `GCR1`, are read and judged as before there was a second edition. Assumes nothing.
 use mathlib.Core.Path.{_≡_, refl, sym, ap, subst, _∙_}
 use mathlib.Core.Bool.{Bool, true, false, not, _&&_}
-use mathlib.Core.List.{List}
+use mathlib.Core.List.{List, [], _∷_}
 use Prim.Native.Nat.{ℕ}
 use lib.Dec.{eqb, leb}
 use lib.ListN.{take}
 use Rattle.rows.specs.Relation.{Rel}
 use Rattle.record.specs.Layout.{Layout, edition, gcr1, gcr2, editionOf, countIn, sitesIn, zeros, same}
-use Rattle.record.specs.Terms.{Held, none, value}
-use Rattle.record.specs.History.{History, historyOf}
+use Rattle.record.specs.Terms.{Held, none, value, Terms}
+use Rattle.record.specs.History.{History, historyOf, under}
 use Rattle.record.specs.Questions.{termsRight, headerRight}
 use Rattle.record.proofs.LayoutLaws.{one-edition}
 use Rattle.consistency.specs.FirstPair.{first}
@@ -17,13 +17,19 @@ use Rattle.consistency.specs.Reads.{lastWrite, sameHeld, held, leftBy, e
 use Rattle.consistency.specs.Predicates.{rule, breaks, verdict}
 use Rattle.consistency.specs.declared.Last.{Last}
 use Rattle.consistency.specs.declared.Last.the-variants.{Nothing, At}
+use Rattle.consistency.specs.declared.Predicate.{Predicate}
 use Rattle.consistency.specs.declared.Predicate.the-variants.{RVal}
 use Rattle.consistency.proofs.FirstPairLaws.{first-same}
+use Rattle.consistency.proofs.TermsLaws.{NotRVal, verdict-under}
 
 -- ---- what was asked of block 0, and what a read was held to, before
 
+-- the edition that there was, in numbers
+abbrev pub before : Layout
+before = record { letters = 71 ∷ 67 ∷ 82 ∷ 49 ∷ []; slot = 64; perBlock = 7; row = 4; events = 256; longest = 19456; openings = false }
+
 abbrev pub headerBefore : List ℕ → Bool
-headerBefore s = same (take 4 s) (gcr1 .letters) && (leb (countIn s) 256 && (leb 1 (sitesIn s) && (leb (sitesIn s) 8 && zeros 501 s 7)))
+headerBefore s = same (take 4 s) (71 ∷ 67 ∷ 82 ∷ 49 ∷ []) && (leb (countIn s) 256 && (leb 1 (sitesIn s) && (leb (sitesIn s) 8 && zeros 501 s 7)))
 
 -- none where it sees no write
 abbrev pub leftBefore : History → Last → Held
@@ -37,12 +43,14 @@ wrongBefore h e w =
 -- ---- as before
 
 pub record AsBefore (s : List ℕ) : Type 0 where
-  -- so every definition over an edition is that of `GCR1`, whose numbers stay
-  pub edition : editionOf s ≡ gcr1
+  -- so every question and every judgment is asked in the edition that there was
+  pub edition : editionOf s ≡ before
   -- question 5
   pub header : headerRight (editionOf s) s ≡ headerBefore s
-  -- predicate 1; the definitions of the others do not ask for terms (TermsLaws)
+  -- predicate 1
   pub reads : verdict RVal (historyOf (editionOf s) s) ≡ first (countIn s) (wrongBefore (historyOf (editionOf s) s))
+  -- 2 to 13, which are the same on any terms
+  pub others : (p : Predicate) → NotRVal p → (t : Terms) → verdict p (under t (historyOf (editionOf s) s)) ≡ verdict p (historyOf (editionOf s) s)
 
 left-before : (h : History) → ((o : ℕ) → h .terms .opening o ≡ none) → (e : ℕ) (l : Last) → leftBy h e l ≡ leftBefore h l
 left-before h so e Nothing = so (h .object e)
@@ -78,6 +86,7 @@ as-before s e =
       header = ap (λ (L : Layout). headerRight L s) first-one ∙ header-before s;
       reads = subst (λ (L : Layout). verdict RVal (historyOf L s) ≡ first (countIn s) (wrongBefore (historyOf L s))) (sym first-one)
           (reads-before (historyOf gcr1 s) (none-before s) ∙ ap (λ (n : ℕ). first n (wrongBefore (historyOf gcr1 s))) (first-count s));
+      others = λ p other t. verdict-under t (historyOf (editionOf s) s) p other;
     }
 
 -- as every `GCR1` is

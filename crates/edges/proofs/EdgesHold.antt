@@ -26,7 +26,7 @@ use Rattle.store.specs.Outstanding.{outstanding, puts, toldDone, toldCopies}
 use Rattle.store.specs.Recorded.{rank, recorded, storeRecord}
 use Rattle.store.specs.Rehearsal.{rehearsalRefusal, storeAfter, recordOf}
 use Rattle.edges.specs.Events.{member, historyOfEvents}
-use Rattle.edges.specs.Cases.{Case, right, allRight, ofEmpty, ofRing, ofHistories, ofListing, ofDeliveries, ofCloses, ofCopies, ofBlock0, ofZeros, ofSecond, ofFirst, ofOpenings, ofRefusals, edges}
+use Rattle.edges.specs.Cases.{Case, right, allRight, ofEmpty, ofRing, ofHistories, ofListing, ofDeliveries, ofCloses, ofCopies, ofBlock0, ofZeros, ofSecond, ofPast, ofFirst, ofOpenings, ofRefusals, edges}
 
 also : (l m : List Case) → allRight l ≡ true → allRight m ≡ true → allRight (l ++ m) ≡ true
 unfolding allRight
@@ -82,6 +82,10 @@ second-hold : allRight ofSecond ≡ true
 unfolding test
 second-hold = refl
 
+past-hold : allRight ofPast ≡ true
+unfolding test
+past-hold = refl
+
 first-hold : allRight ofFirst ≡ true
 unfolding test
 first-hold = refl
@@ -106,5 +110,6 @@ edges-hold =
     (also ofBlock0 _ block0-hold
     (also ofZeros _ zeros-hold
     (also ofSecond _ second-hold
+    (also ofPast _ past-hold
     (also ofFirst _ first-hold
-    (also ofOpenings ofRefusals openings-hold refusals-hold)))))))))))
+    (also ofOpenings ofRefusals openings-hold refusals-hold))))))))))))

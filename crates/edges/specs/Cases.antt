@@ -37,8 +37,8 @@ pub data Case : Type 0 where
   thirteen : (s : List ℕ) (numbers : List ℕ) → Case
   -- the answer of call k of a script from these openings, all eight bytes
   answeredFrom : (openings : List ℕ) (sites : ℕ) (script : List ℕ) (k : ℕ) (answer : List ℕ) → Case
-  -- what refuses a rehearsal of an empty script, by its openings and the length of the record buffer
-  admitted : (openings : List ℕ) (sites room number : ℕ) → Case
+  -- what refuses a rehearsal, whose record and answer buffers have so many bytes, or 0
+  admitted : (openings : List ℕ) (sites : ℕ) (script : List ℕ) (room answers number : ℕ) → Case
   -- after a script: its puts, done deliveries, copies delivered by closes, by the rules and by the answers, and copies outstanding
   counted : (sites : ℕ) (script : List ℕ) (put delivered closed left : ℕ) → Case
 
@@ -48,7 +48,7 @@ right (decided h p answer) = eqb (packedVerdict (verdict (numbered p) h)) answer
 right (ruled s p answer) = eqb (packedJudgment (predicateJudgment (editionOf s) 1024 p s)) answer
 right (thirteen s numbers) = same (packedJudgments (editionOf s) 1024 13 s) numbers
 right (answeredFrom openings n script k answer) = same (take 8 (drop (8 * k) (answers n (fresh (termsOf openings)) (callsOf script)))) answer
-right (admitted openings n room number) = eqb (rehearsalRefusal n openings [] (replicate room 0) []) number
+right (admitted openings n script room answers number) = eqb (rehearsalRefusal n openings script (replicate room 0) (replicate answers 0)) number
 right (counted n script put delivered closed left) =
     same (puts (storeAfter n noOpenings script) ∷ deliveries n (fresh (termsOf noOpenings)) (callsOf script) ∷ copiesByCloses n (fresh (termsOf noOpenings)) (callsOf script) ∷ []) (put ∷ delivered ∷ closed ∷ [])
     && (same (told 1 ∷ told 3 ∷ toldCopies script (answers n (fresh (termsOf noOpenings)) (callsOf script)) ∷ []) (put ∷ delivered ∷ closed ∷ [])
@@ -317,6 +317,10 @@ ofZeros =
 abbrev pub ofSecond : List Case
 ofSecond = ruled (recordBytes gcr2 1 (under (sevenAt 31) (readOf7 31))) 1 met ∷ []
 
+-- object 32 has none, whatever stands where its bit and its value would be: a one bit in the value of object 0, and zeros
+abbrev pub ofPast : List Case
+ofPast = ruled (recordBytes gcr2 1 (under (sevenAt 0) (historyOfEvents (event aRead 0 32 none 0 (returned 0 1) [] ∷ [])))) 1 met ∷ []
+
 abbrev pub ofFirst : List Case
 ofFirst = ruled (recordBytes gcr1 1 (under (sevenAt 31) (readOf7 31))) 1 (broken 0 0) ∷ []
 
@@ -330,13 +334,14 @@ ofOpenings =
 
 abbrev pub ofRefusals : List Case
 ofRefusals =
-    admitted (openingBytes (opening 31 7)) 1 19456 0
-    ∷ admitted (sets noOpenings 131 (1 ∷ [])) 1 19456 40
-    ∷ admitted (replicate 131 0) 1 19456 40
-    ∷ admitted (replicate 133 0) 1 19455 22
-    ∷ admitted (replicate 133 0) 9 19456 20
+    admitted (openingBytes (opening 31 7)) 1 lonePut 19456 16 0
+    ∷ admitted (sets noOpenings 131 (1 ∷ [])) 1 lonePut 19456 16 40
+    ∷ admitted (replicate 131 0) 1 lonePut 19456 16 40
+    ∷ admitted (replicate 133 0) 1 lonePut 19456 15 23
+    ∷ admitted (replicate 133 0) 1 lonePut 19455 16 22
+    ∷ admitted (replicate 133 0) 9 lonePut 19456 16 20
     ∷ []
 
 -- the table, in parts that the checker computes one by one
 abbrev pub edges : List Case
-edges = ofEmpty ++ (ofRing ++ (ofHistories ++ (ofListing ++ (ofDeliveries ++ (ofCloses ++ (ofCopies ++ (ofBlock0 ++ (ofZeros ++ (ofSecond ++ (ofFirst ++ (ofOpenings ++ ofRefusals)))))))))))
+edges = ofEmpty ++ (ofRing ++ (ofHistories ++ (ofListing ++ (ofDeliveries ++ (ofCloses ++ (ofCopies ++ (ofBlock0 ++ (ofZeros ++ (ofSecond ++ (ofPast ++ (ofFirst ++ (ofOpenings ++ ofRefusals))))))))))))

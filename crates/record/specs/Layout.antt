@@ -1,5 +1,5 @@
 -- Where things stand in a record ('The record'). An edition is a value of Layout, which has the numbers by which editions may differ. Those that they share
--- stand where they are used: block 0's fields here, in Questions and in Encode, the first 32 bytes of a slot in History, Slots, Words and Encode, a block's
+-- stand where they are used: block 0's fields here, in Terms, Questions and Encode, the first 32 bytes of a slot in History, Slots, Words and Encode, a block's
 -- check in Blocks and Encode. The code writes numbers out; its contracts hold them to these.
 use mathlib.Core.Bool.{Bool, true, false, cond, _&&_}
 use mathlib.Core.List.{List, [], _∷_}

@@ -29,7 +29,7 @@ pub record Terms : Type 0 where
 abbrev pub bare : Terms
 bare = record { opening = λ o. none }
 
--- ---- openings as 132 bytes, from `at` on: bit o of the first four is set where object o, 0 to 31, has one, and its value are the four from 4 + 4 × o on
+-- ---- openings as 132 bytes, from `at` on: bit o of the first four is set where object o, 0 to 31, has one, and its value is in the four from 4 + 4 × o on
 
 unfoldable pub openingIn : List ℕ → ℕ → ℕ → Held
 openingIn s at o = cond (ltb o 32 && hasByte s at o) (value (little 4 s (at + 4 + 4 * o))) none

@@ -2,7 +2,7 @@
 use mathlib.Core.Path.{_≡_, refl, ap, _∙_}
 use mathlib.Core.Bool.{true, false}
 use mathlib.Core.List.{List}
-use Prim.Native.Nat.{ℕ, _+_, _*_, _%_, _≤_, _<_}
+use Prim.Native.Nat.{ℕ, _+_, _-_, _*_, _%_, _≤_, _<_}
 use native.Mathlib.Omega.{arith}
 use lib.Dec.{ltb}
 use lib.ListN.{length, getD, set, replicate, length-replicate, length-set}
@@ -32,7 +32,7 @@ module _ (openings : List ℕ) where
   unfolding openingIn
   cell-some o l h = rw (lt-ltb o 32 l, h) refl
 
--- ---- all cells: a loop has stored those below i
+-- ---- all cells, one site's after the other's: loops have stored those below i
 
 pub record OpenedTo (openings : List ℕ) (cells : List KeptCell) (i : ℕ) : Type 0 where
   pub within : i ≤ 256
@@ -43,7 +43,7 @@ pub opened-none : (openings : List ℕ) (x : KeptCell) → OpenedTo openings (re
 opened-none openings x = record { within = omega arith; long = length-replicate 256 x; below = λ j l. absurd (omega arith) }
 
 module _ (openings : List ℕ) (cells : List KeptCell) (i : ℕ) (h : OpenedTo openings cells i) where
-  pub opened-more : (x : KeptCell) → i < 256 → cellOf x ≡ untouched (openingIn openings 0 (i % 32)) → OpenedTo openings (set cells i x) (i + 1)
+  opened-more : (x : KeptCell) → i < 256 → cellOf x ≡ untouched (openingIn openings 0 (i % 32)) → OpenedTo openings (set cells i x) (i + 1)
   opened-more x l e = record {
     within = omega arith;
     long = length-set cells i x ∙ h .long;
@@ -52,6 +52,17 @@ module _ (openings : List ℕ) (cells : List KeptCell) (i : ℕ) (h : OpenedTo o
         (λ q. rw (getD-set-other cells i j x noCell (λ p. omega arith)) (h .below j q))
         (λ q. rw (q, getD-set-same cells i x noCell (omega (arith, h .long))) e);
   }
+
+  -- one of site 0, and a copy of the cell of the site before
+  pub opened-first : (x : KeptCell) → i < 32 → cellOf x ≡ untouched (openingIn openings 0 i) → OpenedTo openings (set cells i x) (i + 1)
+  opened-first x l e =
+      let same : i ≡ i % 32 = omega arith in
+      opened-more x (omega arith) (e ∙ ap (λ (p : ℕ). untouched (openingIn openings 0 p)) same)
+
+  pub opened-copy : 32 ≤ i → i < 256 → OpenedTo openings (set cells i (getD cells (i - 32) noCell)) (i + 1)
+  opened-copy past l =
+      let same : (i - 32) % 32 ≡ i % 32 = omega arith in
+      opened-more (getD cells (i - 32) noCell) l (h .below (i - 32) (omega arith) ∙ ap (λ (p : ℕ). untouched (openingIn openings 0 p)) same)
 
   -- cell 32 × s + o is object o's at site s
   pub opened-all : 256 ≤ i → Opened (termsOf openings) cells

@@ -50,14 +50,18 @@ fn opened_cell(openings: &[u8], o: usize) -> KeptCell
     }
 }
 
-// The cells of all sites, which start alike.
+// The cells of all sites, which start alike: those of site 0, and copies of them.
 fn opened_cells(openings: &[u8]) -> [KeptCell; 256]
     requires { ⌜ length (now openings) ≡ 132 ⌝ }
     ensures { λ r. ⌜ ((s o : ℕ) → s < 8 → cellsOf r s o ≡ untouched (openingIn (now (openings .entry)) 0 o)) ⌝ }
 {
     let mut cells = [no_cell(); 256];
-    for i in 0..256 {
-        cells[i] = opened_cell(openings, i % 32);
+    for o in 0..32 {
+        cells[o] = opened_cell(openings, o);
+    }
+    for i in 32..256 {
+        let x = cells[i - 32];
+        cells[i] = x;
     }
     cells
 }

@@ -116,7 +116,8 @@ impl Scene<'_> {
     fn words(&self) -> Vec<String> {
         let arrows = legend::of_arrows(self.layout.may_share_lines());
         let numbers = legend::of_numbers(&self.layout.scale, axis::base(self.across));
-        let is_opening = self.record.events.iter().any(|event| event.holds_opening);
-        [arrows, numbers].into_iter().chain(is_opening.then(|| legend::OPENING.to_string())).collect()
+        // The sign stands in labels, which the smallest scale has none of.
+        let has_opening = self.layout.scale.is_labelled && self.record.events.iter().any(|event| event.holds_opening);
+        [arrows, numbers].into_iter().chain(has_opening.then(|| legend::OPENING.to_string())).collect()
     }
 }

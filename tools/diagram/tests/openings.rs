@@ -63,7 +63,7 @@ fn the_rehearsed_day_shows_where_openings_end() {
     assert_eq!(drawing.texts("label"), labels);
 }
 
-/// From 81 events on marks have no labels; pointing at one still tells.
+/// From 81 events on marks have no labels, so that there is no sign to explain; pointing at a mark still tells.
 #[test]
 fn a_small_mark_tells_on_pointing_at_it() {
     let read = |number: u64| Event::read(0, (number % 2) as u8, (number % 2 == 0).then_some(40)).at(number, number);
@@ -71,5 +71,5 @@ fn a_small_mark_tells_on_pointing_at_it() {
     let drawing = drawing(&[], &record);
     assert_eq!(marked(&drawing, "title"), due(&record));
     assert!(marked(&drawing, "text").is_empty() && due(&record).len() == 45);
-    assert!(drawing.joined("note").contains(LEGEND));
+    assert!(!drawing.joined("note").contains(LEGEND));
 }

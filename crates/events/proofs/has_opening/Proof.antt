@@ -1,3 +1,4 @@
+use native.Mathlib.Omega.{arith}
 use borrow.Author.Needs.{needs}
 use borrow.Author.Tests.{lt-ltb, le-ltb}
 use Rattle.events.proofs.has_opening.Statement.{statement}
@@ -8,7 +9,7 @@ use Rattle.rows.proofs.test.Reads as test-reads
 
 -- src/lib.rt:79:9
 returns : tie.Need-returns
-returns c = rw (le-ltb (c .before .before .args .o) 32 (c .if1 .taken))
+returns c = rw (le-ltb (c .before .before .args .o) 32 (omega (arith, c .if1 .taken)))
 
 -- src/lib.rt:81:23
 add-test : tie.Need-add-test
