@@ -63,13 +63,12 @@ module _ (count : ℕ) (events : List KeptEvent) (sees rec₀ : List ℕ) where
         written = slots-more gcr2 (recorded st) rec₀ rec rec′ k (s .written) (put (recorded st) right);
       }
 
--- ---- the whole
+-- ---- the whole: slots tell no terms, so those of the events alone are the record's
 
 pub image-written : (n : ℕ) (t : Terms) (st : Store) (k : ℕ) (buffer s₁ s₂ s₃ s₄ s₅ : List ℕ) → k ≡ blocksFor gcr2 (st .count)
     → s₁ ≡ replicate (512 * k) 0 ++ drop (512 * k) buffer → s₂ ≡ sets s₁ 0 (headerBytes gcr2 (st .count) n) → s₃ ≡ withTerms gcr2 t s₂
     → s₄ ≡ withSlots gcr2 (recorded st) (st .count) s₃ → s₅ ≡ sealed k s₄
     → s₅ ≡ storeRecord gcr2 n t st ++ drop (512 * blocksFor gcr2 (st .count)) buffer
--- slots tell no terms
 unfolding storeRecord recorded slotBytes
 image-written n t st k buffer s₁ s₂ s₃ s₄ s₅ e₀ e₁ e₂ e₃ e₄ e₅ =
     written gcr2 (edition-sound true) (under t (recorded st)) n k buffer s₁ s₂ s₃ s₄ s₅ e₀ e₁ e₂ e₃

@@ -1,28 +1,22 @@
+-- `events::opening` meets its contract: the lower or the upper half of a word. Assumes nothing.
 use Prim.Native.Nat.{_%_}
 use borrow.Author.Needs.{needs}
 use borrow.Author.Tests.{eq-eqb, ne-eqb}
 use Rattle.events.proofs.opening.Statement.{statement}
 use Rattle.events.proofs.opening.Tie as tie
-use Rattle.events.proofs.opening.Reads as reads
-use Rattle.events.proofs.opening.Lts as lts
 
--- src/lib.rt:89:22
 add-word : tie.Need-add-word
 add-word c = search needs
 
--- src/lib.rt:89:16
 mul-word : tie.Need-mul-word
 mul-word c = search needs
 
--- src/lib.rt:89:16
 shared-slice-read-word : tie.Need-shared-slice-read-word
 shared-slice-read-word c = search needs
 
--- src/lib.rt:91:9
 returns : tie.Need-returns
 returns c = rw (eq-eqb (c .before .before .args .o % 2) 0 (c .if1 .taken))
 
--- src/lib.rt:85:1
 returns-2 : tie.Need-returns-2
 returns-2 c = rw (ne-eqb (c .before .before .args .o % 2) 0 (c .if1 .left))
 

@@ -5,9 +5,6 @@ use Rattle.judge.proofs.PreparedLaws.{length-starts, length-ends, ends-
 use borrow.Author.Needs.{needs}
 use Rattle.judge.proofs.prepared.judge_inclusion.Statement.{statement}
 use Rattle.judge.proofs.prepared.judge_inclusion.Tie as tie
-use Rattle.judge.proofs.prepared.judge_inclusion.Reads as reads
-use Rattle.judge.proofs.prepared.judge_inclusion.Lts as lts
-use Rattle.pairs.proofs.inclusion.first_outside.Reads as first-outside-reads
 
 mul-a : tie.Need-mul-a
 mul-a c = search needs

@@ -5,9 +5,6 @@ use Rattle.judge.proofs.PreparedLaws.{part-end}
 use borrow.Author.Needs.{needs}
 use Rattle.judge.proofs.prepared.within_ar.Statement.{statement}
 use Rattle.judge.proofs.prepared.within_ar.Tie as tie
-use Rattle.judge.proofs.prepared.within_ar.Reads as reads
-use Rattle.judge.proofs.prepared.within_ar.Lts as lts
-use Rattle.judge.proofs.prepared.judge_inclusion.Reads as judge-inclusion-reads
 
 mul-size : tie.Need-mul-size
 mul-size c = search needs
