@@ -3,20 +3,12 @@ ghost use mathlib.Core.Path.{_≡_};
 ghost use mathlib.Core.Bool.{Bool};
 ghost use Prim.Native.Nat.{_+_, _≤_, _<_, _^_};
 ghost use lib.ListN.{length};
-ghost use Rattle.record.specs.Layout.{edition, gcr2, slotAt, nextSlot, zeros};
+ghost use Rattle.record.specs.Layout.{edition, nextSlot, zeros};
 
 // The letters of the editions.
 pub const GCR1: [u8; 4] = *b"GCR1";
 
 pub const GCR2: [u8; 4] = *b"GCR2";
-
-// Where the slot of event e starts, in the edition that is written.
-pub fn slot_at(e: usize) -> usize
-    requires { ⌜ slotAt gcr2 e < 2 ^ 64 ⌝ }
-    ensures { λ r. ⌜ r ≡ slotAt gcr2 e ⌝ }
-{
-    512 * (1 + e / 7) + 64 * (e % 7)
-}
 
 // Where the slot after the one at `at` starts, in every edition: behind it, or 128 bytes on where the next block starts there, as it does after a block's last slot.
 pub fn next_slot(at: usize) -> usize

@@ -54,13 +54,13 @@ module _ (count : ℕ) (events : List KeptEvent) (sees rec₀ : List ℕ) where
   pub slotted-more : Bounded count events → (k : ℕ) → k < count → (position : ℕ) → position ≡ rankIn st k → (row : List ℕ) → row ≡ rowAt sees 4 k
       → (x : Slot) → x ≡ slotFor k (getD events k pastEvent) row position
       → (rec rec′ : List ℕ) → Slotted count events sees rec₀ rec k → length rec′ ≡ length rec
-      → ((h : History) → SlotOf h k x → rec′ ≡ sets rec (slotAt gcr2 k) (slotBytes gcr2 h k))
+      → (at : ℕ) → at ≡ slotAt gcr2 k → ((h : History) (e : ℕ) → SlotOf h e x → rec′ ≡ sets rec at (slotBytes gcr2 h e))
       → Slotted count events sees rec₀ rec′ (k + 1)
-  slotted-more small k next position placed row seen x slot rec rec′ s long put =
+  slotted-more small k next position placed row seen x slot rec rec′ s long at here put =
       let right : SlotOf (recorded st) k x = rw (slot, placed, seen) (slot-of count events sees k next (small .object k next)) in record {
         within = omega arith;
         long = long ∙ s .long;
-        written = slots-more gcr2 (recorded st) rec₀ rec rec′ k (s .written) (put (recorded st) right);
+        written = slots-more gcr2 (recorded st) rec₀ rec rec′ k (s .written) (put (recorded st) k right ∙ ap (λ (p : ℕ). sets rec p (slotBytes gcr2 (recorded st) k)) here);
       }
 
 -- ---- the whole: slots tell no terms, so those of the events alone are the record's

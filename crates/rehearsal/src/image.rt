@@ -2,6 +2,7 @@
 use super::Ran;
 use super::ranks;
 use super::slots;
+use record::layout;
 ghost use mathlib.Core.Path.{_≡_};
 ghost use mathlib.Core.Bool.{true};
 ghost use mathlib.Core.List.{_++_};
@@ -35,12 +36,14 @@ fn put_slots(ran: Ran, rec: &mut [u8])
     let events = ran.events;
     let sees = ran.sees;
     let count = ran.count;
+    let mut at: usize = 512;
     for k in 0..count {
         let e = events[k];
         let position = positions[k];
         let row = row_of(&sees, k);
         let x = slots::slot(k, e, row, position);
-        writer::put_slot(rec, k, x);
+        writer::put_slot(rec, at, x);
+        at = layout::next_slot(at);
     }
 }
 

@@ -5,11 +5,11 @@ use record::layout;
 ghost use mathlib.Core.Path.{_≡_};
 ghost use mathlib.Core.Bool.{true};
 ghost use mathlib.Core.List.{_∷_, _++_};
-ghost use Prim.Native.Nat.{_+_, _*_, _≤_, _<_};
+ghost use Prim.Native.Nat.{ℕ, _+_, _*_, _≤_, _<_};
 ghost use lib.ListN.{length, drop, replicate};
 ghost use lib.Seq.{sets};
 ghost use Rattle.rows.specs.Row.{has};
-ghost use Rattle.record.specs.Layout.{gcr2, slotAt};
+ghost use Rattle.record.specs.Layout.{gcr2};
 ghost use Rattle.record.specs.Terms.{openingIn, openingsRight};
 ghost use Rattle.record.specs.History.{History};
 ghost use Rattle.record.specs.Encode.{littleBytes, bit, setBytes, slotBytes, headerBytes, withTerms, sealed, SlotOf};
@@ -97,12 +97,11 @@ fn put_row(s: &mut [u8], at: usize, row: [u64; 4])
     put_u64(s, at + 24, row[3]);
 }
 
-// The slot of event e. Its bytes are written as eight words.
-pub fn put_slot(s: &mut [u8], e: usize, x: Slot)
-    requires { ⌜ slotAt gcr2 e + 64 ≤ length (now s) ⌝ }
-    ensures { λ _. ⌜ ((h : History) → SlotOf h e x → now (s .exit) ≡ sets (now (s .entry)) (slotAt gcr2 e) (slotBytes gcr2 h e)) ⌝ }
+// A slot, at its place. Its bytes are written as eight words.
+pub fn put_slot(s: &mut [u8], at: usize, x: Slot)
+    requires { ⌜ at + 64 ≤ length (now s) ⌝ }
+    ensures { λ _. ⌜ ((h : History) (e : ℕ) → SlotOf h e x → now (s .exit) ≡ sets (now (s .entry)) at (slotBytes gcr2 h e)) ⌝ }
 {
-    let at = layout::slot_at(e);
     put_u64(s, at, first_word(x));
     put_u64(s, at + 8, second_word(x));
     put_u64(s, at + 16, x.start);

@@ -1,16 +1,8 @@
 -- `writer::put_slot` meets its contract: eight words, one after the other. Assumes nothing.
-use mathlib.Core.Path.{_∙_, ap}
-use Prim.Native.Nat.{ℕ}
-use lib.Seq.{sets}
 use borrow.Author.Needs.{needs}
-use Rattle.record.specs.Layout.{gcr2}
-use Rattle.record.specs.Encode.{slotBytes}
 use Rattle.record.proofs.SlotStored.{slot-stored}
 use Rattle.writer.proofs.put_slot.Statement.{statement}
 use Rattle.writer.proofs.put_slot.Tie as tie
-
-slot-at-requires : tie.Need-slot-at-requires
-slot-at-requires c κs = search needs
 
 first-word-requires : tie.Need-first-word-requires
 first-word-requires c κs = search needs
@@ -50,24 +42,21 @@ same-length c = search needs
 
 returns : tie.Need-returns
 returns c =
-    λ h of.
+    λ h e of.
     let sees = c .before .before in
     let fourth = sees .before .before .before .before .before in
     let third = fourth .before .before .before .before in
     let second = third .before .before .before .before in
     let first = second .before .before .before .before .before in
-    let place = first .before .before .before in
-    let a = place .before .before .args in
-    slot-stored h (a .e) (a .x) of (first .before .first-word .result) (second .before .second-word .result) (first .before .first-word .ensures) (second .before .second-word .ensures)
-    (a .s .now) _ _ _ _ _ (place .slot-at .result)
+    let a = first .before .before .before .before .args in
+    slot-stored h e (a .x) of (first .before .first-word .result) (second .before .second-word .result) (first .before .first-word .ensures) (second .before .second-word .ensures)
+    (a .s .now) _ _ _ _ _ (a .at)
     (first .put-u64 .ensures) (second .put-u642 .ensures) (third .put-u643 .ensures) (fourth .put-u644 .ensures) (sees .put-row .ensures)
-    ∙ ap (λ (p : ℕ). sets (a .s .now) p (slotBytes gcr2 h (a .e))) (place .slot-at .ensures)
 
 pub put-slot-spec : {M : Type 1} → statement M
 put-slot-spec =
     tie.close
     (tie.spec
-    slot-at-requires
     first-word-requires
     put-u64-requires
     add-put-u64
