@@ -61,8 +61,8 @@ uint64_t gcr_judge_all(const uint8_t *record, size_t len, uint64_t *out, size_t 
 /* Runs a script over a store of `sites` sites and writes the record of what happened, in edition GCR2.
  * `openings` are the figures that the objects start with at every site: GCR_OPENINGS_BYTES bytes as gcr_reader.h says,
  * all zero where no object has one (see gcr_set_opening). A get of an object of which its site knows no put finds the
- * object's opening, or none where it has none; the first put that is done or delivered at a site replaces it there. The
- * record has the openings as they were lent.
+ * object's opening, or none where it has none; the first put of the object that is done or delivered at a site replaces it
+ * there. The record has the openings as they were lent.
  * Answer: number + 256 * length + 16,777,216 * outstanding, where number is 0 or what refused the rehearsal, length
  * the record's bytes and outstanding the copies still on the lines when the script has ended: exactly the pairs of a
  * put and a site that lacks it. Both are 0 where it was refused; with one site outstanding is 0.

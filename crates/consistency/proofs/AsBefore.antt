@@ -43,7 +43,7 @@ wrongBefore h e w =
 -- ---- as before
 
 pub record AsBefore (s : List ℕ) : Type 0 where
-  -- so every question and every judgment is asked in the edition that there was
+  -- so every other question, and predicates 2 to 13, whose definitions did not move, are asked in the edition that there was
   pub edition : editionOf s ≡ before
   -- question 5
   pub header : headerRight (editionOf s) s ≡ headerBefore s

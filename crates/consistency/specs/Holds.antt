@@ -26,7 +26,7 @@ pub record LastSeen (h : History) (e w : ℕ) : Type 0 where
   pub seen : candidate h e w ≡ true
   pub last : (x : ℕ) → x < h .count → candidate h e x ≡ true → h .position x ≤ h .position w
 
--- a read holds that write's value, or its object's opening figure where it sees no write, or none where it has none
+-- a read holds that write's value; where it sees no such write, its object's opening figure, or none if it has none
 pub data RightRead (h : History) (e : ℕ) : Type 0 where
   sees-none : ((w : ℕ) → w < h .count → candidate h e w ≡ false) → held h e ≡ h .terms .opening (h .object e) → RightRead h e
   sees-last : {w : ℕ} → LastSeen h e w → held h e ≡ value (h .value w) → RightRead h e

@@ -14,7 +14,7 @@ use Rattle.consistency.specs.declared.Predicate.{Predicate}
 use Rattle.consistency.specs.declared.Predicate.the-variants.{RVal, SingleOrder, RealTime, RealTimeWrites, MonotonicReads, ReadYourWrites, MonotonicWrites, WritesFollowReads, Pram, CausalVisibility, CausalArbitration, PerObjectPram, PerObjectSingleOrder}
 
 pub data Rule : Type 0 where
-  -- each returned read holds the value of the last write on its object that it sees, or the object's opening or none where it sees none
+  -- each returned read holds the value of the last write on its object that it sees; where it sees no such write, the object's opening, or none if it has none
   last-value : Rule
   -- every pair of q is in r
   _within_ : (q r : Rel) → Rule

@@ -20,7 +20,7 @@ use Rattle.store.specs.Outstanding.{puts, outstanding, toldDone, toldCopies}
 use Rattle.store.specs.Rehearsal.{rehearsalRefusal, termsOf, storeAfter, recordOf}
 use Rattle.edges.specs.Events.{event, aRead, aWrite, returned, pending, historyOfEvents}
 
--- 132 bytes of openings: none, and one of one object
+-- no openings, as 132 bytes; and one opening, of one object
 abbrev pub noOpenings : List ℕ
 noOpenings = replicate 132 0
 
@@ -37,7 +37,7 @@ pub data Case : Type 0 where
   thirteen : (s : List ℕ) (numbers : List ℕ) → Case
   -- the answer of call k of a script from these openings, all eight bytes
   answeredFrom : (openings : List ℕ) (sites : ℕ) (script : List ℕ) (k : ℕ) (answer : List ℕ) → Case
-  -- what refuses a rehearsal, whose record and answer buffers have so many bytes, or 0
+  -- the number that refuses a rehearsal, or 0; room and answers are the bytes of its record and answer buffers
   admitted : (openings : List ℕ) (sites : ℕ) (script : List ℕ) (room answers number : ℕ) → Case
   -- after a script: its puts, done deliveries, copies delivered by closes, by the rules and by the answers, and copies outstanding
   counted : (sites : ℕ) (script : List ℕ) (put delivered closed left : ℕ) → Case
@@ -203,6 +203,10 @@ deliveryDone = noCall 0
 abbrev putDone : ℕ → List ℕ
 putDone e = 0 ∷ 0 ∷ e ∷ 0 ∷ 0 ∷ 0 ∷ 0 ∷ 0 ∷ []
 
+-- a get that found none is answered by its event alone, as a put is
+abbrev foundNone : ℕ → List ℕ
+foundNone = putDone
+
 abbrev found : ℕ → ℕ → List ℕ
 found e v = 0 ∷ 1 ∷ e ∷ 0 ∷ v ∷ 0 ∷ 0 ∷ 0 ∷ []
 
@@ -219,7 +223,7 @@ sevenAt object = record { opening = opening object 7 }
 abbrev readOf7 : ℕ → History
 readOf7 object = historyOfEvents (event aRead 0 object (value 7) 0 (returned 0 1) [] ∷ [])
 
--- a block 0 of `GCR2`, with one more byte and its check
+-- a block 0 of `GCR2`, with one byte stored over it and its check made anew
 abbrev block0 : ℕ → ℕ → List ℕ
 block0 at x = sealed 1 (sets (unsealed gcr2 1 noEvents) at (x ∷ []))
 
@@ -317,19 +321,19 @@ ofZeros =
 abbrev pub ofSecond : List Case
 ofSecond = ruled (recordBytes gcr2 1 (under (sevenAt 31) (readOf7 31))) 1 met ∷ []
 
--- object 32 has none, whatever stands where its bit and its value would be: a one bit in the value of object 0, and zeros
-abbrev pub ofPast : List Case
-ofPast = ruled (recordBytes gcr2 1 (under (sevenAt 0) (historyOfEvents (event aRead 0 32 none 0 (returned 0 1) [] ∷ [])))) 1 met ∷ []
-
 abbrev pub ofFirst : List Case
 ofFirst = ruled (recordBytes gcr1 1 (under (sevenAt 31) (readOf7 31))) 1 (broken 0 0) ∷ []
+
+-- object 32 has none, whatever stands where its bit and its value would be: a set bit in the value of object 0, and zeros
+abbrev pub ofPast : List Case
+ofPast = ruled (recordBytes gcr2 1 (under (sevenAt 0) (historyOfEvents (event aRead 0 32 none 0 (returned 0 1) [] ∷ [])))) 1 met ∷ []
 
 abbrev pub ofOpenings : List Case
 ofOpenings =
     answeredFrom (openingBytes (opening 3 7)) 2 overOpening 1 (found 1 7)
     ∷ answeredFrom (openingBytes (opening 3 7)) 2 overOpening 3 (found 2 9)
     ∷ answeredFrom (openingBytes (opening 4 0)) 2 overOpening 4 (found 3 0)
-    ∷ answered 2 overOpening 4 (putDone 3)
+    ∷ answered 2 overOpening 4 (foundNone 3)
     ∷ []
 
 abbrev pub ofRefusals : List Case

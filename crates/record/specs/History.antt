@@ -1,4 +1,4 @@
--- What a record says: its events, as functions of an event's number, and who sees whom.
+-- What a record says: its events, as functions of an event's number, who sees whom, and its terms.
 use mathlib.Core.Path.{_≡_}
 use mathlib.Core.Bool.{Bool, _&&_}
 use mathlib.Core.List.{List}

@@ -1,4 +1,4 @@
--- A history whose record passes every check: what questions 5 and 7 to 10 ask, said of the events.
+-- A history whose record passes every check: what questions 5 and 7 to 10 ask, said of the history.
 use mathlib.Core.Path.{_≡_}
 use mathlib.Core.Bool.{true, false}
 use Prim.Native.Nat.{ℕ, _^_, _<_, _≤_}
@@ -20,7 +20,7 @@ pub record WellFormedEvent (sites : ℕ) (h : History) (e : ℕ) : Type 0 where
   pub pending : h .isPending e ≡ true → h .return e ≡ 0
   pub returned : h .isPending e ≡ false → h .start e ≤ h .return e
 
--- openings of objects 0 to 31, and in an edition that has them
+-- openings only of objects 0 to 31, only in an edition that has them, and each of 32 bits
 pub record WellFormedTerms (L : Layout) (t : Terms) : Type 0 where
   pub lacking : L .openings ≡ false → (o : ℕ) → t .opening o ≡ none
   pub above : (o : ℕ) → 32 ≤ o → t .opening o ≡ none
