@@ -44,7 +44,10 @@ extern "C" {
 /* Judges a model, 1 to 13, of a record.
  * Answer: 0 met; 1,048,576 + 1,024 * a + b broken, (a, b) being the pair of the first broken predicate in the model's
  * list: of the pairs of events that break it the one with the lowest a, and for that the lowest b (README.md, 'The pair
- * of a break', says which event is which); 2,097,152 + 1,024 * number + place refused. */
+ * of a break', says which event is which); 2,097,152 + 1,024 * number + place refused.
+ * Predicates 3 and 4, and so models 1, 2 and 5, go by the record's gcr_difference. Between different sites an event
+ * that is not pending returned before another started where return + difference < start, and the sum does not wrap; at
+ * one site where return < start. No other predicate goes by the difference. */
 uint64_t gcr_judge_model(uint32_t model, const uint8_t *record, size_t len);
 
 /* The same of one predicate, 1 to 13. */
@@ -62,7 +65,7 @@ uint64_t gcr_judge_all(const uint8_t *record, size_t len, uint64_t *out, size_t 
  * `openings` are the figures that the objects start with at every site: GCR_OPENINGS_BYTES bytes as gcr_reader.h says,
  * all zero where no object has one (see gcr_set_opening). A get of an object of which its site knows no put finds the
  * object's opening, or none where it has none; the first put of the object that is done or delivered at a site replaces it
- * there. The record has the openings as they were lent.
+ * there. The record has the openings as they were lent, and its gcr_difference is 0.
  * Answer: number + 256 * length + 16,777,216 * outstanding, where number is 0 or what refused the rehearsal, length
  * the record's bytes and outstanding the copies still on the lines when the script has ended: exactly the pairs of a
  * put and a site that lacks it. Both are 0 where it was refused; with one site outstanding is 0.

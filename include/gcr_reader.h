@@ -40,6 +40,7 @@ extern "C" {
 
 #define GCR_RECORD_MOST 19456  /* bytes of the longest record */
 #define GCR_WORK_WORDS 1024    /* the words that gcr_read asks for */
+#define GCR_DIFFERENCE_AT 8    /* where a record has the difference of its sites' clocks */
 #define GCR_OPENING_OBJECTS 32 /* the objects that may have an opening: 0 to 31 */
 #define GCR_OPENINGS_BYTES 132 /* bytes of openings */
 #define GCR_OPENINGS_AT 12     /* where they stand in a record */
@@ -80,6 +81,13 @@ static inline uint32_t gcr_opening(const uint8_t *openings, uint32_t object) {
     if (!gcr_has_opening(openings, object))
         return 0;
     const uint8_t *at = openings + 4 + 4 * object;
+    return at[0] | (uint32_t)at[1] << 8 | (uint32_t)at[2] << 16 | (uint32_t)at[3] << 24;
+}
+
+/* The milliseconds by which the clocks of two sites may differ, of a record that passed: any number of 32 bits in
+ * edition GCR2, and 0 in GCR1, which has zeros there. Predicates 3 and 4 are judged by it (gcr.h). */
+static inline uint32_t gcr_difference(const uint8_t *record) {
+    const uint8_t *at = record + GCR_DIFFERENCE_AT;
     return at[0] | (uint32_t)at[1] << 8 | (uint32_t)at[2] << 16 | (uint32_t)at[3] << 24;
 }
 

@@ -39,13 +39,17 @@ impl Case {
 
 pub fn all() -> Vec<Case> {
     let (records, disordered, opened) = (records(), disordered(), SIZES.map(inputs::opened));
+    let clocks = SIZES.map(inputs::clocks);
     let passing = || records.iter().chain(&disordered).chain(&opened);
     let mut all: Vec<Case> = passing().chain(&rings()).map(read).collect();
     for &predicate in Predicate::ALL {
         all.extend(records.iter().map(|record| judge_predicate(predicate, record)));
     }
     all.extend(opened.iter().map(|record| judge_predicate(Predicate::RVal, record)));
-    all.extend(passing().map(judge_all));
+    for predicate in [Predicate::RealTime, Predicate::RealTimeWrites] {
+        all.extend(clocks.iter().map(|record| judge_predicate(predicate, record)));
+    }
+    all.extend(passing().chain(&clocks).map(judge_all));
     all.extend(passing().map(judge_model));
     all.extend(scripts().iter().map(rehearse));
     all

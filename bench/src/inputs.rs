@@ -36,6 +36,10 @@ pub fn dense(n: usize) -> Rc<Input> {
 /// Eight sites side by side that never hear of each other, each on objects of its own: an event sees only those
 /// before it at its site. All predicates but 2 are met, which no sparse record of returned events meets.
 pub fn sparse(n: usize) -> Rc<Input> {
+    Input::new("sparse", n, side_by_side(n).to_bytes())
+}
+
+fn side_by_side(n: usize) -> Record {
     let event = |k: usize| {
         let (site, turn) = (k % SITES, k / SITES);
         let object = (4 * site + turn / 2 % 4) as u8;
@@ -46,7 +50,20 @@ pub fn sparse(n: usize) -> Rc<Input> {
         let before: Vec<usize> = (site..k).step_by(SITES).collect();
         event.at(2 * k as u64, 2 * k as u64 + 1).sees(&before)
     };
-    Input::new("sparse", n, Record::in_order(SITES as u8, (0..n).map(event).collect()).to_bytes())
+    Record::in_order(SITES as u8, (0..n).map(event).collect())
+}
+
+/// The same events, seconds apart, by clocks that are further ahead from site to site. They may differ by half of the
+/// record's time, and the last site's does: only so 3 and 4 are met.
+pub fn clocks(n: usize) -> Rc<Input> {
+    const STEP: u64 = 8_000_000;
+    let difference = STEP * n as u64;
+    let mut record = side_by_side(n).apart(difference as u32);
+    for event in &mut record.events {
+        let ahead = difference / (SITES as u64 - 1) * u64::from(event.site);
+        (event.start, event.end) = (STEP * event.start + ahead, STEP * event.end + ahead);
+    }
+    Input::new("clocks", n, record.to_bytes())
 }
 
 /// Every object opens with a figure. Eight sites side by side as in `sparse`, but a read is of an object that the next
@@ -215,6 +232,7 @@ mod tests {
     use second::predicates::{Answer, Judged};
     use second::questions::ask;
     use second::record::u32_at;
+    use second::relations::returned_before;
 
     fn broken(input: &Input) -> Vec<usize> {
         let answers = Judged::new(&ask(&input.bytes).expect("passes")).answers();
@@ -228,9 +246,29 @@ mod tests {
             assert_eq!(broken(&backward(n)), []);
             assert_eq!(broken(&sparse(n)), [2]);
             assert_eq!(broken(&opened(n)), [2, 13]);
+            assert_eq!(broken(&clocks(n)), [2]);
         }
         assert_eq!(broken(&rehearsed()), [2, 3, 4, 13]);
         assert_eq!(broken(&by_site()), [2, 3, 4, 13]);
+    }
+
+    /// Pairs of an event and one of another site that starts after its return, further than the difference.
+    fn pairs_beyond(difference: u32, events: &[Event]) -> usize {
+        let beyond = |a: &Event, b: &Event| a.site != b.site && returned_before(difference, a, b);
+        events.iter().map(|a| events.iter().filter(|b| beyond(a, b)).count()).sum()
+    }
+
+    #[test]
+    fn pairs_of_sites_lie_within_the_difference_and_beyond_it() {
+        for n in [16, 64, 256] {
+            let record = ask(&clocks(n).bytes).expect("passes");
+            let all = pairs_beyond(0, &record.events);
+            let beyond = pairs_beyond(record.edition.difference(), &record.events);
+            assert!((all / 5..all / 2).contains(&beyond), "{beyond} of {all} pairs beyond");
+        }
+        // By one clock 3 and 4 would be broken.
+        let one_clock = ask(&clocks(256).bytes).expect("passes").apart(0);
+        assert_eq!(broken(&Input::new("one clock", 256, one_clock.to_bytes())), [2, 3, 4]);
     }
 
     #[test]

@@ -90,7 +90,7 @@ static int openings_are_right(const uint8_t *openings) {
     return right;
 }
 
-/* The record has the openings that were lent. */
+/* The record has the openings that were lent, and clocks that do not differ. */
 static int rehearsal_is_right(void) {
     uint8_t openings[GCR_OPENINGS_BYTES] = {0}, answers[sizeof script];
     int set = set_openings(openings) && openings_are_right(openings);
@@ -98,7 +98,13 @@ static int rehearsal_is_right(void) {
                                  sizeof answers);
     return set && gcr_rehearsed_number(done) == 0 && gcr_rehearsed_length(done) == LENGTH &&
            gcr_rehearsed_outstanding(done) == 1 && answers_are_right(answers) && copies_add_up(answers, 1) &&
-           openings_are_right(record + GCR_OPENINGS_AT);
+           openings_are_right(record + GCR_OPENINGS_AT) && gcr_difference(record) == 0;
+}
+
+/* All four bytes, and no others. */
+static int difference_is_right(void) {
+    static const uint8_t head[] = {'G', 'C', 'R', '2', 5, 0, 2, 0, 0x28, 0x01, 0x02, 0xff, 0x20, 0};
+    return gcr_difference(head) == 0xff020128;
 }
 
 /* 40, and both buffers as they were. */
@@ -180,6 +186,7 @@ static int wrong(const char *name, int right) {
 int main(void) {
     int failed = wrong("a rehearsal", rehearsal_is_right());
     failed += wrong("a refusal of openings", openings_are_refused());
+    failed += wrong("a difference of clocks", difference_is_right());
     failed += wrong("a read", reading_is_right());
     failed += wrong("a judgment", judging_is_right());
     failed += wrong("a refusal", refusal_is_right());

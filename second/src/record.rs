@@ -1,4 +1,4 @@
-//! The record as document 01 and Change 3 lay it out: editions, events, slots, blocks and their checks.
+//! The record as document 01 and Changes 3 and 4 lay it out: editions, events, slots, blocks and their checks.
 
 use crate::openings::{Openings, OPENINGS_BYTES};
 
@@ -12,11 +12,12 @@ pub const MOST_SITES: usize = 8;
 pub const MOST_BYTES: usize = 19_456;
 
 /// The parts of block 0 before its check, each from its first byte to the next part's: the four letters, the count, the
-/// sites, and what is zero or in `GCR2` the openings.
+/// sites, and what is zero or in `GCR2` the difference of clocks and the openings.
 pub const BLOCK_0_PARTS: [(usize, usize); 11] =
     [(0, 1), (1, 2), (2, 3), (3, 4), (4, 6), (6, 7), (7, 8), (8, 12), (12, 144), (144, 148), (148, 508)];
 
-/// Where the openings of `GCR2` stand in block 0.
+/// Where the difference of clocks and the openings of `GCR2` stand in block 0.
+pub const DIFFERENCE_AT: std::ops::Range<usize> = 8..12;
 pub const OPENINGS_AT: std::ops::Range<usize> = 12..12 + OPENINGS_BYTES;
 
 #[derive(Clone, Copy, Debug, PartialEq, Eq)]
@@ -46,7 +47,11 @@ pub struct Event {
 #[derive(Clone, Copy, Debug, PartialEq, Eq)]
 pub enum Edition {
     Gcr1,
-    Gcr2(Openings),
+    /// The sites' clocks may differ by so many milliseconds.
+    Gcr2 {
+        difference: u32,
+        openings: Openings,
+    },
 }
 
 #[derive(Clone, Debug, PartialEq, Eq)]
@@ -138,7 +143,7 @@ impl Edition {
     pub fn letters(&self) -> &'static [u8; 4] {
         match self {
             Edition::Gcr1 => b"GCR1",
-            Edition::Gcr2(_) => b"GCR2",
+            Edition::Gcr2 { .. } => b"GCR2",
         }
     }
 
@@ -148,8 +153,9 @@ impl Edition {
         let zero = |from: usize, to: usize| bytes[from..to].iter().all(|&byte| byte == 0);
         match &bytes[0..4] {
             b"GCR1" if zero(7, CHECKED_BYTES) => Some(Edition::Gcr1),
-            b"GCR2" if zero(7, OPENINGS_AT.start) && zero(OPENINGS_AT.end, CHECKED_BYTES) => {
-                Openings::from_bytes(&bytes[OPENINGS_AT]).map(Edition::Gcr2)
+            b"GCR2" if zero(7, DIFFERENCE_AT.start) && zero(OPENINGS_AT.end, CHECKED_BYTES) => {
+                let difference = u32_at(bytes, DIFFERENCE_AT.start);
+                Openings::from_bytes(&bytes[OPENINGS_AT]).map(|openings| Edition::Gcr2 { difference, openings })
             }
             _ => None,
         }
@@ -159,8 +165,26 @@ impl Edition {
     pub fn openings(&self) -> Openings {
         match self {
             Edition::Gcr1 => Openings::none(),
-            Edition::Gcr2(openings) => *openings,
+            Edition::Gcr2 { openings, .. } => *openings,
         }
+    }
+
+    /// `GCR1` counts as 0.
+    pub fn difference(&self) -> u32 {
+        match self {
+            Edition::Gcr1 => 0,
+            Edition::Gcr2 { difference, .. } => *difference,
+        }
+    }
+
+    /// `GCR2` with these openings, the difference as it was.
+    pub fn opened(self, openings: Openings) -> Edition {
+        Edition::Gcr2 { difference: self.difference(), openings }
+    }
+
+    /// `GCR2` with this difference, the openings as they were.
+    pub fn apart(self, difference: u32) -> Edition {
+        Edition::Gcr2 { difference, openings: self.openings() }
     }
 }
 
@@ -176,7 +200,13 @@ impl Record {
 
     /// The same events in a record of `GCR2`.
     pub fn opened(mut self, openings: Openings) -> Record {
-        self.edition = Edition::Gcr2(openings);
+        self.edition = self.edition.opened(openings);
+        self
+    }
+
+    /// The same events in a record of `GCR2`, at sites whose clocks may differ.
+    pub fn apart(mut self, difference: u32) -> Record {
+        self.edition = self.edition.apart(difference);
         self
     }
 
@@ -190,6 +220,7 @@ impl Record {
     pub fn to_bytes(&self) -> Vec<u8> {
         let mut bytes = vec![0; BLOCK_BYTES * blocks_for(self.events.len())];
         bytes[0..4].copy_from_slice(self.edition.letters());
+        bytes[DIFFERENCE_AT].copy_from_slice(&self.edition.difference().to_le_bytes());
         bytes[OPENINGS_AT].copy_from_slice(&self.edition.openings().to_bytes());
         bytes[4..6].copy_from_slice(&(self.events.len() as u16).to_le_bytes());
         bytes[6] = self.sites;

@@ -63,16 +63,18 @@ pub struct Relations {
     pub hb: Pairs,
 }
 
-/// a returned before b.
-pub fn returned_before(a: &Event, b: &Event) -> bool {
-    !a.pending && a.end < b.start
+/// a returned before b. One site's events have one clock; those of two sites may differ.
+pub fn returned_before(difference: u32, a: &Event, b: &Event) -> bool {
+    let needed = if a.site == b.site { 0 } else { difference };
+    !a.pending && u128::from(a.end) + u128::from(needed) < u128::from(b.start)
 }
 
 impl Relations {
     pub fn of(record: &Record) -> Relations {
         let events = &record.events;
         let n = events.len();
-        let rb = Pairs::such_that(n, |a, b| returned_before(&events[a], &events[b]));
+        let difference = record.edition.difference();
+        let rb = Pairs::such_that(n, |a, b| returned_before(difference, &events[a], &events[b]));
         let so = rb.cut(|a, b| events[a].site == events[b].site);
         let vis = Pairs::such_that(n, |a, b| events[b].visible[a]);
         let step = Pairs::such_that(n, |a, b| so.has(a, b) || vis.has(a, b));

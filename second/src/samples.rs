@@ -19,6 +19,8 @@ pub fn samples() -> Vec<Sample> {
     all.push(Sample::new("stale-value", stale_value().to_bytes()));
     all.push(Sample::new("openings", openings().to_bytes()));
     all.push(Sample::new("stale-opening", stale_opening().to_bytes()));
+    all.push(Sample::new("clocks", clocks(40).to_bytes()));
+    all.push(Sample::new("early-read", clocks(39).to_bytes()));
     let (script, no_openings) = (listing_script(), vec![0; OPENINGS_BYTES]);
     all.push(Sample::new("listing", run_script(2, &script, &mut vec![0; script.len()]).record().to_bytes()));
     all.push(Sample { name: "listing.script".to_string(), bytes: [vec![2], no_openings, script].concat() });
@@ -94,6 +96,17 @@ fn stale_opening() -> Record {
     Record::in_order(1, events).opened(Openings::none().with(0, 40).with(1, 40))
 }
 
+/// The first read starts 40 ms after another site's write returned, and stands before it in arbitration. That is right
+/// where the sites' clocks may differ by 40 ms: every predicate is met. By less, 3 and 4 are broken.
+fn clocks(difference: u32) -> Record {
+    let events = vec![
+        Event::write(0, 0, 7).at(100, 110).sees(&[1]),
+        Event::read(1, 0, None).at(150, 155),
+        Event::read(1, 0, Some(7)).at(160, 165).sees(&[0, 1]),
+    ];
+    Record::in_order(2, events).with_positions(&[1, 0, 2]).apart(difference)
+}
+
 /// The paper's script of two sites.
 pub fn listing_script() -> Vec<u8> {
     let calls = [
@@ -120,8 +133,9 @@ fn refused() -> Vec<Sample> {
         full("refused-5-sites-9", |bytes| bytes[6] = 9),
         full("refused-5-last-byte", |bytes| bytes[507] = 1),
         full("refused-5-letters-3", |bytes| bytes[3] = b'3'),
+        full("refused-5-gcr1-difference", |bytes| bytes[8] = 1),
         full("refused-5-gcr1-openings", |bytes| bytes[12] = 1),
-        full("refused-5-gcr2-byte-8", |bytes| (bytes[3], bytes[8]) = (b'2', 1)),
+        full("refused-5-gcr2-byte-7", |bytes| (bytes[3], bytes[7]) = (b'2', 1)),
         full("refused-5-gcr2-clear-bit-0", |bytes| (bytes[3], bytes[16]) = (b'2', 1)),
         full("refused-5-gcr2-clear-bit-31", |bytes| (bytes[3], bytes[15], bytes[143]) = (b'2', 0x7f, 1)),
         full("refused-5-gcr2-byte-144", |bytes| (bytes[3], bytes[144]) = (b'2', 1)),

@@ -260,14 +260,14 @@ impl Store {
         closed_answer(copies)
     }
 
-    /// Always of `GCR2`.
+    /// Always of `GCR2`, with a difference of 0.
     pub fn record(&self) -> Record {
         let order = |done: &Done| (done.stamp, done.event.site);
         let events = self.done.iter().map(|done| {
             let before = self.done.iter().filter(|other| order(other) < order(done)).count();
             Event { position: before as u16, ..done.event.clone() }
         });
-        let edition = Edition::Gcr2(self.openings);
+        let edition = Edition::Gcr2 { difference: 0, openings: self.openings };
         Record { edition, sites: self.sites.len() as u8, events: events.collect() }
     }
 

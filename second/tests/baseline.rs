@@ -5,8 +5,9 @@ use second::baseline::judging::{judge_all, judge_predicate, prepare};
 use second::compare::subject::{Baseline, Itself, Rehearser};
 use second::compare::tally::Tally;
 use second::compare::{models, reader, rehearsal, Seeds};
-use second::generate::sweeps::{self, figures};
-use second::generate::{self, scripts};
+use second::generate::random::Random;
+use second::generate::sweeps::{self, figures, Named};
+use second::generate::{self, scripts, shapes};
 use second::models::{judged, refused};
 use second::openings::Openings;
 use second::predicates::Answer::{Broken, Met};
@@ -100,6 +101,28 @@ fn rehearses_days_with_closes_alike() {
             assert_alike(sites, &Openings::none().to_bytes(), &script);
             assert_alike(sites, &figures(|object| object % 3 > 0).to_bytes(), &script);
         }
+    }
+}
+
+/// Records of many events, each with differences from none to the largest.
+fn large_with_differences() -> Vec<Named<Vec<u8>>> {
+    let of_seed = |seed| {
+        let record = shapes::of_either_edition(&mut Random::new(seed), 64);
+        let apart = |difference| (format!("seed {seed}, {difference}"), record.clone().apart(difference).to_bytes());
+        [0, 1, 2, 9, 60, 1 << 31, u32::MAX].map(apart)
+    };
+    (0..60).flat_map(of_seed).collect()
+}
+
+/// Nothing of one record's difference may linger for the next.
+#[test]
+fn judges_clocks_alike_in_turn() {
+    let mut columns = Columns::new();
+    for (name, bytes) in sweeps::clocks().into_iter().chain(large_with_differences()) {
+        let record = ask(&bytes).expect("passes");
+        prepare(&bytes, &mut columns).expect("both pass it");
+        let broken = columns.all_broken().map(|pair| pair.map_or(Met, |(a, b)| Broken(a, b)));
+        assert_eq!(Judged::new(&record).answers(), broken, "{name}");
     }
 }
 

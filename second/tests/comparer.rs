@@ -259,7 +259,7 @@ fn objects_modulo_32(record: &mut Record) {
 }
 
 fn opening_0_is_none(record: &mut Record) {
-    if let Edition::Gcr2(openings) = &mut record.edition {
+    if let Edition::Gcr2 { openings, .. } = &mut record.edition {
         let figures = std::array::from_fn(|object| openings.of(object).filter(|&figure| figure != 0));
         *openings = Openings::from_figures(figures);
     }
@@ -294,7 +294,7 @@ fn faults_of_a_judge() {
     assert_eq!(judge_failures(|_| None), 0);
     let faults: [(&str, Fault); 9] = [
         ("no openings", |record| {
-            record.edition = Edition::Gcr1;
+            record.edition = record.edition.opened(Openings::none());
             None
         }),
         ("objects modulo 32", |record| {

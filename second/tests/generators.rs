@@ -3,7 +3,7 @@
 use second::compare::copies::{calls_answered, Copies};
 use second::compare::occurrences::Row;
 use second::compare::tally::Tally;
-use second::compare::{answered, must_occur, programs, rehearsal, Seeds};
+use second::compare::{answered, models, must_occur, programs, rehearsal, Seeds};
 use second::generate::random::Random;
 use second::generate::{meeting, record, scripts};
 use second::models::{answers, MODELS};
@@ -85,10 +85,12 @@ fn assert_all_occur(lists: &[&[Row]], seeds: u64, count: impl FnMut(u64, &mut Ta
 
 #[test]
 fn every_answer_of_records() {
-    let lists = [must_occur::VERDICT, must_occur::EDITIONS, must_occur::READS];
+    let of_models = [must_occur::MODELS, must_occur::MODEL_CLOCKS];
+    let lists = [&of_models[..], &[must_occur::EDITIONS, must_occur::READS, must_occur::CLOCKS]].concat();
     assert_all_occur(&lists, 4_000, |seed, tally| {
         let bytes = record(seed).bytes;
-        answered::judged(&bytes, &answers(&bytes), tally);
+        models::count(&bytes, &answers(&bytes), tally);
+        answered::number_given(14, tally);
     });
 }
 

@@ -12,25 +12,31 @@ use second::record::{seal, CHECKED_BYTES, OPENINGS_AT};
 use second::store::Outcome;
 use std::collections::HashMap;
 
-/// The number that refuses a record, or else whether predicate 1 is met.
-fn answer(bytes: &[u8]) -> Result<bool, u32> {
+/// The number that refuses a record, or else whether predicates 1, 3 and 4 are met.
+fn answer(bytes: &[u8]) -> Result<[bool; 3], u32> {
     let record = ask(bytes).map_err(|refusal| refusal.number)?;
-    Ok(Judged::new(&record).answer(1) == Met)
+    let judged = Judged::new(&record);
+    Ok([1, 3, 4].map(|predicate| judged.answer(predicate) == Met))
 }
 
 #[test]
 fn no_byte_of_block_0_is_left_out() {
-    let answers: HashMap<String, Result<bool, u32>> =
+    let answers: HashMap<String, Result<[bool; 3], u32>> =
         sweeps::block_0().into_iter().map(|(name, bytes)| (name, answer(&bytes))).collect();
+    let unturned = Ok([true, false, false]);
     for edition in ["gcr1", "gcr2-none", "gcr2-even", "gcr2-odd", "gcr2-all"] {
-        assert_eq!(answers[edition], Ok(true));
+        assert_eq!(answers[edition], unturned);
     }
     for edition in ["gcr1", "gcr2-even", "gcr2-odd"] {
         for at in 0..CHECKED_BYTES {
             let turned = answers[&format!("{edition}-byte-{at}")];
-            assert_ne!(turned, Ok(true), "{edition}, byte {at}");
-            let header = edition == "gcr1" || !OPENINGS_AT.contains(&at);
-            assert!(!header || turned == Err(5) || (at == 4 && turned == Err(6)), "{edition}, byte {at}");
+            match at {
+                _ if edition == "gcr1" && at != 4 => assert_eq!(turned, Err(5), "{edition}, byte {at}"),
+                4 => assert_eq!(turned, Err(6)),
+                8..12 => assert_eq!(turned, Ok([true; 3]), "{edition}, byte {at}"),
+                12..144 => assert_ne!(turned, unturned, "{edition}, byte {at}"),
+                _ => assert_eq!(turned, Err(5), "{edition}, byte {at}"),
+            }
         }
     }
 }
@@ -94,11 +100,11 @@ fn reader_failures(subject: &dyn Reader) -> u64 {
 
 #[test]
 fn faults_of_a_reader() {
-    for at in [7, 8, 11, 144, 147, 148, 507] {
+    for at in [7, 144, 147, 148, 507] {
         assert!(reader_failures(&Overlooking(b"GCR1", at)) > 0, "GCR1, byte {at}");
         assert!(reader_failures(&Overlooking(b"GCR2", at)) > 0, "GCR2, byte {at}");
     }
-    for at in [12, 15, 16, 143] {
+    for at in [8, 9, 10, 11, 12, 15, 16, 143] {
         assert!(reader_failures(&Overlooking(b"GCR1", at)) > 0, "GCR1, byte {at}");
     }
     for at in [16, 17, 18, 19, 140, 143] {

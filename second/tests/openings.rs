@@ -46,7 +46,7 @@ fn bytes_of_an_edition() {
     assert_eq!(bytes[16..20], [40, 0, 0, 0]);
     assert_eq!(bytes[140..144], [255; 4]);
     assert!(bytes[20..140].iter().chain(&bytes[144..CHECKED_BYTES]).all(|&byte| byte == 0));
-    assert_eq!(ask(&bytes).expect("passes").edition, Edition::Gcr2(openings()));
+    assert_eq!(ask(&bytes).expect("passes").edition, Edition::Gcr1.opened(openings()));
 }
 
 #[test]
@@ -75,10 +75,10 @@ fn value_under_each_clear_bit() {
         let mut bytes = record.to_bytes();
         bytes[OPENINGS_AT.start + object / 8] |= 1 << (object % 8);
         seal(&mut bytes);
-        assert_eq!(ask(&bytes).expect("passes").edition, Edition::Gcr2(all.with(object, 0)));
+        assert_eq!(ask(&bytes).expect("passes").edition, Edition::Gcr1.opened(all.with(object, 0)));
         bytes[OPENINGS_AT.start + value_at(object)] = 7;
         seal(&mut bytes);
-        assert_eq!(ask(&bytes).expect("passes").edition, Edition::Gcr2(all));
+        assert_eq!(ask(&bytes).expect("passes").edition, Edition::Gcr1.opened(all));
     }
 }
 
@@ -87,7 +87,8 @@ fn every_other_byte_of_block_0_is_zero() {
     let (old, new) = (Record::in_order(1, vec![]), Record::in_order(1, vec![]).opened(openings()));
     for at in 7..CHECKED_BYTES {
         assert!(!passes_with(&old, at, 1), "GCR1, byte {at}");
-        assert!(OPENINGS_AT.contains(&at) || !passes_with(&new, at, 1), "GCR2, byte {at}");
+        let held = DIFFERENCE_AT.contains(&at) || OPENINGS_AT.contains(&at);
+        assert!(held || !passes_with(&new, at, 1), "GCR2, byte {at}");
     }
 }
 
@@ -143,7 +144,7 @@ fn read_that_sees_no_write() {
 
 #[test]
 fn an_edition_without_openings_is_judged_as_before() {
-    for edition in [Edition::Gcr1, Edition::Gcr2(Openings::none())] {
+    for edition in [Edition::Gcr1, Edition::Gcr1.opened(Openings::none())] {
         let of = |value| alone(|record| Record { edition, ..record }, 0, value);
         assert_eq!([None, Some(0), Some(40)].map(of), [Met, Broken(0, 0), Broken(0, 0)]);
     }
@@ -197,9 +198,9 @@ fn other_predicates_do_not_look_at_openings() {
         let n = random.index(20);
         let record = shapes::of_either_edition(&mut random, n);
         let answers = |edition| Judged::new(&Record { edition, ..record.clone() }).answers();
-        let (old, none) = (answers(Edition::Gcr1), answers(Edition::Gcr2(Openings::none())));
+        let (old, none) = (answers(Edition::Gcr1), answers(Edition::Gcr1.opened(Openings::none())));
         assert_eq!(old, none, "seed {seed}");
-        assert_eq!(old[1..], answers(record.edition)[1..], "seed {seed}");
+        assert_eq!(old[1..], answers(record.edition.apart(0))[1..], "seed {seed}");
     }
 }
 
@@ -219,7 +220,7 @@ fn gets_find_openings() {
     assert_eq!(answers[2], [0, 1, 2, 0, 255, 255, 255, 255]);
     assert_eq!(answers[3], [0, 0, 3, 0, 0, 0, 0, 0]);
     assert_eq!(held(&store), [Some(40), Some(0), Some(u32::MAX), None]);
-    assert_eq!(store.record().edition, Edition::Gcr2(openings()));
+    assert_eq!(store.record().edition, Edition::Gcr1.opened(openings()));
 }
 
 #[test]

@@ -44,6 +44,15 @@ fn openings_are_held_or_not() {
     assert!(judged("stale-opening").starts_with("1 broken 1 0\n"));
 }
 
+/// The read starts 40 ms after the write returned.
+#[test]
+fn clocks_differ_by_enough_or_not() {
+    assert!(!judged("clocks").contains("broken"));
+    let early = judged("early-read");
+    let broken: Vec<&str> = early.lines().filter(|line| line.contains("broken")).collect();
+    assert_eq!(broken, ["3 broken 0 1", "4 broken 0 1"]);
+}
+
 #[test]
 fn events_in_turn_meet_all() {
     for sample in samples().iter().filter(|sample| sample.name.starts_with("in-turn")) {

@@ -22,7 +22,8 @@
 //! # Ok::<(), gcr::Refusal>(())
 //! ```
 //!
-//! [`Openings`] are the figures that objects start the day with: here none has one.
+//! [`Openings`] are the figures that objects start the day with: here none has one. [`difference()`] is by how much the
+//! sites' clocks may differ, of a record that was read or judged.
 //!
 //! A record or a script that is refused is an `Err`, of every call: no [`Verdict`] stands for it. What the calls of a
 //! script were answered is taken from its buffer by [`answers()`]: a typed [`Answer`] for each.
@@ -38,6 +39,7 @@ mod numbered;
 
 mod answer;
 mod call;
+mod clocks;
 #[allow(unsafe_code)]
 mod ffi;
 mod judging;
@@ -51,6 +53,7 @@ mod rehearsal;
 
 pub use answer::{answers, Answer};
 pub use call::{script, Call};
+pub use clocks::{difference, with_difference};
 pub use judging::{judge_all, judge_model, judge_predicate, Verdict};
 pub use model::Model;
 pub use openings::{Openings, OPENINGS_BYTES};

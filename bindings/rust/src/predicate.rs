@@ -15,8 +15,10 @@ numbered! {
     1 RVal "A returned read holds the value of the last write, by arbitration, that it sees on its object; where it \
             sees none there, the object's opening, or none if it has none."
     2 SingleOrder "Visibility is arbitration, but for pending events that nothing sees."
-    3 RealTime "What returned before an event started is arbitrated before it."
-    4 RealTimeWrites "A write that returned before an event started is arbitrated before it."
+    3 RealTime "What returned before an event started, at another site by more than clocks may differ, is arbitrated \
+                before it."
+    4 RealTimeWrites "A write that returned before an event started, at another site by more than clocks may differ, \
+                      is arbitrated before it."
     5 MonotonicReads "What one read of a site has seen, its later reads see too."
     6 ReadYourWrites "A site's reads see its earlier writes."
     7 MonotonicWrites "A site's writes are arbitrated in the site's order."

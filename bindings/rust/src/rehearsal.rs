@@ -16,9 +16,10 @@ pub struct Rehearsed {
 }
 
 /// Runs a script over a store of so many sites, at each of which objects start with their openings. The record of it,
-/// of edition `GCR2`, goes to `record`, which has [`RECORD_MOST`](crate::RECORD_MOST) bytes or more, and an answer for
-/// each call to `answers`, which is at least as long as the script; bytes beyond what is written stay. A refusal leaves
-/// both as they were. A call that is refused changes only its own answer.
+/// of edition `GCR2` and with a [`difference`](crate::difference()) of 0, goes to `record`, which has
+/// [`RECORD_MOST`](crate::RECORD_MOST) bytes or more, and an answer for each call to `answers`, which is at least as
+/// long as the script; bytes beyond what is written stay. A refusal leaves both as they were. A call that is refused
+/// changes only its own answer.
 ///
 /// A get finds the object's opening where its site knows no put of the object; every put replaces it. Here the put of
 /// site 0 has not come to site 1:

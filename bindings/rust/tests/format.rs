@@ -7,6 +7,7 @@ const EMPTY: &[u8] = include_bytes!("../../../records/empty-one-site.gcr");
 const LISTING: &[u8] = include_bytes!("../../../records/listing.gcr");
 const LISTING_SCRIPT: &[u8] = include_bytes!("../../../records/listing.script");
 const CLOSING_SCRIPT: &[u8] = include_bytes!("../../../records/closing.script");
+const CLOCKS: &[u8] = include_bytes!("../../../records/clocks.gcr");
 const OPENING: &[u8] = include_bytes!("../../../records/opening.gcr");
 const OPENING_SCRIPT: &[u8] = include_bytes!("../../../records/opening.script");
 
@@ -46,6 +47,7 @@ fn dumps_are_the_bytes_of_their_files() {
     assert_eq!(dump("records/listing.script", LISTING_SCRIPT.len()), LISTING_SCRIPT);
     assert_eq!(dump("records/opening.gcr", OPENING.len()), OPENING);
     assert_eq!(dump("records/opening.script", OPENING_SCRIPT.len()), OPENING_SCRIPT);
+    assert_eq!(dump("records/clocks.gcr", CLOCKS.len()), CLOCKS);
 }
 
 #[test]
@@ -80,7 +82,7 @@ fn check(number: usize, block: &[u8]) -> (u32, u32) {
 #[test]
 fn checks_are_as_the_page_computes_them() {
     let stored = |at: &[u8]| u32::from(at[0]) + 256 * u32::from(at[1]);
-    for record in [EMPTY, LISTING, OPENING] {
+    for record in [EMPTY, LISTING, OPENING, CLOCKS] {
         for (number, block) in record.chunks(512).enumerate() {
             assert_eq!(check(number, block), (stored(&block[508..]), stored(&block[510..])));
         }

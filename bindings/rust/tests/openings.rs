@@ -1,7 +1,10 @@
 //! Openings: what they hold, what gets find of them, and what a judge expects of reads.
 
+mod sealing;
+
 use gcr::{answers, judge_all, judge_model, judge_predicate, rehearse, rehearse_raw, script};
 use gcr::{Answer, Call, Model, Openings, Predicate, Refusal, Verdict, OPENINGS_BYTES, RECORD_MOST};
+use sealing::sealed;
 
 const OPENING: &[u8] = include_bytes!("../../../records/opening.gcr");
 const OPENING_SCRIPT: &[u8] = include_bytes!("../../../records/opening.script");
@@ -41,17 +44,6 @@ fn reopened(record: &[u8], openings: &Openings) -> Vec<u8> {
     let mut record = record.to_vec();
     record[12..144].copy_from_slice(openings.as_bytes());
     sealed(record)
-}
-
-fn sealed(mut record: Vec<u8>) -> Vec<u8> {
-    let (mut a, mut b) = (1, 0);
-    for word in record[..508].chunks(2) {
-        a = (a + u32::from(word[0]) + 256 * u32::from(word[1])) % 65521;
-        b = (b + a) % 65521;
-    }
-    record[508..510].copy_from_slice(&(a as u16).to_le_bytes());
-    record[510..512].copy_from_slice(&(b as u16).to_le_bytes());
-    record
 }
 
 #[test]
@@ -214,7 +206,7 @@ fn block_0_has_openings_in_edition_2_alone_and_no_value_without_its_bit() {
         record[at] = byte;
         judge_model(Model::Causal, &sealed(record))
     };
-    for (at, byte) in [(3, b'1'), (3, b'3'), (7, 1), (8, 1), (11, 1), (16, 1), (143, 1), (144, 1), (507, 1)] {
+    for (at, byte) in [(3, b'1'), (3, b'3'), (7, 1), (16, 1), (143, 1), (144, 1), (507, 1)] {
         let verdict = asked(at, byte);
         // Object 31 has the last value and an opening, so that its value may be any.
         let due = if at == 143 { Ok(Verdict::Broken { a: 4, b: 4 }) } else { Err(refused(5)) };

@@ -1,9 +1,10 @@
 -- Records of letters other than those of `GCR2`, so every `GCR1`, are read and judged as before there was a second edition. Assumes nothing.
 use mathlib.Core.Path.{_≡_, refl, sym, ap, subst, _∙_}
-use mathlib.Core.Bool.{Bool, true, false, not, _&&_}
+use mathlib.Core.Bool.{Bool, true, false, not, cond, _&&_}
 use mathlib.Core.List.{List, [], _∷_}
-use Prim.Native.Nat.{ℕ}
-use lib.Dec.{eqb, leb}
+use Prim.Native.Nat.{ℕ, _+_}
+use native.Mathlib.Omega.{arith}
+use lib.Dec.{eqb, leb, ltb}
 use lib.ListN.{take}
 use Rattle.rows.specs.Relation.{Rel}
 use Rattle.record.specs.Layout.{Layout, edition, gcr1, gcr2, editionOf, countIn, sitesIn, zeros, same}
@@ -12,7 +13,7 @@ use Rattle.record.specs.History.{History, historyOf, under}
 use Rattle.record.specs.Questions.{termsRight, headerRight}
 use Rattle.record.proofs.LayoutLaws.{one-edition}
 use Rattle.consistency.specs.FirstPair.{first}
-use Rattle.consistency.specs.Relations.{read}
+use Rattle.consistency.specs.Relations.{ss, skew, rb, read}
 use Rattle.consistency.specs.Reads.{lastWrite, sameHeld, held, leftBy, expected, wrongRead, lastOr, wrong}
 use Rattle.consistency.specs.Predicates.{rule, breaks, verdict}
 use Rattle.consistency.specs.declared.Last.{Last}
@@ -20,16 +21,20 @@ use Rattle.consistency.specs.declared.Last.the-variants.{Nothing, At}
 use Rattle.consistency.specs.declared.Predicate.{Predicate}
 use Rattle.consistency.specs.declared.Predicate.the-variants.{RVal}
 use Rattle.consistency.proofs.FirstPairLaws.{first-same}
-use Rattle.consistency.proofs.TermsLaws.{NotRVal, verdict-under}
+use Rattle.consistency.proofs.SameVerdict.{SameFor, verdict-under}
 
 -- ---- what was asked of block 0, and what a read was held to, before
 
 -- the edition that there was, in numbers
 abbrev pub before : Layout
-before = record { letters = 71 ∷ 67 ∷ 82 ∷ 49 ∷ []; slot = 64; perBlock = 7; row = 4; events = 256; longest = 19456; openings = false }
+before = record { letters = 71 ∷ 67 ∷ 82 ∷ 49 ∷ []; slot = 64; perBlock = 7; row = 4; events = 256; longest = 19456; terms = false }
 
 abbrev pub headerBefore : List ℕ → Bool
 headerBefore s = same (take 4 s) (71 ∷ 67 ∷ 82 ∷ 49 ∷ []) && (leb (countIn s) 256 && (leb 1 (sitesIn s) && (leb (sitesIn s) 8 && zeros 501 s 7)))
+
+-- by one clock
+abbrev pub rbBefore : History → Rel
+rbBefore h a b = cond (h .isPending a) false (ltb (h .return a) (h .start b))
 
 -- none where it sees no write
 abbrev pub leftBefore : History → Last → Held
@@ -43,14 +48,16 @@ wrongBefore h e w =
 -- ---- as before
 
 pub record AsBefore (s : List ℕ) : Type 0 where
-  -- so every other question, and predicates 2 to 13, whose definitions did not move, are asked in the edition that there was
+  -- so every other question, and predicates 2 and 5 to 13, whose definitions did not move, are asked in the edition that there was
   pub edition : editionOf s ≡ before
   -- question 5
   pub header : headerRight (editionOf s) s ≡ headerBefore s
   -- predicate 1
   pub reads : verdict RVal (historyOf (editionOf s) s) ≡ first (countIn s) (wrongBefore (historyOf (editionOf s) s))
-  -- 2 to 13, which are the same on any terms
-  pub others : (p : Predicate) → NotRVal p → (t : Terms) → verdict p (under t (historyOf (editionOf s) s)) ≡ verdict p (historyOf (editionOf s) s)
+  -- rb, and so predicates 3 and 4
+  pub times : (a b : ℕ) → rb (historyOf (editionOf s) s) a b ≡ rbBefore (historyOf (editionOf s) s) a b
+  -- all thirteen, whatever terms say of which they don't ask: 2 and 5 to 13 ask for none
+  pub others : (p : Predicate) (t : Terms) → SameFor p t (historyOf (editionOf s) s .terms) → verdict p (under t (historyOf (editionOf s) s)) ≡ verdict p (historyOf (editionOf s) s)
 
 left-before : (h : History) → ((o : ℕ) → h .terms .opening o ≡ none) → (e : ℕ) (l : Last) → leftBy h e l ≡ leftBefore h l
 left-before h so e Nothing = so (h .object e)
@@ -74,6 +81,18 @@ none-before : (s : List ℕ) (o : ℕ) → historyOf gcr1 s .terms .opening o �
 unfolding historyOf
 none-before s o = refl
 
+even-before : (s : List ℕ) → historyOf gcr1 s .terms .difference ≡ 0
+unfolding historyOf
+even-before s = refl
+
+rb-before : (h : History) → h .terms .difference ≡ 0 → (a b : ℕ) → rb h a b ≡ rbBefore h a b
+unfolding rb skew
+rb-before h e a b = ap (λ (x : ℕ). cond (h .isPending a) false (ltb x (h .start b))) (go (ss h a b))
+  where
+    go : (t : Bool) → h .return a + cond t 0 (h .terms .difference) ≡ h .return a
+    go true = omega arith
+    go false = omega (arith, e)
+
 first-count : (s : List ℕ) → historyOf gcr1 s .count ≡ countIn s
 unfolding historyOf
 first-count s = refl
@@ -86,7 +105,8 @@ as-before s e =
       header = ap (λ (L : Layout). headerRight L s) first-one ∙ header-before s;
       reads = subst (λ (L : Layout). verdict RVal (historyOf L s) ≡ first (countIn s) (wrongBefore (historyOf L s))) (sym first-one)
           (reads-before (historyOf gcr1 s) (none-before s) ∙ ap (λ (n : ℕ). first n (wrongBefore (historyOf gcr1 s))) (first-count s));
-      others = λ p other t. verdict-under t (historyOf (editionOf s) s) p other;
+      times = subst (λ (L : Layout). (a b : ℕ) → rb (historyOf L s) a b ≡ rbBefore (historyOf L s) a b) (sym first-one) (λ a b. rb-before (historyOf gcr1 s) (even-before s) a b);
+      others = λ p t. verdict-under t (historyOf (editionOf s) s) p;
     }
 
 -- as every `GCR1` is

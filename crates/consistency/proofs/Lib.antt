@@ -1,10 +1,11 @@
--- What follows. What users should know: MetIffHolds, BrokenIff, HappensBefore, SameVerdict, TermsLaws, AsBefore.
+-- What follows. What users should know: MetIffHolds, BrokenIff, HappensBefore, SameVerdict, OtherClocks, AsBefore.
 pub mod FirstPairLaws
 pub mod LastWriteLaws
 pub mod MetIffHolds
 pub mod HappensBefore
+pub mod ClockLaws
 pub mod SameVerdict
-pub mod TermsLaws
+pub mod OtherClocks
 pub mod AsBefore
 pub mod BrokenIff
 pub mod ReadLaws

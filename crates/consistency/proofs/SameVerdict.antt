@@ -1,8 +1,9 @@
--- Histories that say the same of their events have the same verdicts, for each of the thirteen predicates and of the models. Assumes nothing.
-use mathlib.Core.Path.{_≡_, refl, ap, ap₂, _∙_}
+-- Histories that say the same of their events have the same verdict of a predicate, where they also say the same of the terms that it is judged by: 1 by
+-- openings, 3 and 4 by the difference of clocks, the others by none. Assumes nothing.
+use mathlib.Core.Path.{_≡_, refl, sym, ap, ap₂, _∙_}
 use mathlib.Core.Bool.{Bool, false, not, cond, _&&_, _||_}
 use mathlib.Core.List.{List, [], _∷_}
-use Prim.Native.Nat.{ℕ, zero, suc, _<_, _≤_}
+use Prim.Native.Nat.{ℕ, zero, suc, _+_, _<_, _≤_}
 use native.Mathlib.Omega.{arith}
 use native.Mathlib.Nat.{le-refl}
 use lib.Dec.{ltb, eqb}
@@ -10,10 +11,10 @@ use Rattle.rows.specs.Lowest.{some}
 use Rattle.rows.specs.Relation.{Rel, reaches}
 use Rattle.rows.proofs.LowestLaws.{same-some}
 use Rattle.rows.proofs.ReachLaws.{reaches-same}
-use Rattle.record.specs.History.{History, vis, Agree}
+use Rattle.record.specs.Terms.{none, value, Terms, SameTerms}
+use Rattle.record.specs.History.{History, under, vis, Agree}
 use Rattle.consistency.specs.FirstPair.{first}
-use Rattle.consistency.specs.Relations.{rb, ss, ob, so, ar, step, hb, read, from, to, both, through}
-use Rattle.record.specs.Terms.{none, value}
+use Rattle.consistency.specs.Relations.{ss, ob, skew, rb, so, ar, step, hb, read, from, to, both, through}
 use Rattle.consistency.specs.Reads.{candidate, later, lastBelow, lastWrite, sameHeld, held, leftBy, expected, wrongRead, lastOr, wrong}
 use Rattle.consistency.specs.Predicates.{Rule, last-value, _within_, _fits_, rule, differ, breaks, verdict, numbered}
 use Rattle.consistency.specs.Models.{orElse, firstBroken}
@@ -23,6 +24,64 @@ use Rattle.consistency.specs.declared.Predicate.{Predicate}
 use Rattle.consistency.specs.declared.Predicate.the-variants.{RVal, SingleOrder, RealTime, RealTimeWrites, MonotonicReads, ReadYourWrites, MonotonicWrites, WritesFollowReads, Pram, CausalVisibility, CausalArbitration, PerObjectPram, PerObjectSingleOrder}
 use Rattle.consistency.proofs.FirstPairLaws.{Alike, first-same}
 use Rattle.consistency.proofs.LastWriteLaws.{LastIn, last-in, write-in}
+use Rattle.consistency.proofs.ClockLaws.{returned, so-own}
+
+-- ---- what is said the same
+
+-- of the events
+abbrev pub SameEvents : History → History → Type 0
+SameEvents h k = Agree h (under (h .terms) k)
+
+-- of the terms that a predicate is judged by
+abbrev pub SameFor : Predicate → Terms → Terms → Type 0
+SameFor RVal t u = (o : ℕ) → t .opening o ≡ u .opening o
+SameFor SingleOrder t u = Unit
+SameFor RealTime t u = t .difference ≡ u .difference
+SameFor RealTimeWrites t u = t .difference ≡ u .difference
+SameFor MonotonicReads t u = Unit
+SameFor ReadYourWrites t u = Unit
+SameFor MonotonicWrites t u = Unit
+SameFor WritesFollowReads t u = Unit
+SameFor Pram t u = Unit
+SameFor CausalVisibility t u = Unit
+SameFor CausalArbitration t u = Unit
+SameFor PerObjectPram t u = Unit
+SameFor PerObjectSingleOrder t u = Unit
+
+same-terms : (t : Terms) → SameTerms t t
+same-terms t = record { difference = refl; opening = λ o. refl }
+
+-- whatever the terms that both are put on
+pub on-terms : (t : Terms) (h k : History) → Agree h k → Agree (under t h) (under t k)
+on-terms t h k s = record {
+  count = s .count;
+  isWrite = s .isWrite;
+  site = s .site;
+  object = s .object;
+  isPending = s .isPending;
+  isPresent = s .isPresent;
+  value = s .value;
+  position = s .position;
+  start = s .start;
+  return = s .return;
+  sees = s .sees;
+  terms = same-terms t;
+}
+
+same-for : (t u : Terms) → SameTerms t u → (p : Predicate) → SameFor p t u
+same-for t u s RVal = s .opening
+same-for t u s SingleOrder = tt
+same-for t u s RealTime = s .difference
+same-for t u s RealTimeWrites = s .difference
+same-for t u s MonotonicReads = tt
+same-for t u s ReadYourWrites = tt
+same-for t u s MonotonicWrites = tt
+same-for t u s WritesFollowReads = tt
+same-for t u s Pram = tt
+same-for t u s CausalVisibility = tt
+same-for t u s CausalArbitration = tt
+same-for t u s PerObjectPram = tt
+same-for t u s PerObjectSingleOrder = tt
 
 -- ---- relations made of others
 
@@ -39,17 +98,17 @@ to-same s t q r e f a b i j = ap₂ _&&_ (e b j) (f a b i j)
 both-same : {n : ℕ} (q r q′ r′ : Rel) → Alike n q q′ → Alike n r r′ → Alike n (both q r) (both q′ r′)
 both-same q r q′ r′ e f a b i j = ap₂ _&&_ (e a b i j) (f a b i j)
 
--- rules of one kind over relations that agree
-data AlikeRule (n : ℕ) : Rule → Rule → Type 0 where
-  last-values : AlikeRule n last-value last-value
-  withins : {q r q′ r′ : Rel} → Alike n q q′ → Alike n r r′ → AlikeRule n (q within r) (q′ within r′)
-  fitses : {q r q′ r′ : Rel} → Alike n q q′ → Alike n r r′ → AlikeRule n (q fits r) (q′ fits r′)
+-- rules of one kind over relations that agree, and over openings that do
+data AlikeRule (n : ℕ) (openings : Type 0) : Rule → Rule → Type 0 where
+  last-values : openings → AlikeRule n openings last-value last-value
+  withins : {q r q′ r′ : Rel} → Alike n q q′ → Alike n r r′ → AlikeRule n openings (q within r) (q′ within r′)
+  fitses : {q r q′ r′ : Rel} → Alike n q q′ → Alike n r r′ → AlikeRule n openings (q fits r) (q′ fits r′)
 
 wider : (m n : ℕ) (l : Last) → m ≤ n → LastIn m l → LastIn n l
 wider m n Nothing h s = tt
 wider m n (At w) h s = omega arith
 
-module _ (h k : History) (s : Agree h k) where
+module _ (h k : History) (s : SameEvents h k) where
   abbrev Same : Rel → Rel → Type 0
   Same = Alike (h .count)
 
@@ -58,23 +117,32 @@ module _ (h k : History) (s : Agree h k) where
 
   -- ---- the relations of a history
 
-  rb-same : Same (rb h) (rb k)
-  unfolding rb
-  rb-same a b i j = ap₂ (λ (p t : Bool). cond p false t) (s .isPending a i) (ap₂ ltb (s .return a i) (s .start b j))
+  ss-same : Same (ss h) (ss k)
+  unfolding ss
+  ss-same a b i j = ap₂ eqb (s .site a i) (s .site b j)
 
   ob-same : Same (ob h) (ob k)
   unfolding ob
   ob-same a b i j = ap₂ eqb (s .object a i) (s .object b j)
 
+  -- by one clock, and so at one site
+  returned-same : (a b : ℕ) → a < h .count → b < h .count → returned h a (h .start b) ≡ returned k a (k .start b)
+  returned-same a b i j = ap₂ (λ (p t : Bool). cond p false t) (s .isPending a i) (ap₂ ltb (s .return a i) (s .start b j))
+
   so-same : Same (so h) (so k)
-  unfolding so ss
-  so-same a b i j = ap₂ _&&_ (rb-same a b i j) (ap₂ eqb (s .site a i) (s .site b j))
+  so-same a b i j = so-own h a b ∙ ap₂ _&&_ (returned-same a b i j) (ss-same a b i j) ∙ sym (so-own k a b)
+
+  pub rb-same : h .terms .difference ≡ k .terms .difference → Same (rb h) (rb k)
+  unfolding rb skew
+  rb-same e a b i j =
+      ap₂ (λ (p t : Bool). cond p false t) (s .isPending a i)
+      (ap₂ ltb (ap₂ _+_ (s .return a i) (ap₂ (λ (t : Bool) (x : ℕ). cond t 0 x) (ss-same a b i j) e)) (s .start b j))
 
   vis-same : Same (vis h) (vis k)
   unfolding vis
   vis-same a b i j = s .sees b a j i
 
-  ar-same : Same (ar h) (ar k)
+  pub ar-same : Same (ar h) (ar k)
   unfolding ar
   ar-same a b i j = ap₂ ltb (s .position a i) (s .position b j)
 
@@ -124,58 +192,88 @@ module _ (h k : History) (s : Agree h k) where
   held-same : (e : ℕ) → e < h .count → held h e ≡ held k e
   held-same e i = ap₂ (λ (t : Bool) (v : ℕ). cond t (value v) none) (s .isPresent e i) (s .value e i)
 
-  left-same : (e : ℕ) (l : Last) → e < h .count → LastIn (h .count) l → leftBy h e l ≡ leftBy k e l
-  left-same e Nothing j i = s .terms .opening (h .object e) ∙ ap (k .terms .opening) (s .object e j)
-  left-same e (At w) j i = ap value (s .value w i)
+  left-same : SameFor RVal (h .terms) (k .terms) → (e : ℕ) (l : Last) → e < h .count → LastIn (h .count) l → leftBy h e l ≡ leftBy k e l
+  left-same o e Nothing j i = o (h .object e) ∙ ap (k .terms .opening) (s .object e j)
+  left-same o e (At w) j i = ap value (s .value w i)
 
-  expected-same : (e : ℕ) → e < h .count → expected h e ≡ expected k e
+  expected-same : SameFor RVal (h .terms) (k .terms) → (e : ℕ) → e < h .count → expected h e ≡ expected k e
   unfolding expected
-  expected-same e i = left-same e (lastWrite h e) i (write-in h e) ∙ ap (leftBy k e) (write-same e i)
+  expected-same o e i = left-same o e (lastWrite h e) i (write-in h e) ∙ ap (leftBy k e) (write-same e i)
 
-  wrong-same : Same (wrong h) (wrong k)
+  wrong-same : SameFor RVal (h .terms) (k .terms) → Same (wrong h) (wrong k)
   unfolding wrong wrongRead
-  wrong-same e w i j =
+  wrong-same o e w i j =
       ap₂ _&&_
       (ap₂ (λ (x y : Bool). x && not y) (ap₂ (λ (x y : Bool). x && not y) (read-same e i) (s .isPending e i))
-      (ap₂ sameHeld (held-same e i) (expected-same e i)))
+      (ap₂ sameHeld (held-same e i) (expected-same o e i)))
       (ap (λ (l : Last). eqb w (lastOr e l)) (write-same e i))
 
   -- ---- the three kinds of rule, and the thirteen predicates
 
-  breaks-same : {u v : Rule} → AlikeRule (h .count) u v → Same (breaks h u) (breaks k v)
+  breaks-same : {u v : Rule} → AlikeRule (h .count) (SameFor RVal (h .terms) (k .terms)) u v → Same (breaks h u) (breaks k v)
   unfolding breaks
-  breaks-same last-values a b i j = wrong-same a b i j
+  breaks-same (last-values o) a b i j = wrong-same o a b i j
   breaks-same (withins e f) a b i j = ap₂ (λ (x y : Bool). x && not y) (e a b i j) (f a b i j)
   breaks-same (fitses {q} {r} {q′} {r′} e f) a b i j =
       ap₂ (λ (x y : Bool). not x && y)
       (ap₂ (λ (x y : Bool). x && not y) (s .isPending a i) (some-same (q a) (q′ a) (λ y l. e a y i l)))
       (ap₂ differ (e a b i j) (f a b i j))
 
-  rule-same : (p : Predicate) → AlikeRule (h .count) (rule p h) (rule p k)
+  rule-same : (p : Predicate) → SameFor p (h .terms) (k .terms) → AlikeRule (h .count) (SameFor RVal (h .terms) (k .terms)) (rule p h) (rule p k)
   unfolding rule
-  rule-same RVal = last-values
-  rule-same SingleOrder = fitses vis-same ar-same
-  rule-same RealTime = withins rb-same ar-same
-  rule-same RealTimeWrites = withins (from-same _ _ _ _ (s .isWrite) rb-same) ar-same
-  rule-same MonotonicReads = withins (to-same _ _ _ _ read-same through-same) vis-same
-  rule-same ReadYourWrites = withins (from-same _ _ _ _ (s .isWrite) (to-same _ _ _ _ read-same so-same)) vis-same
-  rule-same MonotonicWrites = withins (from-same _ _ _ _ (s .isWrite) (to-same _ _ _ _ (s .isWrite) so-same)) ar-same
-  rule-same WritesFollowReads = withins (from-same _ _ _ _ (s .isWrite) (to-same _ _ _ _ (s .isWrite) through-same)) ar-same
-  rule-same Pram = withins so-same vis-same
-  rule-same CausalVisibility = withins hb-same vis-same
-  rule-same CausalArbitration = withins hb-same ar-same
-  rule-same PerObjectPram = withins (both-same _ _ _ _ so-same ob-same) vis-same
-  rule-same PerObjectSingleOrder = fitses (both-same _ _ _ _ vis-same ob-same) (both-same _ _ _ _ ar-same ob-same)
+  rule-same RVal o = last-values o
+  rule-same SingleOrder t = fitses vis-same ar-same
+  rule-same RealTime e = withins (rb-same e) ar-same
+  rule-same RealTimeWrites e = withins (from-same _ _ _ _ (s .isWrite) (rb-same e)) ar-same
+  rule-same MonotonicReads t = withins (to-same _ _ _ _ read-same through-same) vis-same
+  rule-same ReadYourWrites t = withins (from-same _ _ _ _ (s .isWrite) (to-same _ _ _ _ read-same so-same)) vis-same
+  rule-same MonotonicWrites t = withins (from-same _ _ _ _ (s .isWrite) (to-same _ _ _ _ (s .isWrite) so-same)) ar-same
+  rule-same WritesFollowReads t = withins (from-same _ _ _ _ (s .isWrite) (to-same _ _ _ _ (s .isWrite) through-same)) ar-same
+  rule-same Pram t = withins so-same vis-same
+  rule-same CausalVisibility t = withins hb-same vis-same
+  rule-same CausalArbitration t = withins hb-same ar-same
+  rule-same PerObjectPram t = withins (both-same _ _ _ _ so-same ob-same) vis-same
+  rule-same PerObjectSingleOrder t = fitses (both-same _ _ _ _ vis-same ob-same) (both-same _ _ _ _ ar-same ob-same)
 
   -- ---- verdicts
 
-  pub verdict-same : (p : Predicate) → verdict p h ≡ verdict p k
+  pub verdict-for : (p : Predicate) → SameFor p (h .terms) (k .terms) → verdict p h ≡ verdict p k
   unfolding verdict
-  verdict-same p =
-      first-same (h .count) (breaks h (rule p h)) (breaks k (rule p k)) (breaks-same (rule-same p))
+  verdict-for p t =
+      first-same (h .count) (breaks h (rule p h)) (breaks k (rule p k)) (breaks-same (rule-same p t))
       ∙ ap (λ (n : ℕ). first n (breaks k (rule p k))) (s .count)
+
+-- ---- histories that say the same of all
+
+module _ (h k : History) (s : Agree h k) where
+  pub verdict-same : (p : Predicate) → verdict p h ≡ verdict p k
+  verdict-same p = verdict-for h k (on-terms (h .terms) h k s) p (same-for (h .terms) (k .terms) (s .terms) p)
 
   pub firstBroken-same : (ps : List ℕ) → firstBroken ps h ≡ firstBroken ps k
   unfolding firstBroken
   firstBroken-same [] = refl
   firstBroken-same (p ∷ ps) = ap₂ (orElse p) (verdict-same (numbered p)) (firstBroken-same ps)
+
+-- ---- the events of one history, on other terms
+
+pub same-under : (t : Terms) (h : History) → SameEvents (under t h) h
+same-under t h = record {
+  count = refl;
+  isWrite = λ e i. refl;
+  site = λ e i. refl;
+  object = λ e i. refl;
+  isPending = λ e i. refl;
+  isPresent = λ e i. refl;
+  value = λ e i. refl;
+  position = λ e i. refl;
+  start = λ e i. refl;
+  return = λ e i. refl;
+  sees = λ e b i j. refl;
+  terms = same-terms t;
+}
+
+pub verdict-under : (t : Terms) (h : History) (p : Predicate) → SameFor p t (h .terms) → verdict p (under t h) ≡ verdict p h
+verdict-under t h = verdict-for (under t h) h (same-under t h)
+
+pub write-under : (t : Terms) (h : History) (e : ℕ) → e < h .count → lastWrite (under t h) e ≡ lastWrite h e
+write-under t h = write-same (under t h) h (same-under t h)

@@ -1,9 +1,10 @@
 -- 'Models': the table of models to their predicates, and the first broken predicate of a list.
+use mathlib.Core.Bool.{Bool, false, _||_}
 use mathlib.Core.List.{List, [], _∷_}
 use Prim.Native.Nat.{ℕ, _-_}
 use lib.ListN.{getD}
 use Rattle.record.specs.History.{History}
-use Rattle.consistency.specs.Predicates.{numbered, verdict}
+use Rattle.consistency.specs.Predicates.{numbered, byClocks, verdict}
 use Rattle.consistency.specs.declared.Verdict.{Verdict}
 use Rattle.consistency.specs.declared.Verdict.the-variants.{Met, Broken}
 use Rattle.consistency.specs.declared.Outcome.{Outcome}
@@ -31,6 +32,11 @@ models =
 -- the predicates of model m, counted from 1
 abbrev pub listOf : ℕ → List ℕ
 listOf m = getD models (m - 1) []
+
+-- whether a list has a predicate that is judged by clocks, as those of models 1, 2 and 5 have
+abbrev pub timed : List ℕ → Bool
+timed [] = false
+timed (p ∷ ps) = byClocks (numbered p) || timed ps
 
 -- a predicate's break, or what comes after it
 abbrev pub orElse : ℕ → Verdict → Outcome → Outcome

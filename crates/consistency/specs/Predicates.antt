@@ -38,6 +38,22 @@ rule CausalArbitration h = hb h within ar h
 rule PerObjectPram h = both (so h) (ob h) within vis h
 rule PerObjectSingleOrder h = both (vis h) (ob h) fits both (ar h) (ob h)
 
+-- judged by the sites' clocks: 3 and 4
+abbrev pub byClocks : Predicate → Bool
+byClocks RVal = false
+byClocks SingleOrder = false
+byClocks RealTime = true
+byClocks RealTimeWrites = true
+byClocks MonotonicReads = false
+byClocks ReadYourWrites = false
+byClocks MonotonicWrites = false
+byClocks WritesFollowReads = false
+byClocks Pram = false
+byClocks CausalVisibility = false
+byClocks CausalArbitration = false
+byClocks PerObjectPram = false
+byClocks PerObjectSingleOrder = false
+
 -- an inclusion breaks at a pair in the left side but not the right
 abbrev pub outside : Rel → Rel → Rel
 outside q r a b = q a b && not (r a b)

@@ -1,14 +1,10 @@
 -- 'Events and relations': rb, ss, ob, so, ar and hb of a history (vis stands beside History), and relations made of others.
 use mathlib.Core.Bool.{Bool, false, not, cond, _&&_, _||_}
-use Prim.Native.Nat.{ℕ}
+use Prim.Native.Nat.{ℕ, _+_}
 use lib.Dec.{ltb, eqb}
 use Rattle.rows.specs.Lowest.{some}
 use Rattle.rows.specs.Relation.{Rel, reaches, Steps}
 use Rattle.record.specs.History.{History, vis}
-
--- rb: a returned before b. A pending event returned before nothing
-unfoldable pub rb : History → Rel
-rb h a b = cond (h .isPending a) false (ltb (h .return a) (h .start b))
 
 -- ss, ob: same site; same object
 unfoldable pub ss : History → Rel
@@ -17,7 +13,15 @@ ss h a b = eqb (h .site a) (h .site b)
 unfoldable pub ob : History → Rel
 ob h a b = eqb (h .object a) (h .object b)
 
--- so: rb and ss
+-- by how much the clocks of a's and b's sites may differ: one site's clock not at all
+unfoldable pub skew : History → ℕ → ℕ → ℕ
+skew h a b = cond (ss h a b) 0 (h .terms .difference)
+
+-- rb: a returned before b, by more than their clocks may differ. A pending event returned before nothing
+unfoldable pub rb : History → Rel
+rb h a b = cond (h .isPending a) false (ltb (h .return a + skew h a b) (h .start b))
+
+-- so: rb and ss, so of one site's own clock
 unfoldable pub so : History → Rel
 so h a b = rb h a b && ss h a b
 

@@ -1,12 +1,12 @@
 -- The table: a history, a record's bytes, or a script, with a question and its answer.
 use mathlib.Core.Bool.{Bool, true, cond, _&&_}
 use mathlib.Core.List.{List, [], _∷_, _++_}
-use Prim.Native.Nat.{ℕ, _+_, _*_}
+use Prim.Native.Nat.{ℕ, _+_, _*_, _-_}
 use lib.Dec.{eqb}
 use lib.ListN.{drop, take, replicate}
 use lib.Seq.{sets}
 use Rattle.rows.specs.Octets.{little}
-use Rattle.record.specs.Layout.{gcr1, gcr2, editionOf, same}
+use Rattle.record.specs.Layout.{Layout, gcr1, gcr2, editionOf, same}
 use Rattle.record.specs.History.{History, under}
 use Rattle.record.specs.Encode.{openingBytes, sealed, unsealed, recordBytes}
 use Rattle.record.specs.Terms.{Held, none, value, Terms}
@@ -18,7 +18,7 @@ use Rattle.store.specs.Calls.{callsOf}
 use Rattle.store.specs.Rules.{deliveries, copiesByCloses, answers}
 use Rattle.store.specs.Outstanding.{puts, outstanding, toldDone, toldCopies}
 use Rattle.store.specs.Rehearsal.{rehearsalRefusal, termsOf, storeAfter, recordOf}
-use Rattle.edges.specs.Events.{event, aRead, aWrite, returned, pending, historyOfEvents}
+use Rattle.edges.specs.Events.{Time, event, aRead, aWrite, returned, pending, historyOfEvents}
 
 -- no openings, as 132 bytes; and one opening, of one object
 abbrev pub noOpenings : List ℕ
@@ -80,14 +80,25 @@ refused number place = 2097152 + 1024 * number + place
 abbrev noEvents : History
 noEvents = historyOfEvents []
 
--- ---- event 1 starts at t, after or not after event 0 returned at 5, and stands before it in ar
+-- ---- event 1 starts at t, at a site, and stands before event 0, at site 0, in ar: 3 and 4 are broken where 0 rb 1, else met
 
-abbrev afterFive : ℕ → History
-afterFive t =
+abbrev reversed : Time → ℕ → ℕ → History
+reversed first site t =
     historyOfEvents
-    (event aWrite 0 0 (value 1) 1 (returned 0 5) []
-    ∷ event aWrite 1 0 (value 2) 0 (returned t 9) []
+    (event aWrite 0 0 (value 1) 1 first []
+    ∷ event aWrite site 0 (value 2) 0 (returned t t) []
     ∷ [])
+
+-- terms that say by how much clocks may differ
+abbrev differing : ℕ → Terms
+differing d = record { difference = d; opening = λ o. none }
+
+-- the largest number of 32 bits, and of 64
+abbrev most32 : ℕ
+most32 = 4294967295
+
+abbrev most64 : ℕ
+most64 = 18446744073709551615
 
 -- ---- a pending write with two later ar events, the second of which sees l
 
@@ -215,17 +226,17 @@ closeDone copies = 0 ∷ 1 ∷ 0 ∷ 0 ∷ copies ∷ 0 ∷ 0 ∷ 0 ∷ []
 
 -- ---- openings
 
--- an opening of one object
-abbrev sevenAt : ℕ → Terms
-sevenAt object = record { opening = opening object 7 }
+-- terms that say an opening of one object
+abbrev opened : ℕ → ℕ → Terms
+opened object v = record { difference = 0; opening = opening object v }
 
 -- a returned read of an object that holds 7, and sees no write
 abbrev readOf7 : ℕ → History
 readOf7 object = historyOfEvents (event aRead 0 object (value 7) 0 (returned 0 1) [] ∷ [])
 
--- a block 0 of `GCR2`, with one byte stored over it and its check made anew
-abbrev block0 : ℕ → ℕ → List ℕ
-block0 at x = sealed 1 (sets (unsealed gcr2 1 noEvents) at (x ∷ []))
+-- a block 0 of an edition, with bytes stored over it and its check made anew
+abbrev block0 : Layout → ℕ → List ℕ → List ℕ
+block0 L at l = sealed 1 (sets (unsealed L 1 noEvents) at l)
 
 -- a put over an opening; a get at a site before it comes there, and after
 abbrev overOpening : List ℕ
@@ -242,21 +253,55 @@ ofRing = ruled (recordBytes gcr1 2 ring) 1 (refused 10 0) ∷ []
 
 abbrev pub ofHistories : List Case
 ofHistories =
-    decided (afterFive 5) 3 met
-    ∷ decided (afterFive 6) 3 (broken 0 1)
-    ∷ decided (pendingWrite (1 ∷ [])) 2 met
+    decided (pendingWrite (1 ∷ [])) 2 met
     ∷ decided (pendingWrite (0 ∷ 1 ∷ [])) 2 (broken 0 1)
     ∷ decided loneRead 1 met
     ∷ decided loneReadOf0 1 (broken 1 1)
-    ∷ decided (under (sevenAt 0) (readOf7 0)) 1 met
-    ∷ decided (under (sevenAt 0) loneRead) 1 (broken 0 0)
-    ∷ decided (under (sevenAt 1) (readOf7 0)) 1 (broken 0 0)
-    ∷ decided (under (record { opening = opening 0 0 }) loneReadOf0) 1 met
-    ∷ decided (under (record { opening = opening 0 0 }) loneRead) 1 (broken 0 0)
+    ∷ decided (under (opened 0 7) (readOf7 0)) 1 met
+    ∷ decided (under (opened 0 7) loneRead) 1 (broken 0 0)
+    ∷ decided (under (opened 1 7) (readOf7 0)) 1 (broken 0 0)
+    ∷ decided (under (opened 0 0) loneReadOf0) 1 met
+    ∷ decided (under (opened 0 0) loneRead) 1 (broken 0 0)
     ∷ decided forgetful 9 met
     ∷ decided forgetful 5 (broken 0 2)
     ∷ decided foresight 10 (broken 0 0)
     ∷ []
+
+-- 3 and 4 of events 0 and 1 on a difference of clocks
+abbrev clocked : ℕ → Time → ℕ → ℕ → ℕ → List Case → List Case
+clocked d first site t answer rest =
+    decided (under (differing d) (reversed first site t)) 3 answer
+    ∷ decided (under (differing d) (reversed first site t)) 4 answer
+    ∷ rest
+
+abbrev between : ℕ → Time → ℕ → ℕ → List Case → List Case
+between d first t = clocked d first 1 t
+
+abbrev atOne : ℕ → Time → ℕ → ℕ → List Case → List Case
+atOne d first t = clocked d first 0 t
+
+-- between sites by more than the difference, or not, also where the sum has more than 64 bits and where a start is less than the difference. At one site
+-- no difference counts, for so neither; and a pending event returned before nothing
+abbrev pub ofClocks : List Case
+ofClocks =
+    between 0 (returned 0 5) 5 met
+    (between 0 (returned 0 5) 6 (broken 0 1)
+    (between 4 (returned 0 5) 10 (broken 0 1)
+    (between 5 (returned 0 5) 10 met
+    (atOne 4 (returned 0 5) 10 (broken 0 1)
+    (atOne 5 (returned 0 5) 10 (broken 0 1)
+    (atOne most32 (returned 0 5) 5 met
+    (atOne most32 (returned 0 5) 6 (broken 0 1)
+    (between most32 (returned 0 (most64 - 1)) most64 met
+    (atOne most32 (returned 0 (most64 - 1)) most64 (broken 0 1)
+    (between most32 (returned 0 0) most32 met
+    (between most32 (returned 0 0) (most32 + 1) (broken 0 1)
+    (between most32 (returned 0 0) 1 met
+    (between 0 (pending 0) 10 met
+    (between 4 (pending 0) 10 met
+    (atOne 4 (pending 0) 10 met
+    (decided (under (differing most32) forgetful) 5 (broken 0 2)
+    ∷ []))))))))))))))))
 
 abbrev pub ofListing : List Case
 ofListing =
@@ -305,28 +350,40 @@ ofCopies =
 
 abbrev pub ofBlock0 : List Case
 ofBlock0 =
-    ruled (block0 12 1) 1 met
-    ∷ ruled (block0 16 1) 1 (refused 5 0)
-    ∷ ruled (block0 143 1) 1 (refused 5 0)
+    ruled (block0 gcr2 12 (1 ∷ [])) 1 met
+    ∷ ruled (block0 gcr2 16 (1 ∷ [])) 1 (refused 5 0)
+    ∷ ruled (block0 gcr2 143 (1 ∷ [])) 1 (refused 5 0)
     ∷ []
 
 abbrev pub ofZeros : List Case
 ofZeros =
-    ruled (block0 8 1) 1 (refused 5 0)
-    ∷ ruled (block0 144 1) 1 (refused 5 0)
-    ∷ ruled (block0 3 51) 1 (refused 5 0)
+    ruled (block0 gcr2 7 (1 ∷ [])) 1 (refused 5 0)
+    ∷ ruled (block0 gcr2 8 (255 ∷ 255 ∷ 255 ∷ 255 ∷ [])) 1 met
+    ∷ ruled (block0 gcr2 144 (1 ∷ [])) 1 (refused 5 0)
+    ∷ ruled (block0 gcr2 3 (51 ∷ [])) 1 (refused 5 0)
     ∷ []
+
+-- the first edition has zeros where the second has the difference
+abbrev pub ofLacking : List Case
+ofLacking =
+    ruled (block0 gcr1 8 (1 ∷ [])) 1 (refused 5 0)
+    ∷ ruled (block0 gcr1 11 (1 ∷ [])) 1 (refused 5 0)
+    ∷ []
+
+-- four bytes of a difference that all count: 67,305,985 is 1, 2, 3, 4, lowest first
+abbrev pub ofDifference : List Case
+ofDifference = ruled (recordBytes gcr2 2 (under (differing 67305985) (reversed (returned 0 5) 1 67305990))) 3 met ∷ []
 
 -- one event in either edition, of which the first has no room for the opening
 abbrev pub ofSecond : List Case
-ofSecond = ruled (recordBytes gcr2 1 (under (sevenAt 31) (readOf7 31))) 1 met ∷ []
+ofSecond = ruled (recordBytes gcr2 1 (under (opened 31 7) (readOf7 31))) 1 met ∷ []
 
 abbrev pub ofFirst : List Case
-ofFirst = ruled (recordBytes gcr1 1 (under (sevenAt 31) (readOf7 31))) 1 (broken 0 0) ∷ []
+ofFirst = ruled (recordBytes gcr1 1 (under (opened 31 7) (readOf7 31))) 1 (broken 0 0) ∷ []
 
 -- object 32 has none, whatever stands where its bit and its value would be: a set bit in the value of object 0, and zeros
 abbrev pub ofPast : List Case
-ofPast = ruled (recordBytes gcr2 1 (under (sevenAt 0) (historyOfEvents (event aRead 0 32 none 0 (returned 0 1) [] ∷ [])))) 1 met ∷ []
+ofPast = ruled (recordBytes gcr2 1 (under (opened 0 7) (historyOfEvents (event aRead 0 32 none 0 (returned 0 1) [] ∷ [])))) 1 met ∷ []
 
 abbrev pub ofOpenings : List Case
 ofOpenings =
@@ -348,4 +405,4 @@ ofRefusals =
 
 -- the table, in parts that the checker computes one by one
 abbrev pub edges : List Case
-edges = ofEmpty ++ (ofRing ++ (ofHistories ++ (ofListing ++ (ofDeliveries ++ (ofCloses ++ (ofCopies ++ (ofBlock0 ++ (ofZeros ++ (ofSecond ++ (ofPast ++ (ofFirst ++ (ofOpenings ++ ofRefusals))))))))))))
+edges = ofEmpty ++ (ofRing ++ (ofHistories ++ (ofClocks ++ (ofListing ++ (ofDeliveries ++ (ofCloses ++ (ofCopies ++ (ofBlock0 ++ (ofZeros ++ (ofLacking ++ (ofDifference ++ (ofSecond ++ (ofPast ++ (ofFirst ++ (ofOpenings ++ ofRefusals)))))))))))))))

@@ -1,11 +1,11 @@
-// The fields of an event, read from its four words, and openings, read from block 0's. The reader loads these words, and the judge reads from them.
+// The fields of an event, read from its four words, and terms, read from block 0's. The reader loads these words, and the judge reads from them.
 ghost use mathlib.Core.Path.{_≡_};
 ghost use mathlib.Core.Bool.{_&&_};
 ghost use Prim.Native.Nat.{_+_, _*_, _≤_, _<_};
 ghost use lib.Dec.{ltb};
 ghost use lib.ListN.{length};
 ghost use Rattle.rows.specs.Row.{has};
-ghost use Rattle.record.specs.Words.{isWriteIn, siteIn, objectIn, isPendingIn, valueIn, isPresentIn, positionIn, startIn, returnIn, figureIn};
+ghost use Rattle.record.specs.Words.{isWriteIn, siteIn, objectIn, isPendingIn, valueIn, isPresentIn, positionIn, startIn, returnIn, differenceFrom, figureIn};
 
 pub fn is_write(l: &[u64], e: usize) -> bool
     requires { ⌜ 4 * e + 4 ≤ length (now l) ⌝ }
@@ -68,6 +68,14 @@ pub fn return_time(l: &[u64], e: usize) -> u64
     ensures { λ r. ⌜ r ≡ returnIn (now (l .entry)) e ⌝ }
 {
     l[4 * e + 3]
+}
+
+// By how much the sites' clocks may differ, by the words of block 0's terms.
+pub fn difference(terms: &[u64]) -> u64
+    requires { ⌜ 17 ≤ length (now terms) ⌝ }
+    ensures { λ r. ⌜ r ≡ differenceFrom (now (terms .entry)) ⌝ }
+{
+    terms[0] % 4294967296
 }
 
 // Whether object o has an opening, by the words of block 0's terms.

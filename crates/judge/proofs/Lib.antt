@@ -1,5 +1,6 @@
 -- Laws of the judging calls. What users should know: MeansLaws (the second demand), ReadsBack.
 pub mod MeansLaws
+pub mod ClocksJudged
 pub mod ReadsBack
 pub mod RecordLaws
 pub mod JudgmentLaws

@@ -11,7 +11,8 @@ use lib.ListN.{length, take, drop, length-take, length-drop}
 use Rattle.rows.specs.Row.{rowAt, Row}
 use Rattle.rows.specs.Relation.{Rel, Table}
 use Rattle.rows.proofs.SliceLaws.{sliceAt, slice-row, length-slice}
-use Rattle.record.specs.History.{History, vis}
+use Rattle.record.specs.Terms.{Terms}
+use Rattle.record.specs.History.{History, under, vis}
 use Rattle.record.specs.Words.{historyFrom}
 use Rattle.consistency.specs.Relations.{ar, from, to}
 use Rattle.consistency.specs.Predicates.{outside}
@@ -22,9 +23,9 @@ use Rattle.tables.specs.Tables.{part, Prepared}
 use Rattle.pairs.specs.Searches.{lacks, Whole}
 use Rattle.pairs.proofs.InclusionLaws.{lacks-first}
 
-module _ (n : ℕ) (l v : List ℕ) where
+module _ (n : ℕ) (l v : List ℕ) (q : Terms) where
   abbrev h : History
-  h = historyFrom n 4 l v
+  h = under q (historyFrom n 4 l v)
 
   -- ar is a matter of the fields alone
   pub ars-fields : (ars : List ℕ) → Table n 4 (ar h) ars → Table n 4 (ar (fieldsOf l)) ars
@@ -58,21 +59,22 @@ part-end n k h = omega (arith, mul-le-mul-right (n * 4) h)
 
 -- ---- what is judged from the tables
 
-module _ (n : ℕ) (l v groups t : List ℕ) (ready : Prepared n 4 (historyFrom n 4 l v) t) where
+module _ (n : ℕ) (l v groups t : List ℕ) (q : Terms) (ready : Prepared n 4 (under q (historyFrom n 4 l v)) t) where
   -- ar as it is lent
   abbrev lent : List ℕ
   lent = take (5 * (n * 4) + n * 4 - 5 * (n * 4)) (drop (5 * (n * 4)) t)
 
   pub ars-lent : Table n 4 (ar (fieldsOf l)) lent × (n * 4 ≤ length lent)
   ars-lent = rw add-sub-cancel-left (
-    ars-fields n l v (part n 4 5 t) (ready .ars),
+    ars-fields n l v q (part n 4 5 t) (ready .ars),
     omega (arith, ready .size, length-take (n * 4) (drop (5 * (n * 4)) t), length-drop (5 * (n * 4)) t),
   )
 
   -- the pairs of x, from an event of f to one of g, within ar and within vis
-  module _ (k a b : ℕ) (x : Rel) (f g : ℕ → Bool) (q : Table n 4 x (part n 4 k t)) (p : Row n f (rowAt groups 4 a)) (r : Row n g (rowAt groups 4 b)) where
-    pub ar-judged : first n (lacks 4 (part n 4 k t) (rowAt groups 4 a) (rowAt groups 4 b) (part n 4 5 t)) ≡ first n (outside (from f (to g x)) (ar (historyFrom n 4 l v)))
-    ar-judged = lacks-first n 4 (part n 4 k t) (rowAt groups 4 a) (rowAt groups 4 b) (part n 4 5 t) x (ar (historyFrom n 4 l v)) f g q (ready .ars) p r
+  module _ (k a b : ℕ) (x : Rel) (f g : ℕ → Bool) (table : Table n 4 x (part n 4 k t)) (p : Row n f (rowAt groups 4 a)) (r : Row n g (rowAt groups 4 b)) where
+    pub ar-judged : first n (lacks 4 (part n 4 k t) (rowAt groups 4 a) (rowAt groups 4 b) (part n 4 5 t)) ≡ first n (outside (from f (to g x)) (ar (under q (historyFrom n 4 l v))))
+    ar-judged = lacks-first n 4 (part n 4 k t) (rowAt groups 4 a) (rowAt groups 4 b) (part n 4 5 t) x (ar (under q (historyFrom n 4 l v))) f g table (ready .ars) p r
 
-    pub vis-judged : Given n 4 l v → first n (lacks 4 (part n 4 k t) (rowAt groups 4 a) (rowAt groups 4 b) v) ≡ first n (outside (from f (to g x)) (vis (historyFrom n 4 l v)))
-    vis-judged w = lacks-first n 4 (part n 4 k t) (rowAt groups 4 a) (rowAt groups 4 b) v x (vis (historyFrom n 4 l v)) f g q (seen-table n 4 l v w) p r
+    pub vis-judged : Given n 4 l v → first n (lacks 4 (part n 4 k t) (rowAt groups 4 a) (rowAt groups 4 b) v) ≡ first n (outside (from f (to g x)) (vis (under q (historyFrom n 4 l v))))
+    unfolding vis historyFrom
+    vis-judged w = lacks-first n 4 (part n 4 k t) (rowAt groups 4 a) (rowAt groups 4 b) v x (vis (under q (historyFrom n 4 l v))) f g table (seen-table n 4 l v w) p r

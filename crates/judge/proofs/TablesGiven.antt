@@ -12,19 +12,14 @@ use Rattle.rows.proofs.TableLaws.{putRow, length-put, row-put-same, row-put-oth
 use Rattle.rows.proofs.SliceLaws.{sliceAt, slice-row, length-slice, giveBack}
 use Rattle.rows.proofs.ReachLaws.{table-graph}
 use Rattle.reach.proofs.FilledLaws.{table-closed}
-use Rattle.record.specs.History.{History}
+use Rattle.record.specs.Terms.{Terms}
+use Rattle.record.specs.History.{History, under}
 use Rattle.record.specs.Words.{historyFrom}
 use Rattle.consistency.specs.Relations.{ar, step, hb}
 use Rattle.events.specs.Given.{Given, fieldsOf}
 use Rattle.tables.specs.Tables.{part, Prepared}
 use Rattle.tables.specs.Sweep.{Sweeps}
 use Rattle.judge.proofs.PreparedLaws.{fields-ars}
-
--- lists that are the same from j on are so from k on
-pub same-later : (j k : ℕ) (x y : List ℕ) → j ≤ k → drop j x ≡ drop j y → drop k x ≡ drop k y
-same-later j k x y h e =
-    let on : k ≡ j + (k - j) = omega arith in
-    ap (λ (i : ℕ). drop i x) on ∙ sym (drop-drop (k - j) j x) ∙ ap (drop (k - j)) e ∙ drop-drop (k - j) j y ∙ ap (λ (i : ℕ). drop i y) (sym on)
 
 -- ---- a row of w words that is given back
 
@@ -57,9 +52,9 @@ module _ (w c : ℕ) (g m : List ℕ) (wide : length m ≡ w) (room : c * w + w 
 
 -- ---- the tables, after the sweep
 
-module _ (n : ℕ) (l v t : List ℕ) (g : Given n 4 l v) (sw : Sweeps n 4 l v t) (size : 6 * (n * 4) ≤ length t) where
+module _ (n : ℕ) (l v t : List ℕ) (g : Given n 4 l v) (q : Terms) (sw : Sweeps n 4 (under q (historyFrom n 4 l v)) t) (size : 6 * (n * 4) ≤ length t) where
   abbrev h : History
-  h = historyFrom n 4 l v
+  h = under q (historyFrom n 4 l v)
 
   -- tables 4 and 5 as they are lent
   abbrev steps : List ℕ
@@ -114,7 +109,7 @@ module _ (n : ℕ) (l v t : List ℕ) (g : Given n 4 l v) (sw : Sweeps n 4 l v t
           objects = rw (kept 3 (omega arith)) (sw .timed .objects);
         };
         hbs = rw (third .other 4 (λ e. omega arith), second .same) (table-closed n 4 (step h) steps closed steps-hold fill);
-        ars = rw (third .same) (fields-ars n l v placed (fill₅ .table));
+        ars = rw (third .same) (fields-ars n l v q placed (fill₅ .table));
       }
 
       pub tables-size : length t₃ ≡ length t

@@ -1,4 +1,5 @@
 -- What the contracts of this crate cite.
 pub mod Judgments
 pub mod Means
+pub mod Clocks
 pub mod Lists

@@ -69,7 +69,7 @@ pub fn first_broken(list: [u8; 4], l: &[u64], v: &[u64], terms: &[u64], n: usize
     let mut groups = [0u64; 1036];
     groups::fill(l, n, 4, &mut groups);
     let mut t = [0u64; 6144];
-    prepared::prepare(l, v, n, &groups, &mut t);
+    prepared::prepare(l, v, terms, n, &groups, &mut t);
     for k in 0..4 {
         let number = list[k];
         if number == 0 {

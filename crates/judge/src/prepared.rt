@@ -41,15 +41,15 @@ const READS: usize = 257;
 const EVERY: usize = 258;
 
 // Fills the six tables. Table 4 is swept as the steps of hb, and then closed.
-pub fn prepare(l: &[u64], v: &[u64], n: usize, groups: &[u64], t: &mut [u64])
-    requires { ⌜ Given n 4 (now l) (now v) × Groups n 4 (now l) (now groups) × (6 * (n * 4) ≤ length (now t)) ⌝ }
-    ensures { λ _. ⌜ Prepared n 4 (historyFrom n 4 (now (l .entry)) (now (v .entry))) (now (t .exit)) ⌝ }
+pub fn prepare(l: &[u64], v: &[u64], terms: &[u64], n: usize, groups: &[u64], t: &mut [u64])
+    requires { ⌜ Given n 4 (now l) (now v) × Groups n 4 (now l) (now groups) × (17 ≤ length (now terms)) × (6 * (n * 4) ≤ length (now t)) ⌝ }
+    ensures { λ _. ⌜ Prepared n 4 (under (termsFrom (now (terms .entry))) (historyFrom n 4 (now (l .entry)) (now (v .entry)))) (now (t .exit)) ⌝ }
     ensures { λ _. ⌜ (length (now (t .exit)) ≡ length (now (t .entry))) × (drop (6 * (n * 4)) (now (t .exit)) ≡ drop (6 * (n * 4)) (now (t .entry))) ⌝ }
 {
     let size = n * 4;
     let steps = HB * size;
     let positions = AR * size;
-    sweep::sweep(l, v, n, 4, groups, t);
+    sweep::sweep(l, v, terms, n, 4, groups, t);
     closure::close(&mut t[steps..steps + size], n, 4);
     arbitration::fill(l, n, 4, &mut t[positions..positions + size]);
 }
@@ -121,7 +121,7 @@ pub fn judge(
     t: &[u64],
 ) -> Verdict
     requires { ⌜ Given n 4 (now l) (now v) × Groups n 4 (now l) (now groups) × (17 ≤ length (now terms)) ⌝ }
-    requires { ⌜ Prepared n 4 (historyFrom n 4 (now l) (now v)) (now t) ⌝ }
+    requires { ⌜ Prepared n 4 (under (termsFrom (now terms)) (historyFrom n 4 (now l) (now v))) (now t) ⌝ }
     ensures { λ r. ⌜ r ≡ verdict p (under (termsFrom (now (terms .entry))) (historyFrom n 4 (now (l .entry)) (now (v .entry)))) ⌝ }
 {
     let size = n * 4;

@@ -30,7 +30,7 @@ pub fn verdicts(l: &[u64], v: &[u64], terms: &[u64], n: usize) -> [u64; 13]
     let mut groups = [0u64; 1036];
     groups::fill(l, n, 4, &mut groups);
     let mut t = [0u64; 6144];
-    prepared::prepare(l, v, n, &groups, &mut t);
+    prepared::prepare(l, v, terms, n, &groups, &mut t);
     let mut answers = [0u64; 13];
     for k in 0..13 {
         let p = lists::by_number(k as u8 + 1);

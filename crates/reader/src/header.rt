@@ -70,7 +70,7 @@ fn terms_hold(s: &[u8]) -> bool
     if !has_letters(s, layout::GCR2) {
         return layout::is_zero(s, 7, 501);
     }
-    if !layout::is_zero(s, 7, 5) {
+    if !layout::is_zero(s, 7, 1) {
         return false;
     }
     if !openings::hold(s, 12) {

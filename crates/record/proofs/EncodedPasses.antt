@@ -9,7 +9,7 @@ use lib.Dec.{eqb, ltb, leb}
 use lib.ListN.{length, getD, take}
 use lib.Seq.{ext-getD, getD-take, length-take-le}
 use borrow.Author.Tests.{eq-eqb, ne-eqb, eqb-true, lt-ltb, le-ltb, le-leb, lt-leb, leb-true}
-use Rattle.rows.specs.Octets.{hasByte}
+use Rattle.rows.specs.Octets.{little, hasByte}
 use Rattle.rows.specs.Relation.{Rel}
 use Rattle.rows.proofs.Tests.{split, tell, never, and-both, and-left, and-right, or-elim, or-right}
 use Rattle.rows.proofs.LowestLaws.{none-some}
@@ -27,10 +27,10 @@ use Rattle.record.specs.WellFormed.{WellFormed}
 use Rattle.record.proofs.AskLaws.{ask-yes, each-yes}
 use Rattle.record.proofs.StoresLaws.{Stands, stands-head, stands-front, stands-back, Bytes}
 use Rattle.record.proofs.NumberBytes.{length-little, little-stands, zeros-stand, bit-is}
-use Rattle.record.proofs.OpeningLaws.{opening-back, openings-pass}
+use Rattle.record.proofs.OpeningLaws.{difference-back, opening-back, openings-pass}
 use Rattle.record.proofs.SoundLayout.{Sound, edition-sound, blocks-most}
 use Rattle.record.proofs.SlotImage.{Laid, slot-laid, event-laid}
-use Rattle.record.proofs.ImageLaws.{length-record, record-right, header-stands, openings-stand, slot-stands, header-rest, slot-empty, tail-empty, bytes-record}
+use Rattle.record.proofs.ImageLaws.{length-record, record-right, header-stands, terms-stand, openings-stand, slot-stands, header-rest, slot-empty, tail-empty, bytes-record}
 
 same-list : (l : List ℕ) → same l l ≡ true
 unfolding same
@@ -82,8 +82,12 @@ module _ (L : Layout) (ok : Sound L) (sites : ℕ) (h : History) (good : WellFor
 
   terms-back : SameTerms (h .terms) (termsIn L (recordBytes L sites h))
   terms-back = record {
+    difference =
+        split (L .terms)
+        (λ e. sym (ap (λ (b : Bool). cond b (little 4 s 8) 0) e ∙ difference-back (h .terms) s (terms-stand L ok h sites e) (good .terms .difference)))
+        (λ e. good .terms .even e ∙ sym (ap (λ (b : Bool). cond b (little 4 s 8) 0) e));
     opening = λ o.
-        split (L .openings)
+        split (L .terms)
         (λ e.
         sym (ap (λ (b : Bool). cond b (openingIn s 12 o) none) e
         ∙ opening-back (h .terms .opening) s 12 (good .terms .value) (openings-stand L ok h sites e) (good .terms .above) o))
@@ -93,12 +97,12 @@ module _ (L : Layout) (ok : Sound L) (sites : ℕ) (h : History) (good : WellFor
   terms-yes : termsRight L (recordBytes L sites h) ≡ true
   unfolding termsRight
   terms-yes =
-      let with : Bool = zeros 5 s 7 && (openingsRight s 12 && zeros 364 s 144) in
-      split (L .openings)
+      let with : Bool = zeros 1 s 7 && (openingsRight s 12 && zeros 364 s 144) in
+      split (L .terms)
       (λ e.
       ap (λ (b : Bool). cond b with (zeros 501 s 7)) e
-      ∙ (and-both (zeros 5 s 7) (openingsRight s 12 && zeros 364 s 144)
-      (zeros-stand 5 s 7 (λ j l. header-rest L ok h sites (7 + j) (omega arith) (omega arith) (λ o x y. omega arith)))
+      ∙ (and-both (zeros 1 s 7) (openingsRight s 12 && zeros 364 s 144)
+      (zeros-stand 1 s 7 (λ j l. header-rest L ok h sites (7 + j) (omega arith) (omega arith) (λ o x y. omega arith)))
       (and-both (openingsRight s 12) (zeros 364 s 144)
       (openings-pass (h .terms .opening) s 12 (good .terms .value) (openings-stand L ok h sites e))
       (zeros-stand 364 s 144 (λ j l. header-rest L ok h sites (144 + j) (omega arith) (omega arith) (λ o x y. omega arith))))))

@@ -13,10 +13,10 @@ use Rattle.record.specs.Blocks.{blockRight}
 use Rattle.record.specs.Terms.{Terms}
 use Rattle.record.specs.History.{History}
 use Rattle.record.specs.WellFormed.{WellFormed}
-use Rattle.record.specs.Encode.{littleBytes, slotBytes, blocksFor, headerBytes, openingBytes, withTerms, withSlots, unsealed, recordBytes}
+use Rattle.record.specs.Encode.{littleBytes, slotBytes, blocksFor, headerBytes, openingBytes, termsBytes, withTerms, withSlots, unsealed, recordBytes}
 use Rattle.record.proofs.StoresLaws.{Stands, Outside, getD-sets-outside, getD-sets-inside, zero-at, Bytes, bytes-nil, bytes-cons, bytes-append, bytes-zero, bytes-sets}
 use Rattle.record.proofs.NumberBytes.{length-little, bytes-little}
-use Rattle.record.proofs.OpeningLaws.{length-openings, bytes-openings}
+use Rattle.record.proofs.OpeningLaws.{length-terms-bytes, bytes-terms-bytes, openings-behind}
 use Rattle.record.proofs.SealLaws.{length-sealed, sealed-outside, sealed-right, bytes-sealed}
 use Rattle.record.proofs.SoundLayout.{Sound, slot-unchecked, slots-apart, tail-apart, slot-inside}
 use Rattle.record.proofs.SlotImage.{length-slot, bytes-slot}
@@ -26,22 +26,22 @@ use Rattle.record.proofs.SlotImage.{length-slot, bytes-slot}
 module _ (L : Layout) (t : Terms) (s : List ℕ) where
   length-terms : length (withTerms L t s) ≡ length s
   unfolding withTerms
-  length-terms = split (L .openings) (λ e. rw e (length-sets s 12 (openingBytes (t .opening)))) (λ e. rw e)
+  length-terms = split (L .terms) (λ e. rw e (length-sets s 8 (termsBytes t))) (λ e. rw e)
 
-  terms-outside : (p : ℕ) → (L .openings ≡ true → Outside p 12 132) → getD (withTerms L t s) p 0 ≡ getD s p 0
+  terms-outside : (p : ℕ) → (L .terms ≡ true → Outside p 8 136) → getD (withTerms L t s) p 0 ≡ getD s p 0
   unfolding withTerms
   terms-outside p out =
-      split (L .openings)
-      (λ e. rw e (getD-sets-outside (openingBytes (t .opening)) s 12 p (rw length-openings (out e))))
+      split (L .terms)
+      (λ e. rw e (getD-sets-outside (termsBytes t) s 8 p (rw length-terms-bytes (out e))))
       (λ e. rw e)
 
-  terms-inside : L .openings ≡ true → 144 ≤ length s → Stands (withTerms L t s) 12 (openingBytes (t .opening))
+  terms-inside : L .terms ≡ true → 144 ≤ length s → Stands (withTerms L t s) 8 (termsBytes t)
   unfolding withTerms
-  terms-inside e long = rw e (getD-sets-inside (openingBytes (t .opening)) s 12 (omega (arith, length-openings (t .opening))))
+  terms-inside e long = rw e (getD-sets-inside (termsBytes t) s 8 (omega (arith, length-terms-bytes t)))
 
   bytes-terms : Bytes s → Bytes (withTerms L t s)
   unfolding withTerms
-  bytes-terms b = split (L .openings) (λ e. rw e (bytes-sets (openingBytes (t .opening)) s 12 b (bytes-openings (t .opening)))) (λ e. rw e b)
+  bytes-terms b = split (L .terms) (λ e. rw e (bytes-sets (termsBytes t) s 8 b (bytes-terms-bytes t))) (λ e. rw e b)
 
 module _ (L : Layout) (ok : Sound L) (h : History) where
   pub slot-size : (e : ℕ) → length (slotBytes L h e) ≡ L .slot
@@ -140,13 +140,16 @@ module _ (L : Layout) (ok : Sound L) (h : History) where
         ∙ terms-outside L (h .terms) (sets blank 0 header) (0 + j) (λ o x y. omega (arith, length-header))
         ∙ getD-sets-inside header blank 0 (omega (arith, length-header, length-replicate {A = ℕ} (512 * blocksFor L n) 0)) j l
 
-    pub openings-stand : L .openings ≡ true → Stands (recordBytes L sites h) 12 (openingBytes (h .terms .opening))
-    openings-stand o j l =
-        begun-at (12 + j) (omega (arith, length-openings (h .terms .opening))) (λ e m x y. omega (arith, length-openings (h .terms .opening)))
+    pub terms-stand : L .terms ≡ true → Stands (recordBytes L sites h) 8 (termsBytes (h .terms))
+    terms-stand o j l =
+        begun-at (8 + j) (omega (arith, length-terms-bytes (h .terms))) (λ e m x y. omega (arith, length-terms-bytes (h .terms)))
         ∙ terms-inside L (h .terms) (sets blank 0 header) o (omega (arith, length-blank)) j l
 
-    -- nor of block 0's first seven, nor the openings'
-    pub zero-elsewhere : (p : ℕ) → 7 ≤ p → (L .openings ≡ true → Outside p 12 132) → p % 512 < 508
+    pub openings-stand : L .terms ≡ true → Stands (recordBytes L sites h) 12 (openingBytes (h .terms .opening))
+    openings-stand o = openings-behind (h .terms) (recordBytes L sites h) (terms-stand o)
+
+    -- nor of block 0's first seven, nor the terms'
+    pub zero-elsewhere : (p : ℕ) → 7 ≤ p → (L .terms ≡ true → Outside p 8 136) → p % 512 < 508
         → ((e : ℕ) → e < h .count → Outside p (slotAt L e) (L .slot)) → byte (recordBytes L sites h) p ≡ 0
     zero-elsewhere p past apart free out =
         begun-at p free out
@@ -161,7 +164,7 @@ module _ (L : Layout) (ok : Sound L) (h : History) where
         ∙ slots-inside n begun (λ d m. omega (arith, length-begun, slot-inside L ok n d m)) e l j q
 
     -- the bytes of block 0 behind the sites
-    pub header-rest : (p : ℕ) → 7 ≤ p → p < 508 → (L .openings ≡ true → Outside p 12 132) → byte (recordBytes L sites h) p ≡ 0
+    pub header-rest : (p : ℕ) → 7 ≤ p → p < 508 → (L .terms ≡ true → Outside p 8 136) → byte (recordBytes L sites h) p ≡ 0
     header-rest p past l apart = zero-elsewhere p past apart (omega arith) (λ e m x y. omega arith)
 
     pub slot-empty : (e j : ℕ) → h .count ≤ e → j < L .slot → byte (recordBytes L sites h) (slotAt L e + j) ≡ 0

@@ -1,4 +1,4 @@
--- Laws of openings: as bytes, read back, and read from block 0's words. Assumes nothing.
+-- Laws of openings, and of terms: as bytes, and read back. Assumes nothing.
 use mathlib.Core.Path.{_≡_, refl, sym, ap, ap₂, _∙_}
 use mathlib.Core.Bool.{Bool, true, false, not, cond, _&&_, _&&_, true≢false}
 use mathlib.Core.List.{List, _++_}
@@ -14,8 +14,8 @@ use Rattle.rows.specs.Octets.{little, hasByte}
 use Rattle.rows.proofs.Tests.{split, tell, never, and-both, and-left, and-right}
 use Rattle.rows.proofs.ByteLaws.{little-lt}
 use Rattle.rows.proofs.LowestLaws.{some-of, some-none, none-some}
-use Rattle.record.specs.Terms.{Held, none, value, isValue, valueOr0, openingIn, stray, openingsRight}
-use Rattle.record.specs.Encode.{littleBytes, setBytes, figureBytes, openingBytes}
+use Rattle.record.specs.Terms.{Held, none, value, isValue, valueOr0, Terms, openingIn, stray, openingsRight}
+use Rattle.record.specs.Encode.{littleBytes, setBytes, figureBytes, openingBytes, termsBytes}
 use Rattle.record.proofs.StoresLaws.{Stands, stands-front, stands-back, stands-append, Bytes, bytes-nil, bytes-append}
 use Rattle.record.proofs.NumberBytes.{length-little, bytes-little, little-stands, length-set-bytes, bytes-set-bytes, set-stands}
 use Rattle.record.proofs.WordBytes.{set-bytes-same, little-read, set-read}
@@ -59,6 +59,33 @@ pub bytes-openings : (f : ℕ → Held) → Bytes (openingBytes f)
 unfolding openingBytes
 bytes-openings f =
     bytes-append (setBytes 4 (λ o. isValue (f o))) (figureBytes 32 f) (bytes-set-bytes 4 (λ o. isValue (f o))) (bytes-figures 32 f)
+
+-- ---- behind the difference of clocks
+
+module _ (t : Terms) where
+  pub length-terms-bytes : length (termsBytes t) ≡ 136
+  unfolding termsBytes
+  length-terms-bytes =
+      omega (
+        arith,
+        length-append (littleBytes 4 (t .difference)) (openingBytes (t .opening)),
+        length-little 4 (t .difference),
+        length-openings (t .opening),
+      )
+
+  pub bytes-terms-bytes : Bytes (termsBytes t)
+  unfolding termsBytes
+  bytes-terms-bytes = bytes-append (littleBytes 4 (t .difference)) (openingBytes (t .opening)) (bytes-little 4 (t .difference)) (bytes-openings (t .opening))
+
+  module _ (s : List ℕ) (st : Stands s 8 (termsBytes t)) where
+    pub difference-back : t .difference < 2 ^ 32 → little 4 s 8 ≡ t .difference
+    unfolding termsBytes
+    difference-back small =
+        little-stands 4 (t .difference) s 8 (omega arith) (stands-front s 8 (littleBytes 4 (t .difference)) (openingBytes (t .opening)) st)
+
+    pub openings-behind : Stands s 12 (openingBytes (t .opening))
+    unfolding termsBytes
+    openings-behind = stands-back s 8 (littleBytes 4 (t .difference)) (openingBytes (t .opening)) 4 (length-little 4 (t .difference)) st
 
 -- ---- read back
 

@@ -90,11 +90,11 @@ module _ (L : Layout) (s : List ℕ) where
 -- block 0 behind the sites, by the record's edition
 pub terms-first : (s : List ℕ) → same (take 4 s) (gcr2 .letters) ≡ false → termsRight (editionOf s) s ≡ zeros 501 s 7
 unfolding termsRight
-terms-first s e = ap (λ (b : Bool). cond b (zeros 5 s 7 && (openingsRight s 12 && zeros 364 s 144)) (zeros 501 s 7)) e
+terms-first s e = ap (λ (b : Bool). cond b (zeros 1 s 7 && (openingsRight s 12 && zeros 364 s 144)) (zeros 501 s 7)) e
 
-pub terms-second : (s : List ℕ) → same (take 4 s) (gcr2 .letters) ≡ true → termsRight (editionOf s) s ≡ zeros 5 s 7 && (openingsRight s 12 && zeros 364 s 144)
+pub terms-second : (s : List ℕ) → same (take 4 s) (gcr2 .letters) ≡ true → termsRight (editionOf s) s ≡ zeros 1 s 7 && (openingsRight s 12 && zeros 364 s 144)
 unfolding termsRight
-terms-second s e = ap (λ (b : Bool). cond b (zeros 5 s 7 && (openingsRight s 12 && zeros 364 s 144)) (zeros 501 s 7)) e
+terms-second s e = ap (λ (b : Bool). cond b (zeros 1 s 7 && (openingsRight s 12 && zeros 364 s 144)) (zeros 501 s 7)) e
 
 -- ---- questions 3 to 8, from each on, with an answer `end` where all get a yes
 

@@ -25,16 +25,16 @@ pub record Sound (L : Layout) : Type 0 where
   pub counted : L .events < 256 ^ 2
   pub longest : 512 * blocksFor L (L .events) ≤ L .longest
 
-last-letter : (opens : Bool) → cond opens 50 49 < 256
+last-letter : (termed : Bool) → cond termed 50 49 < 256
 last-letter true = omega arith
 last-letter false = omega arith
 
-pub edition-sound : (opens : Bool) → Sound (edition opens)
-edition-sound opens = record {
+pub edition-sound : (termed : Bool) → Sound (edition termed)
+edition-sound termed = record {
   letters = refl;
-  letterBytes = bytes-cons 71 (67 ∷ 82 ∷ cond opens 50 49 ∷ []) (omega arith)
-      (bytes-cons 67 (82 ∷ cond opens 50 49 ∷ []) (omega arith)
-      (bytes-cons 82 (cond opens 50 49 ∷ []) (omega arith) (bytes-cons (cond opens 50 49) [] (last-letter opens) bytes-nil)));
+  letterBytes = bytes-cons 71 (67 ∷ 82 ∷ cond termed 50 49 ∷ []) (omega arith)
+      (bytes-cons 67 (82 ∷ cond termed 50 49 ∷ []) (omega arith)
+      (bytes-cons 82 (cond termed 50 49 ∷ []) (omega arith) (bytes-cons (cond termed 50 49) [] (last-letter termed) bytes-nil)));
   slot = refl;
   some = omega arith;
   room = omega arith;
@@ -45,7 +45,7 @@ edition-sound opens = record {
 
 -- a record's own edition
 pub sound-of : (s : List ℕ) → Sound (editionOf s)
-sound-of s = edition-sound (editionOf s .openings)
+sound-of s = edition-sound (editionOf s .terms)
 
 module _ (L : Layout) (ok : Sound L) where
   -- slots of one block, one after the other

@@ -1,7 +1,7 @@
 -- The events read from words are those of the record's bytes: four words hold a slot's first 32 bytes, the others its visible set. Assumes nothing.
 use mathlib.Core.Path.{_≡_, refl, sym, ap, ap₂, _∙_}
 use mathlib.Core.Bool.{true}
-use mathlib.Core.List.{List, _++_, append-assoc}
+use mathlib.Core.List.{List, [], _++_, append-assoc}
 use Prim.Native.Nat.{ℕ, _+_, _*_, _-_, _/_, _%_, _^_, _<_, _≤_}
 use native.Mathlib.Nat.{zero-add, add-mul-div-left, div-eq-of-lt, add-mul-mod-self-left, mod-eq-of-lt}
 use native.Mathlib.Omega.{arith}
@@ -20,9 +20,9 @@ use Rattle.record.specs.Layout.{Layout, editionOf, countIn, slotAt, zero
 use Rattle.record.specs.Terms.{none, termsIn, SameTerms, openingIn}
 use Rattle.record.specs.History.{historyOf, under, vis, Agree}
 use Rattle.record.specs.Questions.{termsRight}
-use Rattle.record.specs.Words.{slotWords, visibleWords, headWords, historyFrom, termsWords, figureIn, openingFrom, termsFrom}
+use Rattle.record.specs.Words.{slotWords, visibleWords, headWords, historyFrom, termsWords, differenceFrom, figureIn, openingFrom, termsFrom}
 use Rattle.record.proofs.StoresLaws.{Bytes}
-use Rattle.record.proofs.NumberBytes.{zeros-byte}
+use Rattle.record.proofs.NumberBytes.{zeros-byte, little-same}
 use Rattle.record.proofs.SlotWords.{row-slot-words, related-vis}
 
 -- ---- parts of a little-endian number
@@ -47,7 +47,15 @@ module _ (s : List ℕ) (bytes : Bytes s) where
   little-part : (j k i at : ℕ) → little (j + (k + i)) s at / 256 ^ j % 256 ^ k ≡ little k s (at + j)
   little-part j k i at = ap (λ (x : ℕ). x % 256 ^ k) (little-high j (k + i) at) ∙ little-low k i (at + j)
 
-  -- ---- openings
+  -- ---- the difference of clocks, and openings
+
+  words-difference : differenceFrom (termsWords s) ≡ little 4 s 8
+  unfolding termsWords
+  words-difference = ap (λ (x : ℕ). x % 4294967296) (getD-words 17 s 8 0 (omega arith)) ∙ little-low 4 4 8
+
+  zeros-even : zeros 501 s 7 ≡ true → little 4 s 8 ≡ 0
+  unfolding little
+  zeros-even z = little-same 4 s [] 8 (λ j l. let place : 8 + j ≡ 7 + (1 + j) = omega arith in rw place (zeros-byte 501 s 7 (1 + j) z (omega arith)))
 
   -- the word in which object o's value stands
   figure-word : (o : ℕ) → o < 32 → figureIn (words 17 s 8) o ≡ little 4 s (12 + 4 + 4 * o)
@@ -119,12 +127,16 @@ module _ (L : Layout) (s : List ℕ) (bytes : Bytes s) where
 
   -- ---- the terms
 
-  -- where the words say nothing of openings, the edition has none
+  -- where the words are zero, the edition has none
   terms-agree : termsRight L s ≡ true → SameTerms (termsIn L s) (termsFrom (termsWords s))
   unfolding termsRight
   terms-agree right = record {
+    difference =
+        split (L .terms)
+        (λ e. rw e (sym (words-difference s bytes)))
+        (λ e. rw e (sym (words-difference s bytes ∙ zeros-even s bytes (rw e at right))));
     opening = λ o.
-        split (L .openings)
+        split (L .terms)
         (λ e. rw e (sym (words-opening s bytes o)))
         (λ e. rw e (sym (words-opening s bytes o ∙ zeros-none s bytes o (rw e at right))));
   }

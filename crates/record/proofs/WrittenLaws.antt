@@ -10,10 +10,10 @@ use lib.Seq.{sets, sets-eq, ext-getD, drop-drop, take-length, length-take-le}
 use Rattle.record.specs.Layout.{Layout, gcr2, slotAt}
 use Rattle.record.specs.Terms.{Terms, openingIn, openingsRight}
 use Rattle.record.specs.History.{History}
-use Rattle.record.specs.Encode.{littleBytes, slotBytes, blocksFor, headerBytes, openingBytes, withTerms, withSlots, sealed, unsealed, recordBytes}
+use Rattle.record.specs.Encode.{littleBytes, slotBytes, blocksFor, headerBytes, openingBytes, termsBytes, withTerms, withSlots, sealed, unsealed, recordBytes}
 use Rattle.rows.proofs.Tests.{split}
 use Rattle.record.proofs.StoresLaws.{sets-then, sets-front, Bytes}
-use Rattle.record.proofs.OpeningLaws.{length-openings, openings-stand}
+use Rattle.record.proofs.OpeningLaws.{length-openings, length-terms-bytes, openings-stand}
 use Rattle.record.proofs.WordBytes.{little-then}
 use Rattle.record.proofs.SealLaws.{sealed-front}
 use Rattle.record.proofs.SoundLayout.{Sound, slot-inside}
@@ -38,10 +38,9 @@ openings-again openings bytes long right =
     sym (openings-stand openings bytes 0 right j l) ∙ ap (λ (p : ℕ). getD openings p 0) (sym here))
 
 -- the openings, copied over the 132 bytes from 12 on, which left d there
-pub openings-stored : (openings s d : List ℕ) → Bytes openings → length openings ≡ 132 → openingsRight openings 0 ≡ true → 144 ≤ length s
+openings-stored : (openings s d : List ℕ) → Bytes openings → length openings ≡ 132 → openingsRight openings 0 ≡ true → 144 ≤ length s
     → d ≡ take (length openings) openings ++ drop (length openings) (take 132 (drop 12 s))
-    → take 12 s ++ (d ++ drop 132 (drop 12 s)) ≡ withTerms gcr2 (record { opening = openingIn openings 0 }) s
-unfolding withTerms
+    → take 12 s ++ (d ++ drop 132 (drop 12 s)) ≡ sets s 12 (openingBytes (openingIn openings 0))
 openings-stored openings s d bytes long right room copied =
     let mid : List ℕ = take 132 (drop 12 s) in
     let end : 12 + length openings ≡ 144 = omega arith in
@@ -52,11 +51,20 @@ openings-stored openings s d bytes long right room copied =
     ∙ ap (λ (k : ℕ). take 12 s ++ (openings ++ drop k s)) end
     ∙ ap (λ (r : List ℕ). take 12 s ++ (openings ++ r)) (sym (drop-drop 132 12 s)) ∙ ap (λ (r : List ℕ). take 12 s ++ (r ++ drop 132 (drop 12 s))) (sym e))
 
+-- behind a difference, which was stored from 8 on
+pub terms-stored : (openings s s₁ d : List ℕ) (difference : ℕ) → Bytes openings → length openings ≡ 132 → openingsRight openings 0 ≡ true → 144 ≤ length s₁
+    → s₁ ≡ sets s 8 (littleBytes 4 difference) → d ≡ take (length openings) openings ++ drop (length openings) (take 132 (drop 12 s₁))
+    → take 12 s₁ ++ (d ++ drop 132 (drop 12 s₁)) ≡ withTerms gcr2 (record { difference = difference; opening = openingIn openings 0 }) s
+unfolding withTerms termsBytes
+terms-stored openings s s₁ d difference bytes long right room put copied =
+    little-then 4 difference (openingBytes (openingIn openings 0)) s s₁ (take 12 s₁ ++ (d ++ drop 132 (drop 12 s₁))) 8 12 put
+    (openings-stored openings s₁ d bytes long right room copied) refl
+
 terms-front : (L : Layout) (t : Terms) (p q : List ℕ) → 144 ≤ length p → withTerms L t (p ++ q) ≡ withTerms L t p ++ q
 unfolding withTerms
 terms-front L t p q long =
-    split (L .openings)
-    (λ e. rw e (sets-front (openingBytes (t .opening)) p q 12 (omega (arith, length-openings (t .opening)))))
+    split (L .terms)
+    (λ e. rw e (sets-front (termsBytes t) p q 8 (omega (arith, length-terms-bytes t))))
     (λ e. rw e)
 
 -- histories whose slots have the same bytes

@@ -56,9 +56,13 @@ figureBytes (suc k) f = littleBytes 4 (valueOr0 (f 0)) ++ figureBytes k (λ o. f
 unfoldable pub openingBytes : (ℕ → Held) → List ℕ
 openingBytes f = setBytes 4 (λ o. isValue (f o)) ++ figureBytes 32 f
 
--- the terms written to block 0, as far as the edition has them
+-- 136 bytes of terms: the difference and the openings
+unfoldable pub termsBytes : Terms → List ℕ
+termsBytes t = littleBytes 4 (t .difference) ++ openingBytes (t .opening)
+
+-- the terms written to block 0, where the edition has them
 unfoldable pub withTerms : Layout → Terms → List ℕ → List ℕ
-withTerms L t s = cond (L .openings) (sets s 12 (openingBytes (t .opening))) s
+withTerms L t s = cond (L .terms) (sets s 8 (termsBytes t)) s
 
 -- the first k slots written
 unfoldable pub withSlots : Layout → History → ℕ → List ℕ → List ℕ

@@ -19,12 +19,12 @@ pub record Layout : Type 0 where
   -- the most events, and the longest record in bytes
   pub events : ℕ
   pub longest : ℕ
-  -- whether block 0 has openings
-  pub openings : Bool
+  -- whether block 0 has terms: a difference of clocks, and openings
+  pub terms : Bool
 
--- the editions, which differ in their letters and in whether they have openings
+-- the editions, which differ in their letters and in whether they have terms
 abbrev pub edition : Bool → Layout
-edition opens = record { letters = 71 ∷ 67 ∷ 82 ∷ cond opens 50 49 ∷ []; slot = 64; perBlock = 7; row = 4; events = 256; longest = 19456; openings = opens }
+edition termed = record { letters = 71 ∷ 67 ∷ 82 ∷ cond termed 50 49 ∷ []; slot = 64; perBlock = 7; row = 4; events = 256; longest = 19456; terms = termed }
 
 -- `GCR1`, and `GCR2`
 abbrev pub gcr1 : Layout

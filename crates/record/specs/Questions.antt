@@ -43,9 +43,9 @@ placeOf (OnRing e) = e
 unfoldable pub lengthRight : Layout → List ℕ → Bool
 lengthRight L s = leb 512 (length s) && (leb (length s) (L .longest) && eqb (length s % 512) 0)
 
--- the bytes of block 0 behind the sites, up to its check: openings in 12 to 143 where the edition has them, and zeros
+-- the bytes of block 0 behind the sites, up to its check: where the edition has terms, any difference in 8 to 11 and openings in 12 to 143; and zeros
 unfoldable pub termsRight : Layout → List ℕ → Bool
-termsRight L s = cond (L .openings) (zeros 5 s 7 && (openingsRight s 12 && zeros 364 s 144)) (zeros 501 s 7)
+termsRight L s = cond (L .terms) (zeros 1 s 7 && (openingsRight s 12 && zeros 364 s 144)) (zeros 501 s 7)
 
 -- 5: block 0
 unfoldable pub headerRight : Layout → List ℕ → Bool

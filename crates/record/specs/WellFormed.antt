@@ -20,9 +20,11 @@ pub record WellFormedEvent (sites : ℕ) (h : History) (e : ℕ) : Type 0 where
   pub pending : h .isPending e ≡ true → h .return e ≡ 0
   pub returned : h .isPending e ≡ false → h .start e ≤ h .return e
 
--- openings only of objects 0 to 31, only in an edition that has them, and each of 32 bits
+-- a difference and openings only in an edition that has them, each of 32 bits, and openings only of objects 0 to 31
 pub record WellFormedTerms (L : Layout) (t : Terms) : Type 0 where
-  pub lacking : L .openings ≡ false → (o : ℕ) → t .opening o ≡ none
+  pub even : L .terms ≡ false → t .difference ≡ 0
+  pub difference : t .difference < 2 ^ 32
+  pub lacking : L .terms ≡ false → (o : ℕ) → t .opening o ≡ none
   pub above : (o : ℕ) → 32 ≤ o → t .opening o ≡ none
   pub value : (o : ℕ) → valueOr0 (t .opening o) < 2 ^ 32
 

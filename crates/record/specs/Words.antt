@@ -79,7 +79,11 @@ historyFrom n w l v = record {
 unfoldable pub termsWords : List ℕ → List ℕ
 termsWords s = words 17 s 8
 
--- its terms in them: object o has an opening where bit 32 + o is set, and the values stand two in a word behind that one, the even object's below
+-- its terms in them: the difference is the lower half of the first; object o has an opening where bit 32 + o is set, and the values stand two in a word
+-- behind that one, the even object's below
+abbrev pub differenceFrom : List ℕ → ℕ
+differenceFrom q = getD q 0 0 % 4294967296
+
 abbrev pub figureIn : List ℕ → ℕ → ℕ
 figureIn q o = cond (eqb (o % 2) 0) (getD q (1 + o / 2) 0 % 4294967296) (getD q (1 + o / 2) 0 / 4294967296)
 
@@ -87,4 +91,4 @@ unfoldable pub openingFrom : List ℕ → ℕ → Held
 openingFrom q o = cond (ltb o 32 && has q (32 + o)) (value (figureIn q o)) none
 
 abbrev pub termsFrom : List ℕ → Terms
-termsFrom q = record { opening = openingFrom q }
+termsFrom q = record { difference = differenceFrom q; opening = openingFrom q }

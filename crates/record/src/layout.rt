@@ -13,7 +13,7 @@ pub const GCR2: [u8; 4] = *b"GCR2";
 // Where the slot after the one at `at` starts, in every edition: behind it, or 128 bytes on where the next block starts there, as it does after a block's last slot.
 pub fn next_slot(at: usize) -> usize
     requires { ⌜ at + 128 < 2 ^ 64 ⌝ }
-    ensures { λ r. ⌜ ((opens : Bool) → r ≡ nextSlot (edition opens) at) ⌝ }
+    ensures { λ r. ⌜ ((termed : Bool) → r ≡ nextSlot (edition termed) at) ⌝ }
 {
     let block = at + 128;
     if block % 512 == 0 {

@@ -15,10 +15,10 @@ use Rattle.rows.proofs.CountLaws.{sum-same, many-same, many-past}
 use Rattle.record.specs.Layout.{gcr2, editionOf, byte}
 use Rattle.record.specs.Terms.{openingIn, openingsRight}
 use Rattle.record.specs.History.{History, under}
-use Rattle.record.specs.Encode.{blocksFor}
-use Rattle.record.proofs.StoresLaws.{Bytes}
+use Rattle.record.specs.Encode.{littleBytes, blocksFor, openingBytes, termsBytes, recordBytes}
+use Rattle.record.proofs.StoresLaws.{stands-front, zero-at, Bytes}
 use Rattle.record.proofs.SoundLayout.{edition-sound}
-use Rattle.record.proofs.ImageLaws.{length-record, openings-stand}
+use Rattle.record.proofs.ImageLaws.{length-record, terms-stand, openings-stand}
 use Rattle.record.proofs.OpeningLaws.{length-openings}
 use Rattle.record.proofs.WrittenLaws.{openings-again}
 use Rattle.record.proofs.EncodedPasses.{gcr2-back}
@@ -121,6 +121,14 @@ record-edition n openings script rec ans ok opens bytes =
     let right = accepted n openings script rec ans ok in
     gcr2-back n (under (termsOf openings) (recorded (storeAfter n openings script))) (script-formed n (right .least) (right .most) openings script opens bytes)
 
+-- says that clocks don't differ
+pub record-clocks : (n : ℕ) (openings script : List ℕ) (j : ℕ) → j < 4 → byte (recordOf n openings script) (8 + j) ≡ 0
+unfolding recordOf storeRecord termsBytes littleBytes
+record-clocks n openings script j l =
+    let h : History = under (termsOf openings) (recorded (storeAfter n openings script)) in
+    stands-front (recordBytes gcr2 n h) 8 (littleBytes 4 0) (openingBytes (openingIn openings 0)) (terms-stand gcr2 (edition-sound true) h n refl) j l
+    ∙ zero-at 4 j
+
 -- and has the openings as they were lent
 pub record-opened : (n : ℕ) (openings script rec ans : List ℕ) → rehearsalRefusal n openings script rec ans ≡ 0 → Bytes openings
     → (j : ℕ) → j < 132 → byte (recordOf n openings script) (12 + j) ≡ byte openings j
@@ -146,6 +154,7 @@ module _ (n : ℕ) (openings script rec ans : List ℕ) where
         answered = rw refused;
         copies = rw refused;
         edition = λ z. absurd (some z);
+        clocks = λ z j l. absurd (some z);
         opened = λ z j l. absurd (some z);
         causal = λ z. absurd (some z);
         closes = λ z before after e. absurd (some z);
@@ -215,6 +224,7 @@ module _ (n : ℕ) (openings script rec ans : List ℕ) where
           answered = rw yes answered;
           copies = rw yes counted;
           edition = λ z. record-edition n openings script rec ans ok opens bytes;
+          clocks = λ z. record-clocks n openings script;
           opened = λ z. record-opened n openings script rec ans ok opens;
           causal = λ z. third-demand n (right .least) n≤8 openings script opens bytes;
           closes = λ z before after e. every-close n n≤8 (termsOf openings) before;

@@ -60,7 +60,7 @@ pub fn write(n: u8, openings: &[u8], ran: Ran, rec: &mut [u8]) -> usize
     let blocks = 1 + (count + 6) / 7;
     writer::clear(rec, 512 * blocks);
     writer::header(rec, count, n);
-    writer::openings(rec, openings);
+    writer::terms(rec, 0, openings);
     put_slots(ran, rec);
     writer::seal(rec, blocks);
     512 * blocks

@@ -15,11 +15,12 @@ use Rattle.record.specs.Terms.{Held, none, value, isValue, valueOr0, Terms}
 use Rattle.record.specs.History.{History, under, vis}
 use Rattle.record.proofs.OpeningLaws.{held-again, none-zero}
 use Rattle.record.specs.WellFormed.{WellFormedEvent, WellFormedTerms, WellFormed}
-use Rattle.consistency.specs.Relations.{rb, ss, ob, so, ar, step, hb}
+use Rattle.consistency.specs.Relations.{ss, ob, so, ar, step, hb}
 use Rattle.consistency.specs.Reads.{candidate}
 use Rattle.consistency.specs.Predicates.{rule}
 use Rattle.consistency.specs.Holds.{Within, LastSeen, RightRead, sees-none, sees-last, RightReads, Obeys, Holds}
 use Rattle.consistency.specs.declared.Predicate.the-variants.{RVal, CausalVisibility, CausalArbitration}
+use Rattle.consistency.proofs.ClockLaws.{so-own}
 use Rattle.store.specs.Store.{Store, fresh}
 use Rattle.store.specs.Calls.{Call}
 use Rattle.store.specs.Rules.{run}
@@ -49,10 +50,11 @@ module _ (n : ℕ) (n≤8 : n ≤ 8) {T : Terms} (st : Store) (ok : StoreInv n T
 
   -- an event returns before a later one starts, so only a later event of its site follows it in so
   pub so-vis : Within (st .count) (so history) (vis history)
-  unfolding recorded vis so rb ss
+  unfolding recorded vis ss
   so-vis a b ha hb x =
-      let l = ltb-true (2 * a + 1) (2 * b) (and-left (ltb (2 * a + 1) (2 * b)) (eqb (st .event a .site) (st .event b .site)) x) in
-      let s = eqb-true (st .event a .site) (st .event b .site) (and-right (ltb (2 * a + 1) (2 * b)) (eqb (st .event a .site) (st .event b .site)) x) in
+      let y = sym (so-own history a b) ∙ x in
+      let l = ltb-true (2 * a + 1) (2 * b) (and-left (ltb (2 * a + 1) (2 * b)) (eqb (st .event a .site) (st .event b .site)) y) in
+      let s = eqb-true (st .event a .site) (st .event b .site) (and-right (ltb (2 * a + 1) (2 * b)) (eqb (st .event a .site) (st .event b .site)) y) in
       ok .events b hb .session a (omega arith) s
 
   pub vis-ar : Within (st .count) (vis history) (ar history)

@@ -22,7 +22,7 @@ pub record CausalRecord (s : List ℕ) : Type 0 where
   pub arbitration : Holds CausalArbitration (historyOf (editionOf s) s)
   pub rVal : Holds RVal (historyOf (editionOf s) s)
 
--- n sites, openings, a script, and the record and answer buffers, as lent and as left. The record is a `GCR2` and has the openings as they were lent. Each close in the script's list finds the store of the calls before it.
+-- n sites, openings, a script, and the record and answer buffers, as lent and as left. The record is a `GCR2`, says that clocks don't differ, and has the openings as they were lent. Each close in the script's list finds the store of the calls before it.
 -- The copies outstanding are told exactly, and add up with those that came, by the store's rules and by the answers as left
 pub record Rehearses (n : ℕ) (openings script rec ans rec′ ans′ : List ℕ) (r : Rehearsed) : Type 0 where
   pub number : r .number ≡ rehearsalRefusal n openings script rec ans
@@ -31,6 +31,7 @@ pub record Rehearses (n : ℕ) (openings script rec ans rec′ ans′ : List ℕ
   pub answered : ans′ ≡ answersAfter n openings script rec ans
   pub copies : r .outstanding ≡ outstandingAfter n openings script rec ans
   pub edition : r .number ≡ 0 → editionOf (recordOf n openings script) ≡ gcr2
+  pub clocks : r .number ≡ 0 → (j : ℕ) → j < 4 → byte (recordOf n openings script) (8 + j) ≡ 0
   pub opened : r .number ≡ 0 → (j : ℕ) → j < 132 → byte (recordOf n openings script) (12 + j) ≡ byte openings j
   pub causal : r .number ≡ 0 → CausalRecord (recordOf n openings script)
   pub closes : r .number ≡ 0 → (before after : List Call) → callsOf script ≡ before ++ (close ∷ after) → Closes n (run n (fresh (termsOf openings)) before)

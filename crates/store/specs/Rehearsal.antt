@@ -22,9 +22,9 @@ rehearsalRefusal n openings script rec ans =
     (ask (leb (length script) (length ans)) 23
     (ask (eqb (length openings) 132 && openingsRight openings 0) 40 0))))
 
--- the terms that a rehearsal starts from: its 132 bytes of openings
+-- the terms that a rehearsal starts from: one clock, and its 132 bytes of openings
 abbrev pub termsOf : List ℕ → Terms
-termsOf openings = record { opening = openingIn openings 0 }
+termsOf openings = record { difference = 0; opening = openingIn openings 0 }
 
 -- the store after a script, at n fresh sites
 unfoldable pub storeAfter : ℕ → List ℕ → List ℕ → Store

@@ -6,3 +6,4 @@ pub mod OrderOfTime
 pub mod PartLaws
 pub mod TakenLaws
 pub mod SweepLaws
+pub mod RealTimeLaws

@@ -7,7 +7,7 @@ use native.Mathlib.Nat.{mul-le-mul-right, add-sub-cancel-left, add-mul, mul-asso
 use native.Mathlib.Omega.{arith}
 use native.Mathlib.Decide.{decLt}
 use lib.ListN.{length, getD, take, drop, length-append, length-take, length-drop}
-use lib.Seq.{length-take-le, drop-at, getD-take, getD-drop, ext-getD, take-append-le, drop-append-le}
+use lib.Seq.{length-take-le, drop-at, drop-drop, getD-take, getD-drop, ext-getD, take-append-le, drop-append-le}
 use Rattle.rows.specs.Row.{rowAt, RowPut}
 use Rattle.rows.proofs.TableLaws.{row-room, length-row-le, getD-row, putRow, length-put, row-put-same, row-put-other}
 use Rattle.rows.proofs.SliceLaws.{sliceAt, slice-row, length-slice, giveBack}
@@ -57,6 +57,12 @@ front-given m t t' h e =
     let z : m - 0 ≡ m = omega arith in
     let size : length t' ≡ m = e ∙ ap (λ (k : ℕ). length (take k t)) z ∙ length-take-le m t h in
     rw z (size, omega (arith, size, length-append t' (drop m t), length-drop m t), drop-at t' (drop m t) m size)
+
+-- lists that are the same from j on are so from k on
+pub same-later : (j k : ℕ) (x y : List ℕ) → j ≤ k → drop j x ≡ drop j y → drop k x ≡ drop k y
+same-later j k x y h e =
+    let on : k ≡ j + (k - j) = omega arith in
+    ap (λ (i : ℕ). drop i x) on ∙ sym (drop-drop (k - j) j x) ∙ ap (drop (k - j)) e ∙ drop-drop (k - j) j y ∙ ap (λ (i : ℕ). drop i y) (sym on)
 
 -- a row of five tables lies within their slice
 pub five-room : (n w r m : ℕ) → r < 5 * n → m ≡ 5 * (n * w) → r * w + w ≤ m

@@ -58,11 +58,12 @@ pub fn header(s: &mut [u8], n: usize, sites: u8)
     s[6] = sites;
 }
 
-// The openings, which stand in block 0 as they are lent.
-pub fn openings(s: &mut [u8], openings: &[u8])
+// What block 0 says beside: the difference of clocks, and the openings, which stand there as they are lent.
+pub fn terms(s: &mut [u8], difference: u32, openings: &[u8])
     requires { ⌜ (512 ≤ length (now s)) × (length (now openings) ≡ 132) × (openingsRight (now openings) 0 ≡ true) ⌝ }
-    ensures { λ _. ⌜ now (s .exit) ≡ withTerms gcr2 (record { opening = openingIn (now (openings .entry)) 0 }) (now (s .entry)) ⌝ }
+    ensures { λ _. ⌜ now (s .exit) ≡ withTerms gcr2 (record { difference = difference; opening = openingIn (now (openings .entry)) 0 }) (now (s .entry)) ⌝ }
 {
+    put_u32(s, 8, difference);
     bytes::copy(openings, &mut s[12..144]);
 }
 

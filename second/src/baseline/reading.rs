@@ -113,13 +113,13 @@ fn all_zero(bytes: &[u8]) -> bool {
 
 fn header(record: &[u8]) -> Option<usize> {
     let n = u16::from_le_bytes([record[4], record[5]]) as usize;
-    let right = n <= 256 && matches!(record[6], 1..=8) && all_zero(&record[7..12]) && all_zero(&record[144..508]);
-    let openings = match &record[..4] {
-        b"GCR1" => all_zero(&record[12..144]),
+    let right = n <= 256 && matches!(record[6], 1..=8) && record[7] == 0 && all_zero(&record[144..508]);
+    let of_edition = match &record[..4] {
+        b"GCR1" => all_zero(&record[8..144]),
         b"GCR2" => !openings_at(record).has_value_under_clear_bit(),
         _ => false,
     };
-    (right && openings).then_some(n)
+    (right && of_edition).then_some(n)
 }
 
 #[inline]
@@ -133,6 +133,11 @@ pub fn openings(record: &[u8]) -> Openings {
         b'1' => NONE,
         _ => openings_at(record),
     }
+}
+
+/// Likewise; `GCR1` has zeros there.
+pub fn difference(record: &[u8]) -> u64 {
+    u32::from_le_bytes([record[8], record[9], record[10], record[11]]) as u64
 }
 
 fn wrong_slot(record: &[u8], n: usize) -> Option<usize> {

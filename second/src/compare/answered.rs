@@ -1,8 +1,8 @@
 //! The sorts of answers that an input can get, and counting those that it gets.
 
 use super::copies::{calls_answered, Copies};
-use super::opened;
 use super::tally::Tally;
+use super::{clocks, opened};
 use crate::models::{first_broken, Answers, MODELS};
 use crate::predicates::{Answer, PREDICATES};
 use crate::questions::Refusal;
@@ -58,10 +58,16 @@ pub fn reading(refusal: Option<Refusal>, tally: &mut Tally) {
 /// A reading of a record, with its edition.
 pub fn record(bytes: &[u8], refusal: Option<Refusal>, tally: &mut Tally) {
     reading(refusal, tally);
-    opened::edition(bytes, refusal, tally);
+    edition(bytes, refusal, tally);
 }
 
-/// A reading and what was found of the predicates, with what the record's reads hold.
+/// What block 0 of a record says, and what refused it.
+pub fn edition(bytes: &[u8], refusal: Option<Refusal>, tally: &mut Tally) {
+    opened::edition(bytes, refusal, tally);
+    clocks::read(bytes, refusal, tally);
+}
+
+/// A reading and what was found of the predicates, with what the record's reads hold and its difference makes.
 pub fn judged(bytes: &[u8], answers: &Answers, tally: &mut Tally) {
     record(bytes, answers.as_ref().err().copied(), tally);
     if let Ok(answers) = answers {
@@ -69,6 +75,7 @@ pub fn judged(bytes: &[u8], answers: &Answers, tally: &mut Tally) {
         let record = Record::from_bytes(bytes);
         opened::reads(&record, tally);
         opened::read_broken(&record, answers[0], tally);
+        clocks::judged(&record, answers, tally);
     }
 }
 
@@ -86,7 +93,8 @@ pub fn predicates(answers: &[Answer], tally: &mut Tally) {
     }
 }
 
-pub fn models(answers: &[Answer], tally: &mut Tally) {
+pub fn models(record: &Record, answers: &[Answer], tally: &mut Tally) {
+    clocks::models(record, answers, tally);
     for (model, list) in (1..).zip(MODELS) {
         let sort = first_broken(list, answers).map_or(MODEL_MET, |at| MODEL_BROKEN[at]);
         tally.occurred(sort, model);

@@ -1,9 +1,11 @@
 //! Holds another implementation against the second checker.
 
 pub mod answered;
+pub mod clocks;
 pub mod copies;
 #[cfg(feature = "linked")]
 pub mod linked;
+pub mod metamorphic;
 pub mod models;
 pub mod must_occur;
 pub mod occurrences;

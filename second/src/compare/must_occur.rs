@@ -1,18 +1,24 @@
 //! What each comparer must meet in a run: one list for each, of all the answers that its subject can give.
 
 use super::answered::*;
+use super::clocks::*;
 use super::occurrences::Row;
 use super::opened::*;
 
 /// The numbers of predicates, and of models.
 const THIRTEEN: &[u32] = &[1, 2, 3, 4, 5, 6, 7, 8, 9, 10, 11, 12, 13];
 
+/// The predicates that go by clocks.
+const REAL_TIME: &[u32] = &[3, 4];
+
 /// The questions of a record, and those that name a block, slot or event.
 const QUESTIONS: &[u32] = &[3, 4, 5, 6, 7, 8, 9, 10];
 const PLACED: &[u32] = &[4, 7, 8, 9, 10];
 
-/// The parts of block 0 that 5 asks about, by their first bytes. Byte 3 has the edition.
-const PARTS: &[u32] = &[0, 1, 2, 4, 6, 7, 8, 12, 144, 148];
+/// The parts of block 0 that 5 asks about, by their first bytes. Byte 3 has the edition. In `GCR2` any difference stands
+/// from byte 8 on.
+const PARTS_OF_GCR1: &[u32] = &[0, 1, 2, 4, 6, 7, 8, 12, 144, 148];
+const PARTS_OF_GCR2: &[u32] = &[0, 1, 2, 4, 6, 7, 12, 144, 148];
 
 /// Objects as they are told: any below 31, the last with an opening, the first without one, and the last.
 const OPENABLE: &[u32] = &[0, 31];
@@ -23,12 +29,14 @@ pub const EDITIONS: &[Row] = &[
     (GCR1, &[0, 3, 4, 5, 6, 7, 8, 9, 10]),
     (GCR2, &[0, 3, 4, 5, 6, 7, 8, 9, 10]),
     (NO_EDITION, &[3, 4, 5]),
-    (WRONG_IN_GCR1, PARTS),
-    (WRONG_IN_GCR2, PARTS),
+    (WRONG_IN_GCR1, PARTS_OF_GCR1),
+    (WRONG_IN_GCR2, PARTS_OF_GCR2),
     (WRONG_IN_NEITHER, &[3]),
     (NO_OPENINGS, &[0]),
     (SOME_OPENINGS, &[0]),
     (ALL_OPENINGS, &[0]),
+    (DIFFERENCE, &[0, 4, 5, 6, 7, 8, 9, 10]),
+    (DIFFERENCE_IN_GCR1, &[4, 5]),
 ];
 
 /// Of every record that is judged: what RVal meets.
@@ -47,6 +55,27 @@ pub const READS: &[Row] = &[
     (BREAK_AT_NONE, &[1]),
     (BREAK_AT_WRITE, &[1]),
 ];
+
+/// And what RealTime and RealTimeWrites meet.
+pub const CLOCKS: &[Row] = &[
+    (DIFFERENCES, &[0, 1, 2, u32::MAX]),
+    (OF_SITES, &[0, 1, 2, 3, 8]),
+    (MET_BY_IT, REAL_TIME),
+    (LARGE_MET_BY_IT, REAL_TIME),
+    (BROKEN_LATER, REAL_TIME),
+    (BROKEN_ALIKE, REAL_TIME),
+    (NO_DIFFERENCE, REAL_TIME),
+    (AT_DIFFERENCE, REAL_TIME),
+    (NOT_ONE_ABOVE, REAL_TIME),
+    (SUM_WRAPS, REAL_TIME),
+    (START_WRAPS, REAL_TIME),
+    (AT_ONE_SITE, REAL_TIME),
+    (NOT_AT_ONE_SITE, REAL_TIME),
+    (PENDING_AT_0, REAL_TIME),
+];
+
+/// The models that have one of these two in their lists.
+pub const MODEL_CLOCKS: &[Row] = &[(MODEL_MET_BY_IT, &[1, 2, 5])];
 
 /// The program lends its own work slice, and nobody gives it a number.
 pub const INSPECT: &[Row] = &[(PASSED, &[0]), (AT_PLACE_0, QUESTIONS), (ABOVE_PLACE_0, PLACED)];

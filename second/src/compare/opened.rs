@@ -80,6 +80,7 @@ fn is_right(bytes: &[u8], (from, to): (usize, usize)) -> bool {
         3 => matches!(bytes[3], b'1' | b'2'),
         4 => event_count(bytes) <= MOST_EVENTS,
         6 => (1..=MOST_SITES).contains(&(bytes[6] as usize)),
+        8 if bytes[3] != b'1' => true,
         12 if bytes[3] != b'1' => Openings::from_bytes(&bytes[from..to]).is_some(),
         _ => bytes[from..to].iter().all(|&byte| byte == 0),
     }

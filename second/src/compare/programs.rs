@@ -33,6 +33,7 @@ pub fn verdict(program: &Path, seeds: &Seeds, tally: &mut Tally) {
     tally.occurrences.must(must_occur::VERDICT);
     tally.occurrences.must(must_occur::EDITIONS);
     tally.occurrences.must(must_occur::READS);
+    tally.occurrences.must(must_occur::CLOCKS);
     records(program, verdict_due, seeds, tally);
 }
 
@@ -94,7 +95,7 @@ fn records(program: &Path, due: Due, seeds: &Seeds, tally: &mut Tally) {
     for sample in samples::records() {
         one(program, due, sample.name, &sample.bytes, tally);
     }
-    for (name, bytes) in sweeps::block_0_of_programs() {
+    for (name, bytes) in sweeps::block_0_of_programs().into_iter().chain(sweeps::clocks()) {
         one(program, due, name, &bytes, tally);
     }
     seeds.each(tally, |seed, tally| {

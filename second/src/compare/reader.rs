@@ -2,7 +2,7 @@
 
 use super::subject::Reader;
 use super::tally::{Case, Tally};
-use super::{answered, must_occur, opened, Seeds};
+use super::{answered, must_occur, Seeds};
 use crate::generate::random::Random;
 use crate::generate::{self, sweeps, Sample};
 use crate::models::refusal_in;
@@ -21,12 +21,12 @@ pub fn compare(subject: &dyn Reader, seeds: &Seeds, tally: &mut Tally) {
         let case = Case { name: format!("reader-{}", sample.name), input: &sample.bytes };
         one_record(subject, 0, &case, tally);
     }
-    for (name, bytes) in sweeps::block_0() {
+    for (name, bytes) in sweeps::block_0().into_iter().chain(sweeps::clocks()) {
         one_record(subject, 0, &Case { name: format!("reader-{name}"), input: &bytes }, tally);
     }
     seeds.each(tally, |seed, tally| {
         let Sample { family, bytes } = generate::record(seed);
-        opened::edition(&bytes, ask(&bytes).err(), tally);
+        answered::edition(&bytes, ask(&bytes).err(), tally);
         let case = Case { name: format!("reader-{seed}-{family}"), input: &bytes };
         one_record(subject, seed, &case, tally);
     });

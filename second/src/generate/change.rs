@@ -1,21 +1,22 @@
 //! One change to a record's events, to step over a predicate's edge.
 
+use super::clocks;
 use super::random::Random;
 use super::shapes::make_pending;
 use crate::openings::Openings;
 use crate::record::{Edition, Event, Kind, Record};
 
 pub fn one_field(random: &mut Random, record: &mut Record) {
-    match random.below(14) {
+    match random.below(17) {
         0..=2 => visible_bit(random, record),
         3..=4 => swap_positions(random, record),
         5..=6 => read_value(random, record),
         7..=8 => record.edition = changed_edition(random, record.edition),
+        9..=11 => record.edition = record.edition.apart(changed_difference(random, record)),
         _ => {
-            let (n, sites) = (record.events.len(), record.sites as u64);
-            let others: Vec<Event> = record.events.clone();
-            let event = &mut record.events[random.index(n)];
-            field(random, event, sites, &others);
+            let others = record.clone();
+            let event = &mut record.events[random.index(others.events.len())];
+            field(random, event, &others);
         }
     }
 }
@@ -45,10 +46,17 @@ fn read_value(random: &mut Random, record: &mut Record) {
 /// One opening more or less, or another figure; now and then the other edition.
 fn changed_edition(random: &mut Random, edition: Edition) -> Edition {
     match edition {
-        Edition::Gcr1 => Edition::Gcr2(changed_opening(random, Openings::none())),
-        Edition::Gcr2(_) if random.chance(20) => Edition::Gcr1,
-        Edition::Gcr2(openings) => Edition::Gcr2(changed_opening(random, openings)),
+        Edition::Gcr2 { .. } if random.chance(20) => Edition::Gcr1,
+        _ => edition.opened(changed_opening(random, edition.openings())),
     }
+}
+
+/// Mostly by one, which a record made to meet a predicate may just not bear.
+fn changed_difference(random: &mut Random, record: &Record) -> u32 {
+    let difference = record.edition.difference();
+    let other = clocks::difference(random, &record.events);
+    let less = difference.saturating_sub(1);
+    random.pick(&[less, less, less, difference.saturating_add(1), 0, other])
 }
 
 fn changed_opening(random: &mut Random, openings: Openings) -> Openings {
@@ -68,9 +76,9 @@ fn swap_positions(random: &mut Random, record: &mut Record) {
     record.events[b].position = at_a;
 }
 
-fn field(random: &mut Random, event: &mut Event, sites: u64, others: &[Event]) {
+fn field(random: &mut Random, event: &mut Event, others: &Record) {
     match random.below(8) {
-        0 => event.site = random.below(sites) as u8,
+        0 => event.site = random.below(others.sites as u64) as u8,
         1 => event.object = random.pick(&[0, 1, 2, 31, 32, 255]),
         2 => event.value = value(random, event),
         3 => turn_kind(event),
@@ -109,10 +117,14 @@ fn turn_state(event: &mut Event) {
     }
 }
 
-/// A time on, just before or just after some event's start or return.
-fn boundary(random: &mut Random, others: &[Event]) -> u64 {
-    let other = &others[random.index(others.len())];
-    let time = if random.chance(50) { other.start } else { other.end };
+/// A time on, just before or just after some event's start or return, or as far from it as clocks may differ.
+fn boundary(random: &mut Random, others: &Record) -> u64 {
+    let other = &others.events[random.index(others.events.len())];
+    let difference = random.pick(&[0, others.edition.difference() as u64]);
+    let time = match random.chance(50) {
+        true => other.start.saturating_sub(difference),
+        false => other.end.saturating_add(difference),
+    };
     random.pick(&[time, time.saturating_sub(1), time.saturating_add(1)])
 }
 

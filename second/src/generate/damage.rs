@@ -14,7 +14,7 @@ enum Damage {
 
 /// Those of late questions stand here more than once, as earlier damage hides theirs, and so does length, which may
 /// leave no letters.
-const DAMAGES: [Damage; 21] = [
+const DAMAGES: [Damage; 23] = [
     Length(length),
     Length(length),
     Bytes(block_check),
@@ -22,6 +22,8 @@ const DAMAGES: [Damage; 21] = [
     Bytes(swapped_blocks),
     Bytes(block_0),
     Bytes(letters),
+    Bytes(difference),
+    Bytes(difference),
     Bytes(header_numbers),
     Length(block_count),
     Bytes(slot_field),
@@ -134,6 +136,18 @@ fn letters(random: &mut Random, bytes: &mut [u8]) {
         _ => bytes[random.index(4)] ^= 1 << random.below(8),
     }
     if random.chance(70) {
+        seal(bytes);
+    }
+}
+
+/// Right in `GCR2` and wrong in `GCR1`; not always sealed.
+fn difference(random: &mut Random, bytes: &mut [u8]) {
+    if bytes.len() < BLOCK_BYTES {
+        return;
+    }
+    let difference = random.pick(&[1, 255, 1 << 8, 1 << 16, 1 << 24, u32::MAX]);
+    bytes[DIFFERENCE_AT].copy_from_slice(&difference.to_le_bytes());
+    if random.chance(50) {
         seal(bytes);
     }
 }

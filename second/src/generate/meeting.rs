@@ -1,16 +1,16 @@
 //! Records made to meet given predicates, with as little else as chance gives.
 
-use super::openings;
 use super::random::Random;
 use super::shapes::{hold_right_value, make_pending, site_count};
-use crate::record::{Event, Record, MOST_EVENTS};
+use super::{clocks, openings};
+use crate::record::{Edition, Event, Record, MOST_EVENTS};
 use crate::relations::returned_before;
 
 /// A record that meets each predicate of the list, which is a model's or lone.
 pub fn record(random: &mut Random, n: usize, predicates: &[u32]) -> Record {
     let sites = site_count(random);
     let mut record = Record::in_order(sites, events(random, n, sites));
-    record.edition = openings::edition(random);
+    record.edition = openings::edition(random, &record.events);
     sparse_visibility(random, &mut record);
     // The single orders stand first in a model's list and take away as well as
     // add, so they come last here.
@@ -20,10 +20,21 @@ pub fn record(random: &mut Random, n: usize, predicates: &[u32]) -> Record {
     for event in 0..n {
         hold_right_value(&mut record, event);
     }
+    move_clocks(random, &mut record);
     if random.chance(60) {
         record = renumbered(random, &record);
     }
     record
+}
+
+/// Neither moves one event of a site against another, nor puts an order between sites that was not there.
+fn move_clocks(random: &mut Random, record: &mut Record) {
+    if record.edition != Edition::Gcr1 && random.chance(70) {
+        clocks::set_apart(random, record);
+    }
+    if random.chance(20) {
+        clocks::move_to_the_end(record);
+    }
 }
 
 /// Starts never fall, so a return before a start always agrees with ar.
@@ -78,7 +89,7 @@ fn single_order(record: &mut Record, b: usize, c: usize) {
 
 fn inclusion(record: &mut Record, predicate: u32, b: usize, c: usize) {
     let (first, later) = (&record.events[b], &record.events[c]);
-    let so = first.site == later.site && returned_before(first, later);
+    let so = first.site == later.site && returned_before(0, first, later);
     let direct = match predicate {
         6 => so && first.is_write() && later.is_read(),
         9 | 10 => so,

@@ -1,14 +1,16 @@
 //! Editions and openings by chance.
 
+use super::clocks;
 use super::random::Random;
 use crate::openings::{value_at, Openings, OBJECTS};
-use crate::record::Edition;
+use crate::record::{Edition, Event};
 
-pub fn edition(random: &mut Random) -> Edition {
+/// For these events.
+pub fn edition(random: &mut Random, events: &[Event]) -> Edition {
     if random.chance(40) {
         Edition::Gcr1
     } else {
-        Edition::Gcr2(openings(random))
+        Edition::Gcr2 { difference: clocks::difference(random, events), openings: openings(random) }
     }
 }
 

@@ -29,10 +29,10 @@ pub fn record(random: &mut Random, n: usize) -> Record {
     record
 }
 
-/// Of `GCR1`, or of `GCR2` with openings that reads hold or should hold.
+/// Of `GCR1`, or of `GCR2` with openings that reads hold or should hold, and clocks that may differ.
 pub fn of_either_edition(random: &mut Random, n: usize) -> Record {
     let mut record = without_right_values(random, n, &BESIDE_OPENINGS);
-    record.edition = openings::edition(random);
+    record.edition = openings::edition(random, &record.events);
     values(random, &mut record, &BESIDE_OPENINGS, opening_or_none);
     record
 }
@@ -50,7 +50,7 @@ pub fn site_count(random: &mut Random) -> u8 {
     if random.chance(80) {
         random.pick(&[1, 2, 2, 3])
     } else {
-        1 + random.below(8) as u8
+        random.pick(&[4, 5, 6, 7, 8, 8, 8, 8])
     }
 }
 
@@ -68,7 +68,7 @@ fn event(random: &mut Random, sites: u8, drawn: &Drawn) -> Event {
 /// Start and length of each event; small ranges make ends meet starts.
 fn times(random: &mut Random, record: &mut Record) {
     let n = record.events.len() as u64;
-    let style = random.below(6);
+    let style = random.below(7);
     let pending = random.pick(&[0, 0, 15, 50]);
     for (k, event) in (0u64..).zip(record.events.iter_mut()) {
         let (start, end) = span(random, style, k, n);
@@ -87,6 +87,8 @@ fn span(random: &mut Random, style: u64, k: u64, n: u64) -> (u64, u64) {
         2 => from(3 * k, random.below(9)),
         3 => from(u64::MAX - random.below(4), random.below(3)),
         4 => from(random.below(3 * n + 1), random.below(n + 1)),
+        // Further apart than a difference reaches, or as far.
+        5 => from((random.below(4) << 31) + random.below(3), random.below(3)),
         _ => from(2 * (n - k), random.below(3)),
     }
 }

@@ -9,7 +9,9 @@ use crate::store::Call;
 pub type Named<T> = (String, T);
 
 /// Records with one bit turned in one byte of block 0, and letters of all sorts, sealed again. All have a read of each
-/// object that can have an opening and of two that cannot, so that every opening shows in predicate 1.
+/// object that can have an opening and of two that cannot, so that every opening shows in predicate 1. A write of
+/// another site returns one millisecond before them and stands behind them in arbitration: 3 and 4 are broken where the
+/// clocks do not differ, and met where they do.
 pub fn block_0() -> Vec<Named<Vec<u8>>> {
     let mut all = Vec::new();
     for (name, every_byte, record) in unwritten() {
@@ -51,7 +53,7 @@ const LETTERS: [&[u8; 4]; 14] = [
 /// and of the odd ones every object has one and has none, so that in these every byte is turned.
 fn unwritten() -> [(&'static str, bool, Record); 5] {
     [
-        ("gcr1", true, reads_of(Openings::none(), Edition::Gcr1)),
+        ("gcr1", true, unwritten_of(Edition::Gcr1)),
         ("gcr2-none", false, opened(|_| false)),
         ("gcr2-even", true, opened(|object| object % 2 == 0)),
         ("gcr2-odd", true, opened(|object| object % 2 == 1)),
@@ -60,8 +62,7 @@ fn unwritten() -> [(&'static str, bool, Record); 5] {
 }
 
 fn opened(has: impl Fn(usize) -> bool) -> Record {
-    let openings = figures(has);
-    reads_of(openings, Edition::Gcr2(openings))
+    unwritten_of(Edition::Gcr2 { difference: 0, openings: figures(has) })
 }
 
 /// Figures that differ in all their bytes, but for two objects that open with 0.
@@ -73,10 +74,38 @@ pub fn figures(has: impl Fn(usize) -> bool) -> Openings {
     Openings::from_figures(std::array::from_fn(|object| has(object).then(|| figure(object))))
 }
 
-fn reads_of(openings: Openings, edition: Edition) -> Record {
+fn unwritten_of(edition: Edition) -> Record {
     let objects = (0..OBJECTS).chain([32, 255]);
-    let reads = objects.map(|object| Event::read(0, object as u8, openings.of(object)));
-    Record { edition, ..Record::in_order(1, reads.collect()) }
+    let reads = objects.map(|object| Event::read(0, object as u8, edition.openings().of(object)).at(1, 1));
+    Record { edition, ..Record::in_order(2, reads.chain([Event::write(1, 0, 1)]).collect()) }
+}
+
+/// Two events against arbitration, the later one starting so long after the other's return: at two sites or at one,
+/// early and at the end of time, the first one pending or not. The differences have one bit each, none and all. Between
+/// sites 3 and 4 are broken only where the later one starts beyond the difference.
+pub fn clocks() -> Vec<Named<Vec<u8>>> {
+    let differences = (0..32).map(|bit| 1 << bit).chain([0, u32::MAX]);
+    differences.flat_map(of_difference).map(|(name, record)| (name, record.to_bytes())).collect()
+}
+
+fn of_difference(difference: u32) -> Vec<Named<Record>> {
+    let (within, beyond) = (difference as u64, difference as u64 + 1);
+    let pair = |sort: &str, a: Event, b: Event| {
+        let record = Record::in_order(2, vec![a, b]).with_positions(&[1, 0]).apart(difference);
+        (format!("clocks-{difference}-{sort}"), record)
+    };
+    let write = |site| Event::write(site, 0, 1);
+    let last = u64::MAX;
+    vec![
+        pair("within", write(0).at(0, 3), write(1).at(3 + within, last)),
+        pair("beyond", write(0).at(0, 3), write(1).at(3 + beyond, last)),
+        pair("one-site", write(1).at(0, 3), write(1).at(4, last)),
+        pair("pending", write(0).pending_from(0), write(1).at(beyond, last)),
+        pair("within-at-the-end", write(1).at(0, last - within), write(0).at(last, last)),
+        pair("beyond-at-the-end", write(1).at(0, last - beyond), write(0).at(last, last)),
+        pair("past-the-end", write(1).at(0, last), write(0).at(last, last)),
+        pair("before-the-beginning", write(1).at(0, 0), write(0).at(0, 0)),
+    ]
 }
 
 fn turned(bytes: &[u8], at: usize) -> Vec<u8> {

@@ -139,7 +139,11 @@ fn alone(text: String) -> Reason {
 
 fn returned(record: &Record, a: usize, b: usize, what: &str) -> Reason {
     let (end, start) = (record.events[a].end.unwrap_or_default(), record.events[b].start);
-    alone(format!(", though event {a}{what} returned at {end}, before event {b} started at {start}"))
+    let by = match record.skew(a, b) {
+        0 => String::new(),
+        skew => format!("more than {skew} ms "),
+    };
+    alone(format!(", though event {a}{what} returned at {end}, {by}before event {b} started at {start}"))
 }
 
 /// What speaks against the record's pair, or for a pair of an event with itself.

@@ -2,8 +2,9 @@
 
 use crate::event::Event;
 
-/// Only the order of times is kept, and that exactly: an event returned before another started where its mark and the
-/// line after it end left of the other's mark.
+/// Only the order of times is kept, and that exactly: an event's return is a lower number than another's start where its
+/// mark and the line after it end left of the other's mark. Between sites whose clocks may differ that is not enough to
+/// have returned before it.
 pub struct Columns {
     times: Vec<u64>,
     /// Where marks that start at this time begin, and where those that return at it end. The two differ only where a

@@ -35,6 +35,7 @@ impl Event {
         self.end.is_none()
     }
 
+    /// By one clock, so of two events of one site.
     pub fn returned_before(&self, later: &Event) -> bool {
         self.end.is_some_and(|end| end < later.start)
     }

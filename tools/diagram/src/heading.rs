@@ -81,5 +81,9 @@ impl Heading {
 fn title(told: &Told) -> String {
     let counted = |count: usize, word: &str| format!("{count} {word}{}", if count == 1 { "" } else { "s" });
     let (events, sites) = (counted(told.record.events.len(), "event"), counted(told.record.sites, "site"));
-    format!("{}: {events} at {sites}", told.name)
+    let clocks = match told.record.difference {
+        0 => String::new(),
+        difference => format!(", clocks may differ by {difference} ms"),
+    };
+    format!("{}: {events} at {sites}{clocks}", told.name)
 }

@@ -93,6 +93,14 @@ pub fn of_numbers(scale: &Scale, base: u64) -> String {
     format!("{number} Times are in ms{after}, in order but not to scale. Point at a mark for all of its event.")
 }
 
+/// What times tell where clocks may differ.
+pub fn of_clocks(difference: u32) -> String {
+    format!(
+        "Times are by each site's own clock. An event returned before one of another site started only where more than \
+         {difference} ms lie between its return and that start."
+    )
+}
+
 fn meaning(sign: Sign) -> &'static str {
     match sign {
         Sign::Write => "write",

@@ -118,6 +118,8 @@ impl Scene<'_> {
         let numbers = legend::of_numbers(&self.layout.scale, axis::base(self.across));
         // The sign stands in labels, which the smallest scale has none of.
         let has_opening = self.layout.scale.is_labelled && self.record.events.iter().any(|event| event.holds_opening);
-        [arrows, numbers].into_iter().chain(has_opening.then(|| legend::OPENING.to_string())).collect()
+        let opening = has_opening.then(|| legend::OPENING.to_string());
+        let clocks = (self.record.difference > 0).then(|| legend::of_clocks(self.record.difference));
+        [arrows, numbers].into_iter().chain(opening).chain(clocks).collect()
     }
 }

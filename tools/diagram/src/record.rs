@@ -13,6 +13,8 @@ pub struct Record {
     pub sites: usize,
     pub events: Vec<Event>,
     openings: Openings,
+    /// The milliseconds by which the sites' clocks may differ.
+    pub difference: u32,
     /// The visible sets as the library lays them out.
     visible: Vec<u64>,
 }
@@ -24,7 +26,8 @@ impl Record {
         let count = u16::from_le_bytes([bytes[4], bytes[5]]);
         let events = (0..count.into()).map(|number| Event::from_slot(slot(bytes, number))).collect();
         let openings = Openings::from_bytes(&bytes[OPENINGS]).expect("question 5 has asked for them");
-        let mut record = Record { sites: bytes[6].into(), events, openings, visible };
+        let difference = gcr::difference(bytes);
+        let mut record = Record { sites: bytes[6].into(), events, openings, difference, visible };
         for number in record.numbers() {
             record.events[number].holds_opening = record.holds_opening(number);
         }
@@ -58,6 +61,14 @@ impl Record {
     /// vis: a is visible to b.
     pub fn is_visible(&self, a: usize, b: usize) -> bool {
         gcr::is_visible(&self.visible, a as u16, b as u16)
+    }
+
+    /// By how much the clocks of these two events may differ: one site's clock not at all.
+    pub fn skew(&self, a: usize, b: usize) -> u32 {
+        match self.events[a].site == self.events[b].site {
+            true => 0,
+            false => self.difference,
+        }
     }
 
     /// so: a returned before b at the same site.

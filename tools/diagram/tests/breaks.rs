@@ -113,7 +113,17 @@ fn of_arbitration() -> Vec<Case> {
     let writes = one_site(vec![write(7, 0), write(8, 2)]).with_positions(&[1, 0]);
     let followed = seen_by_read(Event::write(1, 0, 8).at(4, 5)).with_positions(&[2, 1, 0]);
     let back = one_site(vec![read(0).sees(&[1]), write(7, 2)]);
+    // Between the sites, or at one of them, a write returned at 5 and a read started at 10.
+    let apart = |site: u8, difference| {
+        let events = vec![Event::write(0, 0, 7).at(0, 5), Event::read(site, 0, None).at(10, 11)];
+        Record::in_order(2, events).with_positions(&[1, 0]).apart(difference)
+    };
     vec![
+        (3, apart(1, 4), "event 1 is placed before event 0 in arbitration, though event 0 returned at 5, more than 4 ms before event 1 started at 10"),
+        (4, apart(1, 4), "event 1 is placed before event 0 in arbitration, though event 0, a write, returned at 5, more than 4 ms before event 1 started at 10"),
+        (3, apart(1, 0), "event 1 is placed before event 0 in arbitration, though event 0 returned at 5, before event 1 started at 10"),
+        (3, apart(0, 5), "event 1 is placed before event 0 in arbitration, though event 0 returned at 5, before event 1 started at 10"),
+        (4, records::shipped()[7].clone(), "event 1 is placed before event 0 in arbitration, though event 0, a write, returned at 110, more than 39 ms before event 1 started at 150"),
         (3, records::shipped()[0].clone(), "event 3 is placed before event 2 in arbitration, though event 2 returned at 5, before event 3 started at 6"),
         (4, writes.clone(), "event 1 is placed before event 0 in arbitration, though event 0, a write, returned at 1, before event 1 started at 2"),
         (7, writes.clone(), "event 1 is placed before event 0 in arbitration, though both are writes at site 0 and event 0 is the earlier"),

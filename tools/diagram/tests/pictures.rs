@@ -26,6 +26,8 @@ fn the_pictures_of_the_documents_are_what_the_program_draws() {
     assert!(drawn(&["--predicate", "3", &record("listing.gcr")], &[]) == kept);
     let kept = include_str!("../../../docs/pictures/opening.svg");
     assert!(drawn(&["--predicate", "1", &record("opening.gcr")], &[]) == kept);
+    let kept = include_str!("../../../docs/pictures/early-read.svg");
+    assert!(drawn(&["--predicate", "3", &record("early-read.gcr")], &[]) == kept);
 }
 
 #[test]

@@ -8,6 +8,7 @@ use Rattle.record.specs.Layout.{editionOf}
 use Rattle.record.specs.Words.{workAfter}
 use Rattle.judge.specs.Judgments.{judgedList, predicateJudgment}
 use Rattle.judge.proofs.MeansLaws.{exact-of}
+use Rattle.judge.proofs.ClocksJudged.{by-clocks}
 use Rattle.judge.proofs.JudgmentLaws.{judged-short, judged-low, judged-high, judged-list, one-list, one-number}
 use Rattle.judge.proofs.judge_predicate.Statement.{statement}
 use Rattle.judge.proofs.judge_predicate.Tie as tie
@@ -24,21 +25,21 @@ unfolding predicateJudgment workAfter
 returns c =
     let a = c .before .before .before in
     let q = judged-short (words a) (a .args .number) (bytes a) (a .args .number ∷ []) (c .if1 .taken) in
-    (q, (exact-of (editionOf (bytes a)) (words a) (a .args .number) (a .args .number ∷ []) (bytes a) q, refl))
+    (q, (exact-of (editionOf (bytes a)) (words a) (a .args .number) (a .args .number ∷ []) (bytes a) q, (by-clocks (words a) (a .args .number) (a .args .number ∷ []) (bytes a) q, refl)))
 
 returns-2 : tie.Need-returns-2
 unfolding predicateJudgment workAfter
 returns-2 c =
     let a = c .before .before .before .before in
     let q = judged-low (words a) (a .args .number) (bytes a) (a .args .number ∷ []) (c .before .if1 .left) (c .if2 .taken) in
-    (q, (exact-of (editionOf (bytes a)) (words a) (a .args .number) (a .args .number ∷ []) (bytes a) q, refl))
+    (q, (exact-of (editionOf (bytes a)) (words a) (a .args .number) (a .args .number ∷ []) (bytes a) q, (by-clocks (words a) (a .args .number) (a .args .number ∷ []) (bytes a) q, refl)))
 
 returns-3 : tie.Need-returns-3
 unfolding predicateJudgment workAfter
 returns-3 c =
     let a = c .before .before .before .before .before in
     let q = judged-high (words a) (a .args .number) (bytes a) (a .args .number ∷ []) (c .before .before .if1 .left) (c .if3 .taken) in
-    (q, (exact-of (editionOf (bytes a)) (words a) (a .args .number) (a .args .number ∷ []) (bytes a) q, refl))
+    (q, (exact-of (editionOf (bytes a)) (words a) (a .args .number) (a .args .number ∷ []) (bytes a) q, (by-clocks (words a) (a .args .number) (a .args .number ∷ []) (bytes a) q, refl)))
 
 cast-t8 : tie.Need-cast-t8
 cast-t8 c = search needs
@@ -61,7 +62,7 @@ returns-4 c =
     let q =
     l .judge-list .ensures .0 ∙ ap (judgedList (editionOf (bytes a)) (bytes a)) (one-list (a .args .number) (e .before .if2 .left))
     ∙ judged-list (words a) (a .args .number) (bytes a) (a .args .number ∷ []) (e .before .before .if1 .left) (e .before .if2 .left) (e .if3 .left) in
-    (q, (exact-of (editionOf (bytes a)) (words a) (a .args .number) (a .args .number ∷ []) (bytes a) q, l .judge-list .ensures .1))
+    (q, (exact-of (editionOf (bytes a)) (words a) (a .args .number) (a .args .number ∷ []) (bytes a) q, (by-clocks (words a) (a .args .number) (a .args .number ∷ []) (bytes a) q, l .judge-list .ensures .1)))
 
 pub judge-predicate-spec : {M : Type 1} → statement M
 judge-predicate-spec =

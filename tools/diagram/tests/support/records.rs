@@ -78,5 +78,8 @@ pub fn shipped() -> Vec<Record> {
     let empty = include_bytes!("../../../../records/empty-one-site.gcr");
     let opening = include_bytes!("../../../../records/opening.gcr");
     let stale_opening = include_bytes!("../../../../records/stale-opening.gcr");
-    [&listing[..], stale_read, stale_value, empty, opening, stale_opening].map(Record::from_bytes).to_vec()
+    let clocks = include_bytes!("../../../../records/clocks.gcr");
+    let early_read = include_bytes!("../../../../records/early-read.gcr");
+    let all = [&listing[..], stale_read, stale_value, empty, opening, stale_opening, clocks, early_read];
+    all.map(Record::from_bytes).to_vec()
 }

@@ -1,7 +1,7 @@
 //! Whether a sentence about a break is true of its record, read word by word.
 
 use second::record::Record;
-use second::relations::{returned_before, Relations};
+use second::relations::Relations;
 
 pub fn is_true(sentence: &str, record: &Record) -> bool {
     let facts = Facts { record, relations: Relations::of(record), subject: numbers(sentence)[0] };
@@ -92,10 +92,19 @@ impl Facts<'_> {
                 let is_write = |event: usize| events[event].is_write() && self.is_at(event, site);
                 is_write(a) && is_write(self.subject) && so.has(a, self.subject)
             }
-            ("event # returned at #, before event # started at #", numbers) => self.times(numbers),
-            ("event #, a write, returned at #, before event # started at #", numbers) => {
-                events[numbers[0]].is_write() && self.times(numbers)
+            ("event # returned at #, before event # started at #", &[a, end, b, start]) => {
+                self.times((a, end), (b, start), 0)
             }
+            ("event #, a write, returned at #, before event # started at #", &[a, end, b, start]) => {
+                events[a].is_write() && self.times((a, end), (b, start), 0)
+            }
+            ("event # returned at #, more than # ms before event # started at #", &[a, end, by, b, start]) => {
+                self.times((a, end), (b, start), by)
+            }
+            (
+                "event #, a write, returned at #, more than # ms before event # started at #",
+                &[a, end, by, b, start],
+            ) => events[a].is_write() && self.times((a, end), (b, start), by),
             (shape, numbers) if shape.starts_with("event # leads to event # by visibility and site order through") => {
                 self.leads(numbers)
             }
@@ -120,9 +129,11 @@ impl Facts<'_> {
         })
     }
 
-    fn times(&self, numbers: &[usize]) -> bool {
-        let (a, b) = (&self.record.events[numbers[0]], &self.record.events[numbers[2]]);
-        returned_before(a, b) && (a.end, b.start) == (numbers[1] as u64, numbers[3] as u64)
+    /// a's return, b's start, and by how much their clocks may differ.
+    fn times(&self, (a, end): (usize, usize), (b, start): (usize, usize), by: usize) -> bool {
+        let (first, second) = (&self.record.events[a], &self.record.events[b]);
+        let skew = if first.site == second.site { 0 } else { self.record.edition.difference() };
+        self.relations.rb.has(a, b) && (first.end, second.start) == (end as u64, start as u64) && skew as usize == by
     }
 
     /// `event 2 holds 7, not 8`: the value that the read has, and the one that its last visible write has, or where there

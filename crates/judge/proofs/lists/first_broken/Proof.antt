@@ -35,7 +35,7 @@ slice-aggregate-prepare-2 : tie.Need-slice-aggregate-prepare-2 Inv-loop μ-loop
 slice-aggregate-prepare-2 c = search needs
 
 prepare-requires : tie.Need-prepare-requires Inv-loop μ-loop
-prepare-requires c κs = let g = c .before .before .before .before .before .before .before .before .pre .0 in (g, c .before .before .before .fill .ensures .0, omega (arith, g .rows .wide))
+prepare-requires c κs = let p = c .before .before .before .before .before .before .before .before .pre in (p .0, c .before .before .before .fill .ensures .0, p .2, omega (arith, p .0 .rows .wide))
 
 loop-holds : tie.Need-loop-holds Inv-loop μ-loop
 loop-holds c = search needs

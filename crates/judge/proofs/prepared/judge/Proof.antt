@@ -5,6 +5,7 @@ use Prim.Native.Nat.{ℕ, _*_, _≤_}
 use native.Mathlib.Omega.{arith}
 use lib.ListN.{length}
 use Rattle.rows.specs.Row.{rowAt}
+use Rattle.record.specs.Terms.{Terms}
 use Rattle.record.specs.History.{History, under, vis}
 use Rattle.record.specs.Words.{historyFrom, isWriteIn, termsFrom}
 use Rattle.consistency.specs.Relations.{rb, ob, so, hb, read, both, through}
@@ -14,7 +15,7 @@ use Rattle.pairs.proofs.InclusionLaws.{every-whole}
 use Rattle.consistency.specs.declared.Predicate.{Predicate}
 use Rattle.consistency.specs.declared.Predicate.the-variants.{RVal, SingleOrder, RealTime, RealTimeWrites, MonotonicReads, ReadYourWrites, MonotonicWrites, WritesFollowReads, Pram, CausalVisibility, CausalArbitration, PerObjectPram, PerObjectSingleOrder}
 use Rattle.consistency.specs.declared.Verdict.{Verdict}
-use Rattle.consistency.proofs.TermsLaws.{NotRVal, verdict-under}
+use Rattle.consistency.proofs.SameVerdict.{SameFor, verdict-under}
 use Rattle.judge.proofs.PreparedLaws.{ars-lent, ar-judged, vis-judged}
 use borrow.Author.Needs.{needs}
 use Rattle.judge.proofs.prepared.judge.Statement.{statement}
@@ -27,12 +28,15 @@ history s = historyFrom (s .args .n) 4 (s .args .l .now) (s .args .v .now)
 abbrev judged : tie.Start → History
 judged s = under (termsFrom (s .args .terms .now)) (history s)
 
--- p is q, so q's verdict is p's; that of 2 to 13 goes by the events alone
+abbrev terms : tie.Start → Terms
+terms s = termsFrom (s .args .terms .now)
+
+-- p is q, so q's verdict is p's; that of 2 and 13 is found from the events alone
 as-is : (s : tie.Start) (q : Predicate) {r : Verdict} → s .args .p ≡ q → r ≡ verdict q (judged s) → r ≡ verdict (s .args .p) (judged s)
 as-is s q e f = f ∙ ap (λ (x : Predicate). verdict x (judged s)) (sym e)
 
-by-events : (s : tie.Start) (q : Predicate) {r : Verdict} → NotRVal q → s .args .p ≡ q → r ≡ verdict q (history s) → r ≡ verdict (s .args .p) (judged s)
-by-events s q other e f = as-is s q e (f ∙ sym (verdict-under (termsFrom (s .args .terms .now)) (history s) q other))
+by-events : (s : tie.Start) (q : Predicate) {r : Verdict} → SameFor q (terms s) (history s .terms) → s .args .p ≡ q → r ≡ verdict q (history s) → r ≡ verdict (s .args .p) (judged s)
+by-events s q other e f = as-is s q e (f ∙ sym (verdict-under (terms s) (history s) q other))
 
 -- the events of each kind
 abbrev writes : tie.Start → ℕ → Bool
@@ -76,7 +80,7 @@ part-wrong-values-end : tie.Need-part-wrong-values-end
 part-wrong-values-end c = search needs
 
 wrong-values-requires : tie.Need-wrong-values-requires
-wrong-values-requires c κs = let s = c .before .before .before .before .before .before .before .before in (s .pre .0, ars-lent (s .args .n) (s .args .l .now) (s .args .v .now) (s .args .groups .now) (s .args .t .now) (s .pre .1))
+wrong-values-requires c κs = let s = c .before .before .before .before .before .before .before .before in (s .pre .0, ars-lent (s .args .n) (s .args .l .now) (s .args .v .now) (s .args .groups .now) (s .args .t .now) (terms s) (s .pre .1))
 
 enum-told-2 : tie.Need-enum-told-2
 enum-told-2 c = search needs
@@ -94,7 +98,7 @@ part-first-misplaced-end : tie.Need-part-first-misplaced-end
 part-first-misplaced-end c = search needs
 
 first-misplaced-requires : tie.Need-first-misplaced-requires
-first-misplaced-requires c κs = let s = c .before .before .before .before .before .before .before .before in ((s .pre .0 .0, s .pre .0 .1), ars-lent (s .args .n) (s .args .l .now) (s .args .v .now) (s .args .groups .now) (s .args .t .now) (s .pre .1))
+first-misplaced-requires c κs = let s = c .before .before .before .before .before .before .before .before in ((s .pre .0 .0, s .pre .0 .1), ars-lent (s .args .n) (s .args .l .now) (s .args .v .now) (s .args .groups .now) (s .args .t .now) (terms s) (s .pre .1))
 
 enum-told-3 : tie.Need-enum-told-3
 enum-told-3 c = search needs
@@ -172,7 +176,7 @@ part-first-misplaced-end-2 : tie.Need-part-first-misplaced-end-2
 part-first-misplaced-end-2 c = search needs
 
 first-misplaced-requires-2 : tie.Need-first-misplaced-requires-2
-first-misplaced-requires-2 c κs = let s = c .before .before .before .before .before .before .before .before in ((s .pre .0 .0, s .pre .0 .1), ars-lent (s .args .n) (s .args .l .now) (s .args .v .now) (s .args .groups .now) (s .args .t .now) (s .pre .1))
+first-misplaced-requires-2 c κs = let s = c .before .before .before .before .before .before .before .before in ((s .pre .0 .0, s .pre .0 .1), ars-lent (s .args .n) (s .args .l .now) (s .args .v .now) (s .args .groups .now) (s .args .t .now) (terms s) (s .pre .1))
 
 returns : tie.Need-returns
 unfolding rule breaks verdict historyFrom
@@ -186,91 +190,91 @@ returns-3 : tie.Need-returns-3
 unfolding rule breaks verdict historyFrom
 returns-3 c =
     let s = c .before .before .before .before .before .before .before .before in
-    let h = history s in
+    let h = judged s in
     let w = s .pre .0 .1 in
-    by-events s RealTime tt (c .before .enum-told3 .given .1)
-    (c .within-ar .ensures ∙ ar-judged (s .args .n) (s .args .l .now) (s .args .v .now) (s .args .groups .now) (s .args .t .now) (s .pre .1) 0 258 258 (rb h) (every s) (every s) (s .pre .1 .timed .rbs) (w .every) (w .every))
+    as-is s RealTime (c .before .enum-told3 .given .1)
+    (c .within-ar .ensures ∙ ar-judged (s .args .n) (s .args .l .now) (s .args .v .now) (s .args .groups .now) (s .args .t .now) (terms s) (s .pre .1) 0 258 258 (rb h) (every s) (every s) (s .pre .1 .timed .rbs) (w .every) (w .every))
 
 returns-4 : tie.Need-returns-4
 unfolding rule breaks verdict historyFrom
 returns-4 c =
     let s = c .before .before .before .before .before .before .before .before in
-    let h = history s in
+    let h = judged s in
     let w = s .pre .0 .1 in
-    by-events s RealTimeWrites tt (c .before .enum-told4 .given .1)
-    (c .within-ar2 .ensures ∙ ar-judged (s .args .n) (s .args .l .now) (s .args .v .now) (s .args .groups .now) (s .args .t .now) (s .pre .1) 0 256 258 (rb h) (writes s) (every s) (s .pre .1 .timed .rbs) (w .writes) (w .every))
+    as-is s RealTimeWrites (c .before .enum-told4 .given .1)
+    (c .within-ar2 .ensures ∙ ar-judged (s .args .n) (s .args .l .now) (s .args .v .now) (s .args .groups .now) (s .args .t .now) (terms s) (s .pre .1) 0 256 258 (rb h) (writes s) (every s) (s .pre .1 .timed .rbs) (w .writes) (w .every))
 
 returns-5 : tie.Need-returns-5
 unfolding rule breaks verdict historyFrom
 returns-5 c =
     let s = c .before .before .before .before .before .before .before .before in
-    let h = history s in
+    let h = judged s in
     let w = s .pre .0 .1 in
-    by-events s MonotonicReads tt (c .before .enum-told5 .given .1)
-    (c .within-vis .ensures ∙ vis-judged (s .args .n) (s .args .l .now) (s .args .v .now) (s .args .groups .now) (s .args .t .now) (s .pre .1) 2 258 257 (through h (read h) (vis h) (so h)) (every s) (reads s) (s .pre .1 .timed .middles) (w .every) (w .reads) (s .pre .0 .0))
+    as-is s MonotonicReads (c .before .enum-told5 .given .1)
+    (c .within-vis .ensures ∙ vis-judged (s .args .n) (s .args .l .now) (s .args .v .now) (s .args .groups .now) (s .args .t .now) (terms s) (s .pre .1) 2 258 257 (through h (read h) (vis h) (so h)) (every s) (reads s) (s .pre .1 .timed .middles) (w .every) (w .reads) (s .pre .0 .0))
 
 returns-6 : tie.Need-returns-6
 unfolding rule breaks verdict historyFrom
 returns-6 c =
     let s = c .before .before .before .before .before .before .before .before in
-    let h = history s in
+    let h = judged s in
     let w = s .pre .0 .1 in
-    by-events s ReadYourWrites tt (c .before .enum-told6 .given .1)
-    (c .within-vis2 .ensures ∙ vis-judged (s .args .n) (s .args .l .now) (s .args .v .now) (s .args .groups .now) (s .args .t .now) (s .pre .1) 1 256 257 (so h) (writes s) (reads s) (s .pre .1 .timed .sos) (w .writes) (w .reads) (s .pre .0 .0))
+    as-is s ReadYourWrites (c .before .enum-told6 .given .1)
+    (c .within-vis2 .ensures ∙ vis-judged (s .args .n) (s .args .l .now) (s .args .v .now) (s .args .groups .now) (s .args .t .now) (terms s) (s .pre .1) 1 256 257 (so h) (writes s) (reads s) (s .pre .1 .timed .sos) (w .writes) (w .reads) (s .pre .0 .0))
 
 returns-7 : tie.Need-returns-7
 unfolding rule breaks verdict historyFrom
 returns-7 c =
     let s = c .before .before .before .before .before .before .before .before in
-    let h = history s in
+    let h = judged s in
     let w = s .pre .0 .1 in
-    by-events s MonotonicWrites tt (c .before .enum-told7 .given .1)
-    (c .within-ar3 .ensures ∙ ar-judged (s .args .n) (s .args .l .now) (s .args .v .now) (s .args .groups .now) (s .args .t .now) (s .pre .1) 1 256 256 (so h) (writes s) (writes s) (s .pre .1 .timed .sos) (w .writes) (w .writes))
+    as-is s MonotonicWrites (c .before .enum-told7 .given .1)
+    (c .within-ar3 .ensures ∙ ar-judged (s .args .n) (s .args .l .now) (s .args .v .now) (s .args .groups .now) (s .args .t .now) (terms s) (s .pre .1) 1 256 256 (so h) (writes s) (writes s) (s .pre .1 .timed .sos) (w .writes) (w .writes))
 
 returns-8 : tie.Need-returns-8
 unfolding rule breaks verdict historyFrom
 returns-8 c =
     let s = c .before .before .before .before .before .before .before .before in
-    let h = history s in
+    let h = judged s in
     let w = s .pre .0 .1 in
-    by-events s WritesFollowReads tt (c .before .enum-told8 .given .1)
-    (c .within-ar4 .ensures ∙ ar-judged (s .args .n) (s .args .l .now) (s .args .v .now) (s .args .groups .now) (s .args .t .now) (s .pre .1) 2 256 256 (through h (read h) (vis h) (so h)) (writes s) (writes s) (s .pre .1 .timed .middles) (w .writes) (w .writes))
+    as-is s WritesFollowReads (c .before .enum-told8 .given .1)
+    (c .within-ar4 .ensures ∙ ar-judged (s .args .n) (s .args .l .now) (s .args .v .now) (s .args .groups .now) (s .args .t .now) (terms s) (s .pre .1) 2 256 256 (through h (read h) (vis h) (so h)) (writes s) (writes s) (s .pre .1 .timed .middles) (w .writes) (w .writes))
 
 returns-9 : tie.Need-returns-9
 unfolding rule breaks verdict historyFrom
 returns-9 c =
     let s = c .before .before .before .before .before .before .before .before in
-    let h = history s in
+    let h = judged s in
     let w = s .pre .0 .1 in
-    by-events s Pram tt (c .before .enum-told9 .given .1)
-    (c .within-vis3 .ensures ∙ vis-judged (s .args .n) (s .args .l .now) (s .args .v .now) (s .args .groups .now) (s .args .t .now) (s .pre .1) 1 258 258 (so h) (every s) (every s) (s .pre .1 .timed .sos) (w .every) (w .every) (s .pre .0 .0))
+    as-is s Pram (c .before .enum-told9 .given .1)
+    (c .within-vis3 .ensures ∙ vis-judged (s .args .n) (s .args .l .now) (s .args .v .now) (s .args .groups .now) (s .args .t .now) (terms s) (s .pre .1) 1 258 258 (so h) (every s) (every s) (s .pre .1 .timed .sos) (w .every) (w .every) (s .pre .0 .0))
 
 returns-10 : tie.Need-returns-10
 unfolding rule breaks verdict historyFrom
 returns-10 c =
     let s = c .before .before .before .before .before .before .before .before in
-    let h = history s in
+    let h = judged s in
     let w = s .pre .0 .1 in
-    by-events s CausalVisibility tt (c .before .enum-told10 .given .1)
-    (c .within-vis4 .ensures ∙ vis-judged (s .args .n) (s .args .l .now) (s .args .v .now) (s .args .groups .now) (s .args .t .now) (s .pre .1) 4 258 258 (hb h) (every s) (every s) (s .pre .1 .hbs) (w .every) (w .every) (s .pre .0 .0))
+    as-is s CausalVisibility (c .before .enum-told10 .given .1)
+    (c .within-vis4 .ensures ∙ vis-judged (s .args .n) (s .args .l .now) (s .args .v .now) (s .args .groups .now) (s .args .t .now) (terms s) (s .pre .1) 4 258 258 (hb h) (every s) (every s) (s .pre .1 .hbs) (w .every) (w .every) (s .pre .0 .0))
 
 returns-11 : tie.Need-returns-11
 unfolding rule breaks verdict historyFrom
 returns-11 c =
     let s = c .before .before .before .before .before .before .before .before in
-    let h = history s in
+    let h = judged s in
     let w = s .pre .0 .1 in
-    by-events s CausalArbitration tt (c .before .enum-told11 .given .1)
-    (c .within-ar5 .ensures ∙ ar-judged (s .args .n) (s .args .l .now) (s .args .v .now) (s .args .groups .now) (s .args .t .now) (s .pre .1) 4 258 258 (hb h) (every s) (every s) (s .pre .1 .hbs) (w .every) (w .every))
+    as-is s CausalArbitration (c .before .enum-told11 .given .1)
+    (c .within-ar5 .ensures ∙ ar-judged (s .args .n) (s .args .l .now) (s .args .v .now) (s .args .groups .now) (s .args .t .now) (terms s) (s .pre .1) 4 258 258 (hb h) (every s) (every s) (s .pre .1 .hbs) (w .every) (w .every))
 
 returns-12 : tie.Need-returns-12
 unfolding rule breaks verdict historyFrom
 returns-12 c =
     let s = c .before .before .before .before .before .before .before .before in
-    let h = history s in
+    let h = judged s in
     let w = s .pre .0 .1 in
-    by-events s PerObjectPram tt (c .before .enum-told12 .given .1)
-    (c .within-vis5 .ensures ∙ vis-judged (s .args .n) (s .args .l .now) (s .args .v .now) (s .args .groups .now) (s .args .t .now) (s .pre .1) 3 258 258 (both (so h) (ob h)) (every s) (every s) (s .pre .1 .timed .objects) (w .every) (w .every) (s .pre .0 .0))
+    as-is s PerObjectPram (c .before .enum-told12 .given .1)
+    (c .within-vis5 .ensures ∙ vis-judged (s .args .n) (s .args .l .now) (s .args .v .now) (s .args .groups .now) (s .args .t .now) (terms s) (s .pre .1) 3 258 258 (both (so h) (ob h)) (every s) (every s) (s .pre .1 .timed .objects) (w .every) (w .every) (s .pre .0 .0))
 
 returns-13 : tie.Need-returns-13
 unfolding rule breaks verdict historyFrom

@@ -10,7 +10,7 @@ use Rattle.record.specs.History.{History, under}
 use Rattle.record.specs.Words.{historyFrom, termsFrom}
 use Rattle.consistency.specs.Reads.{wrongRead}
 use Rattle.pairs.proofs.EventLaws.{held-test}
-use Rattle.consistency.proofs.TermsLaws.{write-under}
+use Rattle.consistency.proofs.SameVerdict.{write-under}
 use Rattle.consistency.proofs.ReadLaws.{right-write, right-pending, wrong-held, reads-right, read-wrong}
 use Rattle.pairs.proofs.reads.wrong_values.Statement.{statement}
 use Rattle.pairs.proofs.reads.wrong_values.Tie as tie
@@ -66,8 +66,8 @@ returns c =
     let f = t .last-write in
     let d = c .before .before .is-held in
     read-wrong (history s) (l .e) (c .last-or .result) (f .result) (k .before .loop-test .taken) (l .inv .1)
-    (wrong-held (history s) (l .e) (i .result) (i .ensures) (p .result) (p .ensures) (u .before .if1 .taken) (f .result) (d .result) true (t .before .if2 .taken) (f .ensures .0 ∙ sym (write-under (termsFrom (s .args .terms .now)) (events s) (l .e))) (held-test (s .args .n) (s .args .w) (s .args .l .now) (s .args .v .now) (termsFrom (s .args .terms .now)) (l .e) (f .result) (d .result) (d .ensures)) (c .before .if3 .taken))
-    (f .ensures .0 ∙ sym (write-under (termsFrom (s .args .terms .now)) (events s) (l .e))) (c .last-or .ensures)
+    (wrong-held (history s) (l .e) (i .result) (i .ensures) (p .result) (p .ensures) (u .before .if1 .taken) (f .result) (d .result) true (t .before .if2 .taken) (f .ensures .0 ∙ sym (write-under (termsFrom (s .args .terms .now)) (events s) (l .e) (k .before .loop-test .taken))) (held-test (s .args .n) (s .args .w) (s .args .l .now) (s .args .v .now) (termsFrom (s .args .terms .now)) (l .e) (f .result) (d .result) (d .ensures)) (c .before .if3 .taken))
+    (f .ensures .0 ∙ sym (write-under (termsFrom (s .args .terms .now)) (events s) (l .e) (k .before .loop-test .taken))) (c .last-or .ensures)
 
 add-e : tie.Need-add-e Inv-loop μ-loop
 add-e c = search needs
@@ -88,7 +88,7 @@ loop-again c =
           let p = t .1 in
           let f = t .3 in
           let d = t .4 in
-          wrong-held (history s) (l .e) (i .result) (i .ensures) (p .result) (p .ensures) (t .0 .taken) (f .result) (d .result) false (t .2 .taken) (f .ensures .0 ∙ sym (write-under (termsFrom (s .args .terms .now)) (events s) (l .e))) (held-test (s .args .n) (s .args .w) (s .args .l .now) (s .args .v .now) (termsFrom (s .args .terms .now)) (l .e) (f .result) (d .result) (d .ensures)) (t .5 .left))
+          wrong-held (history s) (l .e) (i .result) (i .ensures) (p .result) (p .ensures) (t .0 .taken) (f .result) (d .result) false (t .2 .taken) (f .ensures .0 ∙ sym (write-under (termsFrom (s .args .terms .now)) (events s) (l .e) (k .loop-test .taken))) (held-test (s .args .n) (s .args .w) (s .args .l .now) (s .args .v .now) (termsFrom (s .args .terms .now)) (l .e) (f .result) (d .result) (d .ensures)) (t .5 .left))
           (λ o. ⊎-elim
           (λ t. right-pending (history s) (l .e) (i .result) (i .ensures) (t .1 .result) (t .1 .ensures) (t .0 .taken) (t .2 .left))
           (λ t. right-write (history s) (l .e) (i .result) (i .ensures) (t .left))

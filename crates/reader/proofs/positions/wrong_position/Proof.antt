@@ -82,7 +82,7 @@ loop-again c =
       searched-more (l .loop .inv .0) (p .before .loop-test .taken) (position-free h (l .loop .e) (p .u16-at .result) (l .loop .taken) (l .loop .inv .2) (read p) (omega arith) (sym (free .before .test .ensures) ∙ free .if2 .left)),
       search needs,
       taken-more h (l .loop .e) (p .u16-at .result) (l .loop .taken) (l .loop .inv .2) (read p) (c .before .before .set .last .0) (c .before .before .set .ensures) (search needs),
-      slot-step _ (sound-of (l .before .before .args .s .now)) (l .loop .e) (l .loop .at) _ (l .loop .inv .3) (c .next-slot .ensures (editionOf (l .before .before .args .s .now) .openings)),
+      slot-step _ (sound-of (l .before .before .args .s .now)) (l .loop .e) (l .loop .at) _ (l .loop .inv .3) (c .next-slot .ensures (editionOf (l .before .before .args .s .now) .terms)),
     )
 
 returns-3 : tie.Need-returns-3 Inv-loop μ-loop

@@ -164,7 +164,7 @@ loop-again c =
           (rw (l .loop .inv .3) at (sym (c .before .before .test .ensures) ∙ c .before .if2 .left))),
       omega (arith, k .before .before .before .before .before .before .table .given),
       rw add-sub-cancel-left (put d),
-      slot-step _ (sound-of (a .s .now)) e (l .loop .slot) _ (l .loop .inv .3) (c .next-slot .ensures (editionOf (a .s .now) .openings)),
+      slot-step _ (sound-of (a .s .now)) e (l .loop .slot) _ (l .loop .inv .3) (c .next-slot .ensures (editionOf (a .s .now) .terms)),
     )
 
 same-length-3 : tie.Need-same-length-3 Inv-loop μ-loop

@@ -45,7 +45,7 @@ loop-less c = search needs
 loop-again : tie.Need-loop-again Inv-loop μ-loop
 loop-again c =
     let l = c .before .before .before .before in
-    (searched-more (l .loop .inv .0) (c .before .before .before .loop-test .taken) (rw (c .before .before .slot-holds .ensures) at (c .before .if1 .left)), slot-step _ (sound-of (l .before .before .args .s .now)) (l .loop .e) (l .loop .at) _ (l .loop .inv .1) (c .next-slot .ensures (editionOf (l .before .before .args .s .now) .openings)))
+    (searched-more (l .loop .inv .0) (c .before .before .before .loop-test .taken) (rw (c .before .before .slot-holds .ensures) at (c .before .if1 .left)), slot-step _ (sound-of (l .before .before .args .s .now)) (l .loop .e) (l .loop .at) _ (l .loop .inv .1) (c .next-slot .ensures (editionOf (l .before .before .args .s .now) .terms)))
 
 returns-2 : tie.Need-returns-2 Inv-loop μ-loop
 returns-2 c = searched-end (c .before .loop .inv .0) (c .loop-test .left)

@@ -72,7 +72,7 @@ loop-again c =
       search needs,
       rw add-sub-cancel-left (slot-words-put (editionOf (a .s .now)) (a .off) (a .w) (a .s .now) (l .e) (a .out .now) (l .out) (c .before .before .before .load .last .0) (l .inv .2)
           (c .before .before .before .load .ensures ∙ ap₂ (λ k p. words k (a .s .now) (p + a .off)) (rw add-sub-cancel-left (length-row (l .out) (a .w) (l .e) (room i))) (l .inv .3))),
-      slot-step _ (sound-of (a .s .now)) (l .e) (l .slot) _ (l .inv .3) (c .next-slot .ensures (editionOf (a .s .now) .openings)),
+      slot-step _ (sound-of (a .s .now)) (l .e) (l .slot) _ (l .inv .3) (c .next-slot .ensures (editionOf (a .s .now) .terms)),
     )
 
 same-length : tie.Need-same-length Inv-loop μ-loop

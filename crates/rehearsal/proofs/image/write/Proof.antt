@@ -23,13 +23,13 @@ clear-requires c κs = search needs
 header-requires : tie.Need-header-requires
 header-requires c κs = search needs
 
-openings-requires : tie.Need-openings-requires
-openings-requires c κs = search needs
+terms-requires : tie.Need-terms-requires
+terms-requires c κs = search needs
 
 put-slots-requires : tie.Need-put-slots-requires
 put-slots-requires c κs =
-    let openings = c .before .before .before in
-    let header = openings .before .before .before .before in
+    let terms = c .before .before .before in
+    let header = terms .before .before .before .before in
     let clear = header .before .before .before .before in
     let start = clear .before .before .before .before in
     (start .pre .1 .0, (start .pre .1 .1 .0, omega arith))
@@ -47,13 +47,13 @@ returns : tie.Need-returns
 returns c =
     let seal = c .before .before in
     let slots = seal .before .before .before .before in
-    let openings = slots .before .before .before .before in
-    let header = openings .before .before .before .before in
+    let terms = slots .before .before .before .before in
+    let header = terms .before .before .before .before in
     let clear = header .before .before .before .before in
     let g = clear .before .before .before .before .args in (
       refl,
       image-written (g .n) (termsOf (g .openings .now)) (ranStore (g .ran)) _ (g .rec .now) _ _ _ _ _ refl (clear .clear .ensures) (header .header .ensures)
-          (openings .openings .ensures) (slots .put-slots .ensures) (seal .seal .ensures),
+          (terms .terms .ensures) (slots .put-slots .ensures) (seal .seal .ensures),
     )
 
 pub write-spec : {M : Type 1} → statement M
@@ -65,7 +65,7 @@ write-spec =
     mul-clear
     clear-requires
     header-requires
-    openings-requires
+    terms-requires
     put-slots-requires
     seal-requires
     mul-result

@@ -1,0 +1,78 @@
+//! By how much the clocks of a record's sites may differ.
+
+use std::ops::Range;
+
+const GCR2: &[u8] = b"GCR2";
+const DIFFERENCE: Range<usize> = 8..12;
+/// Block 0, and what of it its check is made of.
+const BLOCK: usize = 512;
+const CHECKED: usize = 508;
+
+/// The milliseconds by which the clocks of two sites may differ, of a record that passed its questions. In edition
+/// `GCR1`, which has none, it is 0.
+///
+/// [`Predicate::RealTime`](crate::Predicate::RealTime) and
+/// [`Predicate::RealTimeWrites`](crate::Predicate::RealTimeWrites) are judged by it: between different sites an event
+/// returned before another started where return + difference < start, and the sum does not wrap. At one site it is
+/// return < start. No other predicate goes by it. What a rehearsal leaves has 0.
+///
+/// ```
+/// # use gcr::{rehearse, Openings, RECORD_MOST};
+/// # let mut record = [0; RECORD_MOST];
+/// # let length = rehearse(2, &Openings::none(), &[], &mut record, &mut [])?.length;
+/// # let record = &record[..length];
+/// assert_eq!(gcr::difference(record), 0);
+/// # Ok::<(), gcr::Refusal>(())
+/// ```
+pub fn difference(record: &[u8]) -> u32 {
+    match record.get(DIFFERENCE) {
+        Some(&[a, b, c, d]) if record.starts_with(GCR2) => u32::from_le_bytes([a, b, c, d]),
+        _ => 0,
+    }
+}
+
+/// The same record with another difference. `None` of a record that is not of edition `GCR2`: no other has one.
+///
+/// Block 0's check is made anew, so ask the record's questions before.
+///
+/// Here a put of site 1 comes one millisecond after one of site 0, and before it in arbitration. By clocks that may
+/// differ by a millisecond that is right:
+///
+/// ```
+/// use gcr::{judge_predicate, with_difference, Predicate, Verdict};
+/// # use gcr::{rehearse, script, Call, Openings, RECORD_MOST};
+/// # let put = |site| Call::Put { site, object: 5, value: 7 };
+/// # let script = script(&[put(0), put(0), put(1)]);
+/// # let mut record = [0; RECORD_MOST];
+/// # let length = rehearse(2, &Openings::none(), &script, &mut record, &mut [0; 24])?.length;
+/// # let record = &record[..length];
+///
+/// let judged = |difference| {
+///     let record = with_difference(record, difference).expect("a rehearsal writes GCR2");
+///     judge_predicate(Predicate::RealTime, &record)
+/// };
+/// assert_eq!(judged(0)?, Verdict::Broken { a: 1, b: 2 });
+/// assert_eq!(judged(1)?, Verdict::Met);
+/// # Ok::<(), gcr::Refusal>(())
+/// ```
+pub fn with_difference(record: &[u8], difference: u32) -> Option<Vec<u8>> {
+    if !record.starts_with(GCR2) || record.len() < BLOCK {
+        return None;
+    }
+    let mut record = record.to_vec();
+    record[DIFFERENCE].copy_from_slice(&difference.to_le_bytes());
+    let (a, b) = check(&record[..CHECKED]);
+    record[CHECKED..CHECKED + 2].copy_from_slice(&a.to_le_bytes());
+    record[CHECKED + 2..BLOCK].copy_from_slice(&b.to_le_bytes());
+    Some(record)
+}
+
+/// A and B of block 0.
+fn check(words: &[u8]) -> (u16, u16) {
+    let (mut a, mut b) = (1, 0);
+    for word in words.chunks_exact(2) {
+        a = (a + u32::from(word[0]) + 256 * u32::from(word[1])) % 65521;
+        b = (b + a) % 65521;
+    }
+    (a as u16, b as u16)
+}

@@ -1,0 +1,183 @@
+-- Laws of rb's table: to each row are joined those that returned before the event's start less the difference. Assumes nothing.
+use mathlib.Core.Path.{_≡_, refl, sym, ap, ap₂, _∙_, subst}
+use mathlib.Core.Bool.{Bool, true, false, _&&_, _||_, and-false}
+use mathlib.Core.List.{List, _++_}
+use Prim.Native.Nat.{ℕ, _+_, _-_, _*_, _≤_, _<_}
+use native.Mathlib.Nat.{add-mul}
+use native.Mathlib.Omega.{arith}
+use native.Mathlib.Decide.{ℕ-discrete, decLt}
+use borrow.Author.Tests.{eq-eqb, ne-eqb, le-ltb}
+use lib.Dec.{eqb, ltb}
+use lib.ListN.{length, getD, take, drop, replicate, length-replicate}
+use lib.Seq.{take-at, drop-at, drop-drop}
+use Rattle.rows.specs.Row.{has, orRow, rowAt, Row, RowPut}
+use Rattle.rows.specs.Relation.{Rel, Table}
+use Rattle.rows.proofs.LowestLaws.{some-of}
+use Rattle.rows.proofs.RowLaws.{has-past, row-empty, row-or, row-same}
+use Rattle.rows.proofs.TableLaws.{row-room, length-row, length-row-le, has-row}
+use Rattle.record.specs.Terms.{Terms}
+use Rattle.record.specs.History.{History, under, vis}
+use Rattle.record.specs.Words.{startIn, returnIn, historyFrom}
+use Rattle.consistency.specs.Relations.{ob, rb, so, step, read, both, through}
+use Rattle.consistency.proofs.ClockLaws.{rb-far}
+use Rattle.tables.specs.Tables.{part}
+use Rattle.tables.specs.Sweep.{InOrder, taken, ReturnedBefore, returnedIn, OwnTimes, Sweeps}
+use Rattle.tables.proofs.PartLaws.{front-given, same-later}
+use Rattle.tables.proofs.SweepLaws.{own-front}
+use Rattle.tables.proofs.TakenLaws.{taken-none, taken-more, taken-returned}
+
+-- a row of n events is in its first w words
+row-front : (n w : ℕ) (f : ℕ → Bool) (far : List ℕ) → n ≤ 64 * w → Row n f far → Row n f (rowAt far w 0)
+row-front n w f far wide r x = elim (decLt x (64 * w)) [
+  | yes h ↦ let here : 64 * (0 * w) + x ≡ x = omega arith in has-row far w 0 x h ∙ ap (has far) here ∙ r x
+  | no h ↦ has-past (rowAt far w 0) x (omega (arith, length-row-le far w 0)) ∙ sym (ap (λ (t : Bool). t && f x) (le-ltb x n (omega arith)))
+]
+
+module _ (l : List ℕ) (n w d : ℕ) (starts returns : List ℕ) where
+  -- a returned before b's start less the difference
+  abbrev farBefore : Rel
+  farBefore a b = returnedIn l a (startIn l b - d)
+
+  -- the rows of the first i starts are joined, and the first k returns are in the row `far`
+  pub record Joining (t₀ : List ℕ) (k i : ℕ) (far t : List ℕ) : Type 0 where
+    pub passed : i ≤ length starts
+    pub within : k ≤ length returns
+    pub early : (j e : ℕ) → j < k → i ≤ e → e < length starts → returnIn l (getD returns j 0) < startIn l (getD starts e 0) - d
+    pub held : Row n (taken returns k) far
+    pub wide : length far ≡ 8
+    pub size : length t ≡ length t₀
+    pub rows : (q : Rel) → Table n w q t₀ → (b : ℕ) → b < n → Row n (λ a. (taken starts i b && farBefore a b) || q a b) (rowAt t w b)
+
+  module _ (by-start : InOrder l n false starts (length starts)) (by-return : InOrder l n true returns (length returns)) (t₀ : List ℕ) where
+    pub joining-none : Joining t₀ 0 0 (replicate 8 0) t₀
+    joining-none = record {
+      passed = omega arith;
+      within = omega arith;
+      early = λ j e h. absurd (omega arith);
+      held = row-same n (λ x. false) (replicate 8 0) (row-empty n 8) (taken returns 0) (λ x h. sym (taken-none returns x));
+      wide = length-replicate {A = ℕ} 8 0;
+      size = refl;
+      rows = λ q g b h. row-same n (λ a. q a b) (rowAt t₀ w b) (g b h) (λ a. (taken starts 0 b && farBefore a b) || q a b)
+          (λ a i. ap (λ (t : Bool). (t && farBefore a b) || q a b) (sym (taken-none starts b)));
+    }
+
+    module _ (k i : ℕ) (far t : List ℕ) (s : Joining t₀ k i far t) where
+      -- every return in the row so far is before the next start less the difference
+      pub joining-early : i < length starts → (x : ℕ) → x ≡ startIn l (getD starts i 0) - d → (j : ℕ) → j < k → returnIn l (getD returns j 0) < x
+      joining-early h x e j b = rw e (s .early j i b (omega arith) h)
+
+      pub joining-more : n ≤ 64 * w → w ≤ 8 → length t₀ ≡ n * w → i < length starts → (x k′ : ℕ) (far′ t′ : List ℕ) → x ≡ startIn l (getD starts i 0) - d
+          → ReturnedBefore l returns (length returns) x k′ → Row n (taken returns k′) far′ → length far′ ≡ length far
+          → RowPut w (getD starts i 0) (orRow (rowAt t w (getD starts i 0)) (rowAt far′ w 0)) t t′
+          → Joining t₀ k′ (i + 1) far′ t′
+      joining-more many narrow full h x k′ far′ t′ e b u same put = record {
+        passed = omega arith;
+        within = b .within;
+        early = λ j f p q g. omega (arith, b .passed j p, by-start .rising i f (omega arith) g);
+        held = u;
+        wide = same ∙ s .wide;
+        size = put .size ∙ s .size;
+        rows = rows;
+      }
+        where
+          c : ℕ
+          c = getD starts i 0
+
+          low : c < n
+          low = by-start .events i h .0
+
+          -- the row that is joined
+          joined : Row n (λ a. farBefore a c) (rowAt far′ w 0)
+          joined =
+              row-front n w (λ a. farBefore a c) far′ many
+              (row-same n (taken returns k′) far′ u (λ a. farBefore a c) (taken-returned l n returns (length returns) k′ (startIn l c - d) by-return (rw e at b)))
+
+          here-taken : taken starts (i + 1) c ≡ true
+          here-taken = some-of (i + 1) (λ j. eqb (getD starts j 0) c) i (omega arith) (eq-eqb c c refl)
+
+          there-taken : (y : ℕ) → (y ≡ c → ⊥) → taken starts (i + 1) y ≡ taken starts i y
+          there-taken y ne = sym (taken-more starts i y) ∙ ap (λ (r : Bool). r || taken starts i y) (ne-eqb c y (λ p. ne (sym p)))
+
+          absorbed : (p f q : Bool) → ((p && f) || q) || f ≡ (true && f) || q
+          absorbed true true q = refl
+          absorbed true false true = refl
+          absorbed true false false = refl
+          absorbed false true true = refl
+          absorbed false true false = refl
+          absorbed false false true = refl
+          absorbed false false false = refl
+
+          rows : (q : Rel) → Table n w q t₀ → (y : ℕ) → y < n → Row n (λ a. (taken starts (i + 1) y && farBefore a y) || q a y) (rowAt t′ w y)
+          rows q g y v = elim (ℕ-discrete y c) [
+            | yes p ↦ subst (λ (z : ℕ). Row n (λ a. (taken starts (i + 1) z && farBefore a z) || q a z) (rowAt t′ w z)) (sym p)
+                (subst (Row n (λ a. (taken starts (i + 1) c && farBefore a c) || q a c)) (sym (put .same))
+                (row-same n (λ a. ((taken starts i c && farBefore a c) || q a c) || farBefore a c) (orRow (rowAt t w c) (rowAt far′ w 0))
+                (row-or n (λ a. (taken starts i c && farBefore a c) || q a c) (rowAt t w c) (s .rows q g c low) (λ a. farBefore a c) (rowAt far′ w 0) joined
+                (omega (arith, length-row-le far′ w 0, length-row t w c (row-room n w c (length t) low (omega (arith, s .size))))))
+                (λ a. (taken starts (i + 1) c && farBefore a c) || q a c)
+                (λ a j. absorbed (taken starts i c) (farBefore a c) (q a c) ∙ ap (λ (r : Bool). (r && farBefore a c) || q a c) (sym here-taken))))
+            | no ne ↦ subst (Row n (λ a. (taken starts (i + 1) y && farBefore a y) || q a y)) (sym (put .other y ne))
+                (row-same n (λ a. (taken starts i y && farBefore a y) || q a y) (rowAt t w y) (s .rows q g y v)
+                (λ a. (taken starts (i + 1) y && farBefore a y) || q a y)
+                (λ a j. ap (λ (r : Bool). (r && farBefore a y) || q a y) (sym (there-taken y ne))))
+          ]
+
+      pub joining-all : length starts ≤ i → (q : Rel) → Table n w q t₀ → Table n w (λ a b. returnedIn l a (startIn l b - d) || q a b) t
+      joining-all h q g b low =
+          let e = by-start .each b low refl in
+          row-same n (λ a. (taken starts i b && farBefore a b) || q a b) (rowAt t w b) (s .rows q g b low) (λ a. farBefore a b || q a b)
+          (λ a j. ap (λ (r : Bool). (r && farBefore a b) || q a b) (some-of i (λ j. eqb (getD starts j 0) b) (e .0) (omega (arith, e .1)) (eq-eqb (getD starts (e .0) 0) b (e .2))))
+
+-- ---- the first table joined, before the others
+
+module _ (n w : ℕ) (t x : List ℕ) (long : length x ≡ n * w) where
+  first-part : part n w 0 (x ++ drop (n * w) t) ≡ x
+  first-part =
+      let none : 0 * (n * w) ≡ 0 = omega arith in
+      ap (λ (k : ℕ). take (n * w) (drop k (x ++ drop (n * w) t))) none ∙ take-at x (drop (n * w) t) (n * w) long
+
+  later-part : (k : ℕ) → part n w (k + 1) (x ++ drop (n * w) t) ≡ part n w (k + 1) t
+  later-part k =
+      let on : (k + 1) * (n * w) ≡ n * w + k * (n * w) = omega (arith, add-mul k 1 (n * w)) in
+      ap (λ (j : ℕ). take (n * w) (drop j (x ++ drop (n * w) t))) on
+      ∙ ap (take (n * w)) (sym (drop-drop (k * (n * w)) (n * w) (x ++ drop (n * w) t)) ∙ ap (drop (k * (n * w))) (drop-at x (drop (n * w) t) (n * w) long) ∙ drop-drop (k * (n * w)) (n * w) t)
+      ∙ ap (λ (j : ℕ). take (n * w) (drop j t)) (sym on)
+
+-- to so, which the first table has, are joined those that returned long enough before: it is rb
+pub first-joined : (n w : ℕ) (l v : List ℕ) (q : Terms) (t x : List ℕ) → length x ≡ n * w → OwnTimes n w (under q (historyFrom n w l v)) t
+    → ((r : Rel) → Table n w r (part n w 0 t) → Table n w (λ a b. returnedIn l a (startIn l b - q .difference) || r a b) x)
+    → Sweeps n w (under q (historyFrom n w l v)) (x ++ drop (n * w) t)
+unfolding historyFrom
+first-joined n w l v q t x long own join =
+    let h : History = under q (historyFrom n w l v) in
+    record {
+      timed = record {
+        rbs = λ b i. subst (λ (p : List ℕ). Row n (λ a. rb h a b) (rowAt p w b)) (sym (first-part n w t x long))
+            (row-same n _ (rowAt x w b) (join (so h) (own .firsts) b i) (λ a. rb h a b) (λ a j. sym (rb-far h a b)));
+        sos = subst (Table n w (so h)) (sym (later-part n w t x long 0)) (own .sos);
+        middles = subst (Table n w (through h (read h) (vis h) (so h))) (sym (later-part n w t x long 1)) (own .middles);
+        objects = subst (Table n w (both (so h) (ob h))) (sym (later-part n w t x long 2)) (own .objects);
+      };
+      steps = subst (Table n w (step h)) (sym (later-part n w t x long 3)) (own .steps);
+    }
+
+-- as code does it: of the words t the first 5 × (n × w) are lent and f given back, then of these the first n × w, and x
+pub tables-joined : (n w : ℕ) (l v : List ℕ) (q : Terms) (t f x : List ℕ) → 5 * (n * w) ≤ length t → length f ≡ length (take (5 * (n * w) - 0) t)
+    → OwnTimes n w (under q (historyFrom n w l v)) f → let t₁ = f ++ drop (5 * (n * w) - 0) t in let t₂ = x ++ drop (n * w - 0) t₁ in
+    length x ≡ length (take (n * w - 0) t₁)
+    → ((r : Rel) → Table n w r (take (n * w - 0) t₁) → Table n w (λ a b. returnedIn l a (startIn l b - q .difference) || r a b) x)
+    → Sweeps n w (under q (historyFrom n w l v)) t₂ × (length t₂ ≡ length t) × (drop (5 * (n * w)) t₂ ≡ drop (5 * (n * w)) t)
+tables-joined n w l v q t f x room e own e′ join =
+    let t₁ : List ℕ = f ++ drop (5 * (n * w) - 0) t in
+    let t₂ : List ℕ = x ++ drop (n * w - 0) t₁ in
+    let z : n * w - 0 ≡ n * w = omega arith in
+    let g = front-given (5 * (n * w)) t f room e in
+    let g′ = front-given (n * w) t₁ x (omega (arith, g .1)) e′ in
+    let first : part n w 0 t₁ ≡ take (n * w - 0) t₁ =
+    ap (λ (k : ℕ). take (n * w) (drop k t₁)) (let none : 0 * (n * w) ≡ 0 = omega arith in none) ∙ ap (λ (k : ℕ). take k t₁) (sym z) in (
+      subst (λ (k : ℕ). Sweeps n w (under q (historyFrom n w l v)) (x ++ drop k t₁)) (sym z)
+      (first-joined n w l v q t₁ x (g′ .0) (own-front n w (under q (historyFrom n w l v)) f (drop (5 * (n * w) - 0) t) (g .0) own)
+      (λ r p. join r (subst (Table n w r) first p))),
+      g′ .1 ∙ g .1,
+      same-later (n * w) (5 * (n * w)) t₂ t₁ (omega arith) (g′ .2) ∙ g .2,
+    )

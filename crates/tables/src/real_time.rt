@@ -1,0 +1,64 @@
+// The table of rb: beside so, by each site's own clock, who returned by more than the clocks' difference before an event starts, at whatever site.
+use super::table_rows;
+ghost use mathlib.Core.Path.{_≡_};
+ghost use mathlib.Core.Bool.{true, false, _||_};
+ghost use Prim.Native.Nat.{ℕ, _+_, _-_, _*_, _<_, _≤_};
+ghost use lib.ListN.{length, getD};
+ghost use Rattle.rows.specs.Row.{Row};
+ghost use Rattle.rows.specs.Relation.{Rel, Table};
+ghost use Rattle.record.specs.Words.{startIn, returnIn};
+ghost use Rattle.tables.specs.Sweep.{InOrder, taken, ReturnedBefore, returnedIn};
+
+// The time t less the difference d, or 0 where that would be less: a return before it is one that is before t with d added.
+fn less(t: u64, d: u64) -> u64
+    ensures { λ r. ⌜ r ≡ t - d ⌝ }
+{
+    if t < d {
+        return 0;
+    }
+    t - d
+}
+
+// The events that returned before the time t join the row `far`, from entry k of the returns on; the entry where that ends.
+fn join_before(l: &[u64], n: usize, returns: &[u16], k: usize, t: u64, far: &mut [u64]) -> usize
+    requires { ⌜ (4 * n ≤ length (now l)) × (n ≤ 64 * length (now far)) × InOrder (now l) n true (now returns) (length (now returns)) ⌝ }
+    requires { ⌜ (k ≤ length (now returns)) × ((i : ℕ) → i < k → returnIn (now l) (getD (now returns) i 0) < t) × Row n (taken (now returns) k) (now far) ⌝ }
+    ensures { λ r. ⌜ ReturnedBefore (now (l .entry)) (now (returns .entry)) (length (now (returns .entry))) t r × Row n (taken (now (returns .entry)) r) (now (far .exit)) ⌝ }
+    ensures { λ _. ⌜ length (now (far .exit)) ≡ length (now (far .entry)) ⌝ }
+{
+    let mut next = k;
+    while next < returns.len() {
+        let a = returns[next] as usize;
+        if t <= events::return_time(l, a) {
+            return next;
+        }
+        rows::set(far, a);
+        next += 1;
+    }
+    next
+}
+
+// To row c of a table are joined the events that returned before c's start less the difference. No sum of times is formed.
+pub fn join_far(
+    l: &[u64],
+    n: usize,
+    w: usize,
+    difference: u64,
+    starts: &[u16],
+    returns: &[u16],
+    t: &mut [u64],
+)
+    requires { ⌜ (4 * n ≤ length (now l)) × (n ≤ 64 * w) × (w ≤ 8) × (length (now t) ≡ n * w) ⌝ }
+    requires { ⌜ InOrder (now l) n false (now starts) (length (now starts)) × InOrder (now l) n true (now returns) (length (now returns)) ⌝ }
+    ensures { λ _. ⌜ ((q : Rel) → Table n w q (now (t .entry)) → Table n w (λ a b. returnedIn (now (l .entry)) a (startIn (now (l .entry)) b - difference) || q a b) (now (t .exit))) ⌝ }
+    ensures { λ _. ⌜ length (now (t .exit)) ≡ length (now (t .entry)) ⌝ }
+{
+    let mut far = [0u64; 8];
+    let mut k: usize = 0;
+    for i in 0..starts.len() {
+        let c = starts[i] as usize;
+        let time = less(events::start_time(l, c), difference);
+        k = join_before(l, n, returns, k, time, &mut far);
+        table_rows::join_row(t, w, c, &far, 0);
+    }
+}

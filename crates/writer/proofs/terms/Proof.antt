@@ -1,0 +1,45 @@
+-- `writer::terms` meets its contract: the difference stands before the bytes that are copied, which are those of what they say. Assumes nothing.
+use borrow.Author.Needs.{needs}
+use Rattle.record.proofs.WrittenLaws.{terms-stored}
+use Rattle.writer.proofs.terms.Statement.{statement}
+use Rattle.writer.proofs.terms.Tie as tie
+
+put-u32-requires : tie.Need-put-u32-requires
+put-u32-requires c κs = search needs
+
+sub-copy : tie.Need-sub-copy
+sub-copy c = search needs
+
+part-copy-start : tie.Need-part-copy-start
+part-copy-start c = search needs
+
+part-copy-end : tie.Need-part-copy-end
+part-copy-end c = search needs
+
+copy-requires : tie.Need-copy-requires
+copy-requires c κs = search needs
+
+same-length : tie.Need-same-length
+same-length c = search needs
+
+returns : tie.Need-returns
+returns c =
+    let copied = c .before .before in
+    let put = copied .before .before .before .before in
+    let a = put .before .before .before .before in
+    terms-stored (a .args .openings .now) (a .args .s .now) _ _ (a .args .difference)
+    (λ i. put .before .before .shared-slice-known .given i .fits) (search needs) (a .pre .2) (search needs)
+    (put .put-u32 .ensures)
+    (copied .copy .ensures .1)
+
+pub terms-spec : {M : Type 1} → statement M
+terms-spec =
+    tie.close
+    (tie.spec
+    put-u32-requires
+    sub-copy
+    part-copy-start
+    part-copy-end
+    copy-requires
+    same-length
+    returns)
