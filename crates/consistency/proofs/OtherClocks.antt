@@ -1,7 +1,7 @@
 -- The same events and openings, under clocks that differ by more or less: all but predicates 3 and 4 have the same verdict, and what a smaller difference
 -- met, a larger meets. Assumes nothing.
-use mathlib.Core.Path.{_≡_, refl, sym, ap, ap₂, _∙_}
-use mathlib.Core.Bool.{Bool, true, false, cond, _&&_, _||_, true≢false}
+use mathlib.Core.Path.{_≡_, refl, sym, ap₂, _∙_}
+use mathlib.Core.Bool.{Bool, true, false, cond, _||_, true≢false}
 use mathlib.Core.List.{List, [], _∷_}
 use Prim.Native.Nat.{ℕ, _+_, _<_, _≤_}
 use native.Mathlib.Omega.{arith}
@@ -15,8 +15,7 @@ use Rattle.consistency.specs.Holds.{Holds, Obeys, Within}
 use Rattle.consistency.specs.Models.{timed, orElse, firstBroken}
 use Rattle.consistency.specs.declared.Verdict.{Verdict}
 use Rattle.consistency.specs.declared.Verdict.the-variants.{Met, Broken}
-use Rattle.consistency.specs.declared.Outcome.{Outcome}
-use Rattle.consistency.specs.declared.Outcome.the-variants.{AllMet, BrokenAt}
+use Rattle.consistency.specs.declared.Outcome.the-variants.{AllMet}
 use Rattle.consistency.specs.declared.Predicate.{Predicate}
 use Rattle.consistency.specs.declared.Predicate.the-variants.{RVal, SingleOrder, RealTime, RealTimeWrites, MonotonicReads, ReadYourWrites, MonotonicWrites, WritesFollowReads, Pram, CausalVisibility, CausalArbitration, PerObjectPram, PerObjectSingleOrder}
 use Rattle.consistency.proofs.MetIffHolds.{met-holds, within-met}

@@ -13,15 +13,15 @@ use lib.Seq.{take-take, getD-take, getD-drop}
 use Rattle.rows.specs.Octets.{little, hasByte}
 use Rattle.rows.specs.Row.{bitOf}
 use Rattle.record.specs.Layout.{Layout, edition, gcr2, editionOf, byte, countIn, slotAt, same, workWords}
-use Rattle.record.specs.Terms.{Held, none, value, openingIn, differenceIn, termsIn}
-use Rattle.record.specs.History.{History, historyOf, under, Agree}
-use Rattle.record.specs.Questions.{numberOf, questions}
+use Rattle.record.specs.Terms.{Held, none, value, openingIn, differenceIn}
+use Rattle.record.specs.History.{historyOf}
+use Rattle.record.specs.Questions.{questions}
 use Rattle.record.specs.declared.Reading.the-variants.{Passed, ShortWork}
 use Rattle.record.proofs.NumberBytes.{little-same}
 use Rattle.record.proofs.QuestionsAnswered.{answer-only}
 use Rattle.consistency.specs.Models.{timed, firstBroken}
 use Rattle.consistency.specs.declared.Outcome.{Outcome}
-use Rattle.consistency.specs.declared.Outcome.the-variants.{AllMet, BrokenAt}
+use Rattle.consistency.specs.declared.Outcome.the-variants.{AllMet}
 use Rattle.consistency.specs.declared.Predicate.the-variants.{RVal}
 use Rattle.consistency.proofs.SameVerdict.{SameEvents, SameFor}
 use Rattle.consistency.proofs.OtherClocks.{list-steady, list-larger}

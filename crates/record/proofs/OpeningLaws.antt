@@ -2,16 +2,15 @@
 use mathlib.Core.Path.{_≡_, refl, sym, ap, ap₂, _∙_}
 use mathlib.Core.Bool.{Bool, true, false, not, cond, _&&_, _&&_, true≢false}
 use mathlib.Core.List.{List, _++_}
-use Prim.Native.Nat.{ℕ, zero, suc, _+_, _-_, _*_, _/_, _%_, _^_, _<_, _≤_}
+use Prim.Native.Nat.{ℕ, zero, suc, _+_, _-_, _*_, _^_, _<_, _≤_}
 use native.Mathlib.Omega.{arith}
 use native.Mathlib.Decide.{decLt}
-use borrow.Author.Tests.{eq-eqb, ne-eqb, eqb-true, lt-ltb, le-ltb, not-true}
+use borrow.Author.Tests.{eq-eqb, eqb-true, lt-ltb, le-ltb, not-true}
 use lib.Dec.{eqb, ltb}
-use lib.ListN.{length, getD, length-append}
-use lib.Seq.{ext-getD}
+use lib.ListN.{length, length-append}
 use Rattle.rows.specs.Lowest.{some}
 use Rattle.rows.specs.Octets.{little, hasByte}
-use Rattle.rows.proofs.Tests.{split, tell, never, and-both, and-left, and-right}
+use Rattle.rows.proofs.Tests.{split, tell, never, and-left, and-right}
 use Rattle.rows.proofs.ByteLaws.{little-lt}
 use Rattle.rows.proofs.LowestLaws.{some-of, some-none, none-some}
 use Rattle.record.specs.Terms.{Held, none, value, isValue, valueOr0, Terms, openingIn, stray, openingsRight}

@@ -1,7 +1,7 @@
 -- On any terms and for every list of calls causal visibility, causal arbitration and RVal hold of the store's record; and on terms that a `GCR2` can
 -- have it passes the questions asked of events. Assumes nothing.
-use mathlib.Core.Path.{_≡_, refl, sym, ap, _∙_}
-use mathlib.Core.Bool.{true, false, cond, _&&_, true≢false, false≢true}
+use mathlib.Core.Path.{_≡_, sym, ap, _∙_}
+use mathlib.Core.Bool.{true, false, _&&_, false≢true}
 use mathlib.Core.List.{List}
 use Prim.Native.Nat.{ℕ, _+_, _*_, _≤_, _<_}
 use native.Mathlib.Omega.{arith}
@@ -11,7 +11,7 @@ use Rattle.rows.specs.Relation.{reaches, Steps, one, more}
 use Rattle.rows.proofs.Tests.{split, never, or-elim, and-both, and-left, and-right}
 use Rattle.rows.proofs.ReachLaws.{reaches-sound}
 use Rattle.record.specs.Layout.{gcr2}
-use Rattle.record.specs.Terms.{Held, none, value, isValue, valueOr0, Terms}
+use Rattle.record.specs.Terms.{value, isValue, Terms}
 use Rattle.record.specs.History.{History, under, vis}
 use Rattle.record.proofs.OpeningLaws.{held-again, none-zero}
 use Rattle.record.specs.WellFormed.{WellFormedEvent, WellFormedTerms, WellFormed}

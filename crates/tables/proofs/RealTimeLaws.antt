@@ -1,13 +1,13 @@
 -- Laws of rb's table: to each row are joined those that returned before the event's start less the difference. Assumes nothing.
-use mathlib.Core.Path.{_≡_, refl, sym, ap, ap₂, _∙_, subst}
-use mathlib.Core.Bool.{Bool, true, false, _&&_, _||_, and-false}
+use mathlib.Core.Path.{_≡_, refl, sym, ap, _∙_, subst}
+use mathlib.Core.Bool.{Bool, true, false, _&&_, _||_}
 use mathlib.Core.List.{List, _++_}
 use Prim.Native.Nat.{ℕ, _+_, _-_, _*_, _≤_, _<_}
 use native.Mathlib.Nat.{add-mul}
 use native.Mathlib.Omega.{arith}
 use native.Mathlib.Decide.{ℕ-discrete, decLt}
 use borrow.Author.Tests.{eq-eqb, ne-eqb, le-ltb}
-use lib.Dec.{eqb, ltb}
+use lib.Dec.{eqb}
 use lib.ListN.{length, getD, take, drop, replicate, length-replicate}
 use lib.Seq.{take-at, drop-at, drop-drop}
 use Rattle.rows.specs.Row.{has, orRow, rowAt, Row, RowPut}
@@ -176,8 +176,8 @@ tables-joined n w l v q t f x room e own e′ join =
     let first : part n w 0 t₁ ≡ take (n * w - 0) t₁ =
     ap (λ (k : ℕ). take (n * w) (drop k t₁)) (let none : 0 * (n * w) ≡ 0 = omega arith in none) ∙ ap (λ (k : ℕ). take k t₁) (sym z) in (
       subst (λ (k : ℕ). Sweeps n w (under q (historyFrom n w l v)) (x ++ drop k t₁)) (sym z)
-      (first-joined n w l v q t₁ x (g′ .0) (own-front n w (under q (historyFrom n w l v)) f (drop (5 * (n * w) - 0) t) (g .0) own)
-      (λ r p. join r (subst (Table n w r) first p))),
+          (first-joined n w l v q t₁ x (g′ .0) (own-front n w (under q (historyFrom n w l v)) f (drop (5 * (n * w) - 0) t) (g .0) own)
+          (λ r p. join r (subst (Table n w r) first p))),
       g′ .1 ∙ g .1,
       same-later (n * w) (5 * (n * w)) t₂ t₁ (omega arith) (g′ .2) ∙ g .2,
     )
