@@ -2,8 +2,7 @@
 use mathlib.Core.Path.{_≡_, refl, sym, ap, subst, _∙_}
 use mathlib.Core.Bool.{Bool, true, false, not, cond, _&&_}
 use mathlib.Core.List.{List, [], _∷_}
-use Prim.Native.Nat.{ℕ, _+_}
-use native.Mathlib.Omega.{arith}
+use Prim.Native.Nat.{ℕ}
 use lib.Dec.{eqb, leb, ltb}
 use lib.ListN.{take}
 use Rattle.rows.specs.Relation.{Rel}
@@ -13,7 +12,7 @@ use Rattle.record.specs.History.{History, historyOf, under}
 use Rattle.record.specs.Questions.{termsRight, headerRight}
 use Rattle.record.proofs.LayoutLaws.{one-edition}
 use Rattle.consistency.specs.FirstPair.{first}
-use Rattle.consistency.specs.Relations.{ss, skew, rb, read}
+use Rattle.consistency.specs.Relations.{rb, read}
 use Rattle.consistency.specs.Reads.{lastWrite, sameHeld, held, leftBy, expected, wrongRead, lastOr, wrong}
 use Rattle.consistency.specs.Predicates.{rule, breaks, verdict}
 use Rattle.consistency.specs.declared.Last.{Last}
@@ -21,6 +20,7 @@ use Rattle.consistency.specs.declared.Last.the-variants.{Nothing, At}
 use Rattle.consistency.specs.declared.Predicate.{Predicate}
 use Rattle.consistency.specs.declared.Predicate.the-variants.{RVal}
 use Rattle.consistency.proofs.FirstPairLaws.{first-same}
+use Rattle.consistency.proofs.ClockLaws.{rb-even}
 use Rattle.consistency.proofs.SameVerdict.{SameFor, verdict-under}
 
 -- ---- what was asked of block 0, and what a read was held to, before
@@ -85,14 +85,6 @@ even-before : (s : List ℕ) → historyOf gcr1 s .terms .difference ≡ 0
 unfolding historyOf
 even-before s = refl
 
-rb-before : (h : History) → h .terms .difference ≡ 0 → (a b : ℕ) → rb h a b ≡ rbBefore h a b
-unfolding rb skew
-rb-before h e a b = ap (λ (x : ℕ). cond (h .isPending a) false (ltb x (h .start b))) (go (ss h a b))
-  where
-    go : (t : Bool) → h .return a + cond t 0 (h .terms .difference) ≡ h .return a
-    go true = omega arith
-    go false = omega (arith, e)
-
 first-count : (s : List ℕ) → historyOf gcr1 s .count ≡ countIn s
 unfolding historyOf
 first-count s = refl
@@ -105,7 +97,7 @@ as-before s e =
       header = ap (λ (L : Layout). headerRight L s) first-one ∙ header-before s;
       reads = subst (λ (L : Layout). verdict RVal (historyOf L s) ≡ first (countIn s) (wrongBefore (historyOf L s))) (sym first-one)
           (reads-before (historyOf gcr1 s) (none-before s) ∙ ap (λ (n : ℕ). first n (wrongBefore (historyOf gcr1 s))) (first-count s));
-      times = subst (λ (L : Layout). (a b : ℕ) → rb (historyOf L s) a b ≡ rbBefore (historyOf L s) a b) (sym first-one) (λ a b. rb-before (historyOf gcr1 s) (even-before s) a b);
+      times = subst (λ (L : Layout). (a b : ℕ) → rb (historyOf L s) a b ≡ rbBefore (historyOf L s) a b) (sym first-one) (λ a b. rb-even (historyOf gcr1 s) a b (even-before s));
       others = λ p t. verdict-under t (historyOf (editionOf s) s) p;
     }
 

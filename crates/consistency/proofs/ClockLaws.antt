@@ -32,6 +32,14 @@ module _ (h : History) (a b : ℕ) where
   unfolding rb skew
   between-sites e = rw e (ap (λ (t : Bool). cond (h .isPending a) false t) (sum-left (h .return a) d (h .start b)))
 
+  pub rb-even : h .terms .difference ≡ 0 → rb h a b ≡ returned h a (h .start b)
+  unfolding rb skew
+  rb-even e = ap (λ (x : ℕ). cond (h .isPending a) false (ltb x (h .start b))) (go (ss h a b))
+    where
+      go : (t : Bool) → h .return a + cond t 0 (h .terms .difference) ≡ h .return a
+      go true = omega arith
+      go false = omega (arith, e)
+
   pub so-own : so h a b ≡ returned h a (h .start b) && ss h a b
   unfolding so
   so-own =

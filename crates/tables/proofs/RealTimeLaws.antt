@@ -8,8 +8,8 @@ use native.Mathlib.Omega.{arith}
 use native.Mathlib.Decide.{ℕ-discrete, decLt}
 use borrow.Author.Tests.{eq-eqb, ne-eqb, le-ltb}
 use lib.Dec.{eqb}
-use lib.ListN.{length, getD, take, drop, replicate, length-replicate}
-use lib.Seq.{take-at, drop-at, drop-drop}
+use lib.ListN.{length, getD, take, drop, replicate, length-replicate, length-append, length-take, length-drop}
+use lib.Seq.{length-take-le, take-at, drop-at, drop-drop}
 use Rattle.rows.specs.Row.{has, orRow, rowAt, Row, RowPut}
 use Rattle.rows.specs.Relation.{Rel, Table}
 use Rattle.rows.proofs.LowestLaws.{some-of}
@@ -19,11 +19,11 @@ use Rattle.record.specs.Terms.{Terms}
 use Rattle.record.specs.History.{History, under, vis}
 use Rattle.record.specs.Words.{startIn, returnIn, historyFrom}
 use Rattle.consistency.specs.Relations.{ob, rb, so, step, read, both, through}
-use Rattle.consistency.proofs.ClockLaws.{rb-far}
+use Rattle.consistency.proofs.ClockLaws.{rb-even, rb-far}
 use Rattle.tables.specs.Tables.{part}
-use Rattle.tables.specs.Sweep.{InOrder, taken, ReturnedBefore, returnedIn, OwnTimes, Sweeps}
+use Rattle.tables.specs.Sweep.{InOrder, taken, ReturnedBefore, returnedIn, OneClock, Sweeps}
 use Rattle.tables.proofs.PartLaws.{front-given, same-later}
-use Rattle.tables.proofs.SweepLaws.{own-front}
+use Rattle.tables.proofs.SweepLaws.{clock-front}
 use Rattle.tables.proofs.TakenLaws.{taken-none, taken-more, taken-returned}
 
 -- a row of n events is in its first w words
@@ -143,41 +143,103 @@ module _ (n w : ℕ) (t x : List ℕ) (long : length x ≡ n * w) where
       ∙ ap (take (n * w)) (sym (drop-drop (k * (n * w)) (n * w) (x ++ drop (n * w) t)) ∙ ap (drop (k * (n * w))) (drop-at x (drop (n * w) t) (n * w) long) ∙ drop-drop (k * (n * w)) (n * w) t)
       ∙ ap (λ (j : ℕ). take (n * w) (drop j t)) (sym on)
 
--- to so, which the first table has, are joined those that returned long enough before: it is rb
-pub first-joined : (n w : ℕ) (l v : List ℕ) (q : Terms) (t x : List ℕ) → length x ≡ n * w → OwnTimes n w (under q (historyFrom n w l v)) t
-    → ((r : Rel) → Table n w r (part n w 0 t) → Table n w (λ a b. returnedIn l a (startIn l b - q .difference) || r a b) x)
-    → Sweeps n w (under q (historyFrom n w l v)) (x ++ drop (n * w) t)
-unfolding historyFrom
-first-joined n w l v q t x long own join =
-    let h : History = under q (historyFrom n w l v) in
-    record {
-      timed = record {
-        rbs = λ b i. subst (λ (p : List ℕ). Row n (λ a. rb h a b) (rowAt p w b)) (sym (first-part n w t x long))
-            (row-same n _ (rowAt x w b) (join (so h) (own .firsts) b i) (λ a. rb h a b) (λ a j. sym (rb-far h a b)));
-        sos = subst (Table n w (so h)) (sym (later-part n w t x long 0)) (own .sos);
-        middles = subst (Table n w (through h (read h) (vis h) (so h))) (sym (later-part n w t x long 1)) (own .middles);
-        objects = subst (Table n w (both (so h) (ob h))) (sym (later-part n w t x long 2)) (own .objects);
-      };
-      steps = subst (Table n w (step h)) (sym (later-part n w t x long 3)) (own .steps);
-    }
+-- ---- rb: where clocks don't differ, who returned before; else so, and who returned long enough before
 
--- as code does it: of the words t the first 5 × (n × w) are lent and f given back, then of these the first n × w, and x
-pub tables-joined : (n w : ℕ) (l v : List ℕ) (q : Terms) (t f x : List ℕ) → 5 * (n * w) ≤ length t → length f ≡ length (take (5 * (n * w) - 0) t)
-    → OwnTimes n w (under q (historyFrom n w l v)) f → let t₁ = f ++ drop (5 * (n * w) - 0) t in let t₂ = x ++ drop (n * w - 0) t₁ in
-    length x ≡ length (take (n * w - 0) t₁)
-    → ((r : Rel) → Table n w r (take (n * w - 0) t₁) → Table n w (λ a b. returnedIn l a (startIn l b - q .difference) || r a b) x)
-    → Sweeps n w (under q (historyFrom n w l v)) t₂ × (length t₂ ≡ length t) × (drop (5 * (n * w)) t₂ ≡ drop (5 * (n * w)) t)
-tables-joined n w l v q t f x room e own e′ join =
-    let t₁ : List ℕ = f ++ drop (5 * (n * w) - 0) t in
-    let t₂ : List ℕ = x ++ drop (n * w - 0) t₁ in
-    let z : n * w - 0 ≡ n * w = omega arith in
-    let g = front-given (5 * (n * w)) t f room e in
-    let g′ = front-given (n * w) t₁ x (omega (arith, g .1)) e′ in
-    let first : part n w 0 t₁ ≡ take (n * w - 0) t₁ =
-    ap (λ (k : ℕ). take (n * w) (drop k t₁)) (let none : 0 * (n * w) ≡ 0 = omega arith in none) ∙ ap (λ (k : ℕ). take k t₁) (sym z) in (
-      subst (λ (k : ℕ). Sweeps n w (under q (historyFrom n w l v)) (x ++ drop k t₁)) (sym z)
-          (first-joined n w l v q t₁ x (g′ .0) (own-front n w (under q (historyFrom n w l v)) f (drop (5 * (n * w) - 0) t) (g .0) own)
-          (λ r p. join r (subst (Table n w r) first p))),
-      g′ .1 ∙ g .1,
-      same-later (n * w) (5 * (n * w)) t₂ t₁ (omega arith) (g′ .2) ∙ g .2,
-    )
+rest-of : (n w : ℕ) (l : List ℕ) (h : History) (t t₂ : List ℕ) → ((k : ℕ) → part n w (k + 1) t₂ ≡ part n w (k + 1) t) → OneClock n w l h t → Table n w (rb h) (part n w 0 t₂) → Sweeps n w h t₂
+rest-of n w l h t t₂ same own rbs = record {
+  timed = record {
+    rbs = rbs;
+    sos = subst (Table n w (so h)) (sym (same 0)) (own .sos);
+    middles = subst (Table n w (through h (read h) (vis h) (so h))) (sym (same 1)) (own .middles);
+    objects = subst (Table n w (both (so h) (ob h))) (sym (same 2)) (own .objects);
+  };
+  steps = subst (Table n w (step h)) (sym (same 3)) (own .steps);
+}
+
+module _ (n w : ℕ) (l v : List ℕ) (q : Terms) where
+  abbrev h : History
+  h = under q (historyFrom n w l v)
+
+  -- clocks don't differ
+  even : (t : List ℕ) → q .difference ≡ 0 → OneClock n w l (under q (historyFrom n w l v)) t → Sweeps n w (under q (historyFrom n w l v)) t
+  unfolding historyFrom
+  even t e own = rest-of n w l h t t (λ k. refl) own
+      (λ b i. row-same n (λ a. returnedIn l a (startIn l b)) (rowAt (part n w 0 t) w b) (own .firsts b i) (λ a. rb h a b) (λ a j. sym (rb-even h a b e)))
+
+  -- they do: the first table is so, and x is what it becomes
+  module _ (t : List ℕ) (own : OneClock n w l (under q (historyFrom n w l v)) t) (room : 2 * (n * w) ≤ length t) where
+    abbrev again : List ℕ
+    again = take (n * w) (drop (n * w) t) ++ drop (n * w) t
+
+    again-long : length (take (n * w) (drop (n * w) t)) ≡ n * w
+    again-long = length-take-le (n * w) (drop (n * w) t) (omega (arith, length-drop (n * w) t))
+
+    again-size : length again ≡ length t
+    again-size = omega (arith, length-append (take (n * w) (drop (n * w) t)) (drop (n * w) t), again-long, length-drop (n * w) t)
+
+    module _ (x : List ℕ) (long : length x ≡ length (take (n * w - 0) again))
+        (join : (r : Rel) → Table n w r (take (n * w - 0) again) → Table n w (λ a b. returnedIn l a (startIn l b - q .difference) || r a b) x) where
+      full : length x ≡ n * w
+      full = omega (arith, long, length-take (n * w - 0) again, again-size)
+
+      lent-so : take (n * w - 0) again ≡ part n w 1 t
+      lent-so =
+          let z : n * w - 0 ≡ n * w = omega arith in
+          let one : n * w ≡ 1 * (n * w) = omega arith in
+          ap (λ (k : ℕ). take k again) z ∙ take-at (take (n * w) (drop (n * w) t)) (drop (n * w) t) (n * w) again-long ∙ ap (λ (k : ℕ). take (n * w) (drop k t)) one
+
+      rb-table : Table n w (rb (under q (historyFrom n w l v))) x
+      unfolding historyFrom
+      rb-table b i =
+          row-same n (λ a. returnedIn l a (startIn l b - q .difference) || so h a b) (rowAt x w b)
+          (join (so h) (subst (Table n w (so h)) (sym lent-so) (own .sos)) b i) (λ a. rb h a b) (λ a j. sym (rb-far h a b))
+
+      apart : Sweeps n w (under q (historyFrom n w l v)) (x ++ drop (n * w) again)
+      apart =
+          rest-of n w l h t (x ++ drop (n * w) again)
+          (λ k. later-part n w again x full k ∙ later-part n w t (take (n * w) (drop (n * w) t)) again-long k) own
+          (subst (Table n w (rb h)) (sym (first-part n w again x full)) rb-table)
+
+-- ---- as code does it: of the words t the first 5 × (n × w) are lent, and f given back
+
+module _ (n w : ℕ) (l v : List ℕ) (q : Terms) (t f : List ℕ) (room : 5 * (n * w) ≤ length t) (e : length f ≡ length (take (5 * (n * w) - 0) t))
+    (own : OneClock n w l (under q (historyFrom n w l v)) f) where
+  abbrev t₁ : List ℕ
+  t₁ = f ++ drop (5 * (n * w) - 0) t
+
+  whole : OneClock n w l (under q (historyFrom n w l v)) t₁
+  whole = clock-front n w l (under q (historyFrom n w l v)) f (drop (5 * (n * w) - 0) t) (front-given (5 * (n * w)) t f room e .0) own
+
+  pub filled-size : length (f ++ drop (5 * (n * w) - 0) t) ≡ length t
+  filled-size = front-given (5 * (n * w)) t f room e .1
+
+  filled-rest : drop (5 * (n * w)) t₁ ≡ drop (5 * (n * w)) t
+  filled-rest = front-given (5 * (n * w)) t f room e .2
+
+  pub tables-even : q .difference ≡ 0
+      → Sweeps n w (under q (historyFrom n w l v)) (f ++ drop (5 * (n * w) - 0) t) × (length (f ++ drop (5 * (n * w) - 0) t) ≡ length t)
+      × (drop (5 * (n * w)) (f ++ drop (5 * (n * w) - 0) t) ≡ drop (5 * (n * w)) t)
+  tables-even z = (even n w l v q t₁ z whole, filled-size, filled-rest)
+
+  module _ (t₂ : List ℕ) (put : t₂ ≡ take (n * w) (drop (n * w) (f ++ drop (5 * (n * w) - 0) t)) ++ drop (n * w) (f ++ drop (5 * (n * w) - 0) t)) where
+    again-room : 2 * (n * w) ≤ length t₁
+    again-room = omega (arith, filled-size)
+
+    pub lent-size : length t₂ ≡ length t
+    lent-size = ap length put ∙ again-size n w l v q t₁ whole again-room ∙ filled-size
+
+    pub tables-joined : (x : List ℕ) → length x ≡ length (take (n * w - 0) t₂)
+        → ((r : Rel) → Table n w r (take (n * w - 0) t₂) → Table n w (λ a b. returnedIn l a (startIn l b - q .difference) || r a b) x)
+        → Sweeps n w (under q (historyFrom n w l v)) (x ++ drop (n * w - 0) t₂) × (length (x ++ drop (n * w - 0) t₂) ≡ length t)
+        × (drop (5 * (n * w)) (x ++ drop (n * w - 0) t₂) ≡ drop (5 * (n * w)) t)
+    tables-joined x long join =
+        let z : n * w - 0 ≡ n * w = omega arith in
+        let g = front-given (n * w) t₂ x (omega (arith, lent-size)) long in
+        let kept : drop (n * w) t₂ ≡ drop (n * w) t₁ = ap (drop (n * w)) put ∙ drop-at (take (n * w) (drop (n * w) t₁)) (drop (n * w) t₁) (n * w) (again-long n w l v q t₁ whole again-room) in (
+          subst (λ (k : ℕ). Sweeps n w (under q (historyFrom n w l v)) (x ++ drop k t₂)) (sym z)
+              (subst (λ (y : List ℕ). Sweeps n w (under q (historyFrom n w l v)) (x ++ drop (n * w) y)) (sym put)
+              (apart n w l v q t₁ whole again-room x (subst (λ (y : List ℕ). length x ≡ length (take (n * w - 0) y)) put long)
+              (subst (λ (y : List ℕ). (r : Rel) → Table n w r (take (n * w - 0) y) → Table n w (λ a b. returnedIn l a (startIn l b - q .difference) || r a b) x) put join))),
+          g .1 ∙ lent-size,
+          same-later (n * w) (5 * (n * w)) (x ++ drop (n * w - 0) t₂) t₁ (omega arith) (g .2 ∙ kept) ∙ filled-rest,
+        )

@@ -1,13 +1,24 @@
-// The table of rb: beside so, by each site's own clock, who returned by more than the clocks' difference before an event starts, at whatever site.
+// The table of rb where clocks differ: so, which goes by one site's own, and who returned by more than the difference before an event starts.
 use super::table_rows;
 ghost use mathlib.Core.Path.{_≡_};
 ghost use mathlib.Core.Bool.{true, false, _||_};
 ghost use Prim.Native.Nat.{ℕ, _+_, _-_, _*_, _<_, _≤_};
-ghost use lib.ListN.{length, getD};
+ghost use mathlib.Core.List.{_++_};
+ghost use lib.ListN.{length, getD, take, drop};
 ghost use Rattle.rows.specs.Row.{Row};
 ghost use Rattle.rows.specs.Relation.{Rel, Table};
 ghost use Rattle.record.specs.Words.{startIn, returnIn};
 ghost use Rattle.tables.specs.Sweep.{InOrder, taken, ReturnedBefore, returnedIn};
+
+// The first `size` words become those behind them.
+pub fn put_again(t: &mut [u64], size: usize)
+    requires { ⌜ 2 * size ≤ length (now t) ⌝ }
+    ensures { λ _. ⌜ now (t .exit) ≡ take size (drop size (now (t .entry))) ++ drop size (now (t .entry)) ⌝ }
+{
+    for i in 0..size {
+        t[i] = t[size + i];
+    }
+}
 
 // The time t less the difference d, or 0 where that would be less: a return before it is one that is before t with d added.
 fn less(t: u64, d: u64) -> u64
