@@ -1,4 +1,4 @@
--- Laws of the judging calls. What users should know: MeansLaws (the second demand), ReadsBack.
+-- Laws of the judging calls. What users should know: MeansLaws (the second demand), ClocksJudged, ReadsBack.
 pub mod MeansLaws
 pub mod ClocksJudged
 pub mod ReadsBack
