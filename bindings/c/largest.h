@@ -5,7 +5,7 @@
 #include "gcr.h"
 
 #define LARGEST_SITES 8
-#define LARGEST_RECORDS 4
+#define LARGEST_RECORDS 5
 
 /* An opening for each of the 32 objects. */
 const uint8_t *largest_openings(void);

@@ -1,18 +1,29 @@
 //! What the example hosts share: a file is read, a line about it is written, and the exit status goes with the line.
 
-use std::io::Write;
+use std::ffi::OsStr;
+use std::fs::File;
+use std::io::{Read, Result, Write};
 use std::process::ExitCode;
 
 /// The file could not be read, or the line could not be written.
 const LOST: u8 = 3;
+/// More bytes than any input may have: what is longer is refused for its length, however much of it was read.
+const ENOUGH: u64 = 1 << 16;
+
+fn read(path: &OsStr) -> Result<Vec<u8>> {
+    let mut bytes = Vec::new();
+    File::open(path)?.take(ENOUGH).read_to_end(&mut bytes)?;
+    Ok(bytes)
+}
 
 /// `told` has the line about the file's bytes and its exit status. `usage` is the host's name and what its file is.
 pub fn host(usage: &str, told: impl Fn(&[u8]) -> (String, u8)) -> ExitCode {
-    let Some(path) = std::env::args_os().nth(1) else {
+    let mut arguments = std::env::args_os().skip(1);
+    let (Some(path), None) = (arguments.next(), arguments.next()) else {
         eprintln!("usage: {usage}");
         return ExitCode::from(LOST);
     };
-    let bytes = match std::fs::read(&path) {
+    let bytes = match read(&path) {
         Ok(bytes) => bytes,
         Err(error) => {
             eprintln!("{}: {error}", path.to_string_lossy());
@@ -22,6 +33,9 @@ pub fn host(usage: &str, told: impl Fn(&[u8]) -> (String, u8)) -> ExitCode {
     let (line, status) = told(&bytes);
     match writeln!(std::io::stdout(), "{line}") {
         Ok(()) => ExitCode::from(status),
-        Err(_) => ExitCode::from(LOST),
+        Err(error) => {
+            eprintln!("the line can't be written: {error}");
+            ExitCode::from(LOST)
+        }
     }
 }
