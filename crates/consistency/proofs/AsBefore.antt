@@ -12,13 +12,13 @@ use Rattle.record.specs.History.{History, historyOf, under}
 use Rattle.record.specs.Questions.{termsRight, headerRight}
 use Rattle.record.proofs.LayoutLaws.{one-edition}
 use Rattle.consistency.specs.FirstPair.{first}
-use Rattle.consistency.specs.Relations.{rb, read}
+use Rattle.consistency.specs.Relations.{rb, ar, write, read, from}
 use Rattle.consistency.specs.Reads.{lastWrite, sameHeld, held, leftBy, expected, wrongRead, lastOr, wrong}
-use Rattle.consistency.specs.Predicates.{rule, breaks, verdict}
+use Rattle.consistency.specs.Predicates.{rule, outside, breaks, verdict}
 use Rattle.consistency.specs.declared.Last.{Last}
 use Rattle.consistency.specs.declared.Last.the-variants.{Nothing, At}
 use Rattle.consistency.specs.declared.Predicate.{Predicate}
-use Rattle.consistency.specs.declared.Predicate.the-variants.{RVal}
+use Rattle.consistency.specs.declared.Predicate.the-variants.{RVal, RealTime, RealTimeWrites}
 use Rattle.consistency.proofs.FirstPairLaws.{first-same}
 use Rattle.consistency.proofs.ClockLaws.{rb-even}
 use Rattle.consistency.proofs.SameVerdict.{SameFor, verdict-under}
@@ -48,13 +48,17 @@ wrongBefore h e w =
 -- ---- as before
 
 pub record AsBefore (s : List ℕ) : Type 0 where
-  -- so every other question, and predicates 2 and 5 to 13, whose definitions did not move, are asked in the edition that there was
+  -- so every other question, and predicates 2 and 13, of which no definition moved, are asked in the edition that there was
   pub edition : editionOf s ≡ before
   -- question 5
   pub header : headerRight (editionOf s) s ≡ headerBefore s
   -- predicate 1
   pub reads : verdict RVal (historyOf (editionOf s) s) ≡ first (countIn s) (wrongBefore (historyOf (editionOf s) s))
-  -- rb, and so predicates 3 and 4
+  -- predicates 3 and 4
+  pub realTime : verdict RealTime (historyOf (editionOf s) s) ≡ first (countIn s) (outside (rbBefore (historyOf (editionOf s) s)) (ar (historyOf (editionOf s) s)))
+  pub realTimeWrites : verdict RealTimeWrites (historyOf (editionOf s) s)
+      ≡ first (countIn s) (outside (from (write (historyOf (editionOf s) s)) (rbBefore (historyOf (editionOf s) s))) (ar (historyOf (editionOf s) s)))
+  -- rb, of which so, hb and predicates 5 to 12 are made
   pub times : (a b : ℕ) → rb (historyOf (editionOf s) s) a b ≡ rbBefore (historyOf (editionOf s) s) a b
   -- all thirteen, whatever terms say of which they don't ask: 2 and 5 to 13 ask for none
   pub others : (p : Predicate) (t : Terms) → SameFor p t (historyOf (editionOf s) s .terms) → verdict p (under t (historyOf (editionOf s) s)) ≡ verdict p (historyOf (editionOf s) s)
@@ -85,6 +89,19 @@ even-before : (s : List ℕ) → historyOf gcr1 s .terms .difference ≡ 0
 unfolding historyOf
 even-before s = refl
 
+module _ (h : History) (even : h .terms .difference ≡ 0) where
+  before-same : (f : Bool → Bool) (a b : ℕ) → f (rb h a b) ≡ f (rbBefore h a b)
+  before-same f a b = ap f (rb-even h a b even)
+
+  real-time-before : verdict RealTime h ≡ first (h .count) (outside (rbBefore h) (ar h))
+  unfolding verdict rule breaks
+  real-time-before = first-same (h .count) (outside (rb h) (ar h)) (outside (rbBefore h) (ar h)) (λ a b i j. before-same (λ (t : Bool). t && not (ar h a b)) a b)
+
+  writes-before : verdict RealTimeWrites h ≡ first (h .count) (outside (from (write h) (rbBefore h)) (ar h))
+  unfolding verdict rule breaks
+  writes-before = first-same (h .count) (outside (from (write h) (rb h)) (ar h)) (outside (from (write h) (rbBefore h)) (ar h))
+      (λ a b i j. before-same (λ (t : Bool). (write h a && t) && not (ar h a b)) a b)
+
 first-count : (s : List ℕ) → historyOf gcr1 s .count ≡ countIn s
 unfolding historyOf
 first-count s = refl
@@ -97,6 +114,10 @@ as-before s e =
       header = ap (λ (L : Layout). headerRight L s) first-one ∙ header-before s;
       reads = subst (λ (L : Layout). verdict RVal (historyOf L s) ≡ first (countIn s) (wrongBefore (historyOf L s))) (sym first-one)
           (reads-before (historyOf gcr1 s) (none-before s) ∙ ap (λ (n : ℕ). first n (wrongBefore (historyOf gcr1 s))) (first-count s));
+      realTime = subst (λ (L : Layout). verdict RealTime (historyOf L s) ≡ first (countIn s) (outside (rbBefore (historyOf L s)) (ar (historyOf L s)))) (sym first-one)
+          (real-time-before (historyOf gcr1 s) (even-before s) ∙ ap (λ (n : ℕ). first n (outside (rbBefore (historyOf gcr1 s)) (ar (historyOf gcr1 s)))) (first-count s));
+      realTimeWrites = subst (λ (L : Layout). verdict RealTimeWrites (historyOf L s) ≡ first (countIn s) (outside (from (write (historyOf L s)) (rbBefore (historyOf L s))) (ar (historyOf L s)))) (sym first-one)
+          (writes-before (historyOf gcr1 s) (even-before s) ∙ ap (λ (n : ℕ). first n (outside (from (write (historyOf gcr1 s)) (rbBefore (historyOf gcr1 s))) (ar (historyOf gcr1 s)))) (first-count s));
       times = subst (λ (L : Layout). (a b : ℕ) → rb (historyOf L s) a b ≡ rbBefore (historyOf L s) a b) (sym first-one) (λ a b. rb-even (historyOf gcr1 s) a b (even-before s));
       others = λ p t. verdict-under t (historyOf (editionOf s) s) p;
     }

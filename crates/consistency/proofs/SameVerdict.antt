@@ -256,7 +256,7 @@ module _ (h k : History) (s : Agree h k) where
 
 -- ---- the events of one history, on other terms
 
-pub same-under : (t : Terms) (h : History) → SameEvents (under t h) h
+same-under : (t : Terms) (h : History) → SameEvents (under t h) h
 same-under t h = record {
   count = refl;
   isWrite = λ e i. refl;

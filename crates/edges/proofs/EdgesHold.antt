@@ -26,7 +26,7 @@ use Rattle.store.specs.Outstanding.{outstanding, puts, toldDone, toldCopies}
 use Rattle.store.specs.Recorded.{rank, recorded, storeRecord}
 use Rattle.store.specs.Rehearsal.{rehearsalRefusal, storeAfter, recordOf}
 use Rattle.edges.specs.Events.{member, historyOfEvents}
-use Rattle.edges.specs.Cases.{Case, right, allRight, ofEmpty, ofRing, ofHistories, ofClocks, ofListing, ofDeliveries, ofCloses, ofCopies, ofBlock0, ofZeros, ofLacking, ofDifference, ofSecond, ofPast, ofFirst, ofOpenings, ofRefusals, edges}
+use Rattle.edges.specs.Cases.{Case, right, allRight, ofEmpty, ofRing, ofHistories, ofClocks, ofListing, ofDeliveries, ofCloses, ofCopies, ofBlock0, ofZeros, ofLacking, ofDifference, ofExceeded, ofSecond, ofPast, ofFirst, ofOpenings, ofRefusals, edges}
 
 also : (l m : List Case) → allRight l ≡ true → allRight m ≡ true → allRight (l ++ m) ≡ true
 unfolding allRight
@@ -90,6 +90,10 @@ difference-hold : allRight ofDifference ≡ true
 unfolding test
 difference-hold = refl
 
+exceeded-hold : allRight ofExceeded ≡ true
+unfolding test
+exceeded-hold = refl
+
 second-hold : allRight ofSecond ≡ true
 unfolding test
 second-hold = refl
@@ -124,7 +128,8 @@ edges-hold =
     (also ofZeros _ zeros-hold
     (also ofLacking _ lacking-hold
     (also ofDifference _ difference-hold
+    (also ofExceeded _ exceeded-hold
     (also ofSecond _ second-hold
     (also ofPast _ past-hold
     (also ofFirst _ first-hold
-    (also ofOpenings ofRefusals openings-hold refusals-hold)))))))))))))))
+    (also ofOpenings ofRefusals openings-hold refusals-hold))))))))))))))))

@@ -370,9 +370,13 @@ ofLacking =
     ∷ ruled (block0 gcr1 11 (1 ∷ [])) 1 (refused 5 0)
     ∷ []
 
--- four bytes of a difference that all count: 67,305,985 is 1, 2, 3, 4, lowest first
+-- four bytes of a difference that all count: 67,305,985 is 1, 2, 3, 4, lowest first; and no byte of the opening beside them
 abbrev pub ofDifference : List Case
 ofDifference = ruled (recordBytes gcr2 2 (under (differing 67305985) (reversed (returned 0 5) 1 67305990))) 3 met ∷ []
+
+abbrev pub ofExceeded : List Case
+ofExceeded =
+    ruled (recordBytes gcr2 2 (under (record { difference = 67305985; opening = opening 0 7 }) (reversed (returned 0 5) 1 67305991))) 3 (broken 0 1) ∷ []
 
 -- one event in either edition, of which the first has no room for the opening
 abbrev pub ofSecond : List Case
@@ -405,4 +409,4 @@ ofRefusals =
 
 -- the table, in parts that the checker computes one by one
 abbrev pub edges : List Case
-edges = ofEmpty ++ (ofRing ++ (ofHistories ++ (ofClocks ++ (ofListing ++ (ofDeliveries ++ (ofCloses ++ (ofCopies ++ (ofBlock0 ++ (ofZeros ++ (ofLacking ++ (ofDifference ++ (ofSecond ++ (ofPast ++ (ofFirst ++ (ofOpenings ++ ofRefusals)))))))))))))))
+edges = ofEmpty ++ (ofRing ++ (ofHistories ++ (ofClocks ++ (ofListing ++ (ofDeliveries ++ (ofCloses ++ (ofCopies ++ (ofBlock0 ++ (ofZeros ++ (ofLacking ++ (ofDifference ++ (ofExceeded ++ (ofSecond ++ (ofPast ++ (ofFirst ++ (ofOpenings ++ ofRefusals))))))))))))))))

@@ -66,11 +66,11 @@ module _ (l : List ℕ) (n w d : ℕ) (starts returns : List ℕ) where
       pub joining-early : i < length starts → (x : ℕ) → x ≡ startIn l (getD starts i 0) - d → (j : ℕ) → j < k → returnIn l (getD returns j 0) < x
       joining-early h x e j b = rw e (s .early j i b (omega arith) h)
 
-      pub joining-more : n ≤ 64 * w → w ≤ 8 → length t₀ ≡ n * w → i < length starts → (x k′ : ℕ) (far′ t′ : List ℕ) → x ≡ startIn l (getD starts i 0) - d
+      pub joining-more : n ≤ 64 * w → length t₀ ≡ n * w → i < length starts → (x k′ : ℕ) (far′ t′ : List ℕ) → x ≡ startIn l (getD starts i 0) - d
           → ReturnedBefore l returns (length returns) x k′ → Row n (taken returns k′) far′ → length far′ ≡ length far
           → RowPut w (getD starts i 0) (orRow (rowAt t w (getD starts i 0)) (rowAt far′ w 0)) t t′
           → Joining t₀ k′ (i + 1) far′ t′
-      joining-more many narrow full h x k′ far′ t′ e b u same put = record {
+      joining-more many full h x k′ far′ t′ e b u same put = record {
         passed = omega arith;
         within = b .within;
         early = λ j f p q g. omega (arith, b .passed j p, by-start .rising i f (omega arith) g);

@@ -20,7 +20,7 @@ pub fn put_again(t: &mut [u64], size: usize)
     }
 }
 
-// The time t less the difference d, or 0 where that would be less: a return before it is one that is before t with d added.
+// The time t less the difference d, or 0 where t is less: a return before that is one which, with d added, is before t.
 fn less(t: u64, d: u64) -> u64
     ensures { λ r. ⌜ r ≡ t - d ⌝ }
 {

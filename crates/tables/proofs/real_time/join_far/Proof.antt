@@ -97,7 +97,7 @@ loop-again c =
     let a = s .args in
     let f = q .join-before in
     joining-more (a .l .now) (a .n) (a .w) (a .difference) (a .starts .now) (a .returns .now) (s .pre .1 .0) (s .pre .1 .1) (a .t .now) (l .k) (l .i) (l .far) (l .t) (l .inv)
-    (s .pre .0 .1) (s .pre .0 .2) (s .pre .0 .3) (d .before .before .loop-test .taken) (e .less .result) (f .result) (f .last .1 .1 .1 .1 .1 .0) (p .last .0)
+    (s .pre .0 .1) (s .pre .0 .3) (d .before .before .loop-test .taken) (e .less .result) (f .result) (f .last .1 .1 .1 .1 .1 .0) (p .last .0)
     (e .less .ensures ∙ ap (λ (x : ℕ). x - a .difference) (d .start-time .ensures)) (f .ensures .0 .0) (f .ensures .0 .1) (f .ensures .1) (p .ensures)
 
 same-length : tie.Need-same-length Inv-loop μ-loop
