@@ -17,7 +17,8 @@ const uint8_t *largest_script(void);
  *   0  what that day leaves, begun with those openings
  *   1  one site's 256 events, each of which sees all before it
  *   2  record 1 with the times turned round, so that every event leads to itself by site order and visibility
- *   3  record 1 with event 0 seeing event 255: refused by question 10 */
+ *   3  record 1 with event 0 seeing event 255: refused by question 10
+ *   4  record 0 by clocks that may differ by 100 ms */
 const uint8_t *largest_record(size_t k);
 
 #endif

@@ -78,11 +78,13 @@ static int first_call_kept(void) {
     return kept("gcr_read, at first", stack_used(read_record, &asked), GCR_READ_STACK_BYTES);
 }
 
-/* The records take the long ways: two that are met, a break of predicate 10 at (0, 0), and a ring. */
+/* The records take the long ways: three that are met, of which one has clocks that differ, a break of predicate 10 at
+ * (0, 0), and a ring. */
 static int inputs_are_right(void) {
     uint64_t turned = gcr_judge_predicate(10, largest_record(2), GCR_RECORD_MOST);
     uint64_t ring = gcr_judge_predicate(10, largest_record(3), GCR_RECORD_MOST);
     return gcr_is_met(gcr_judge_model(4, largest_record(0), GCR_RECORD_MOST)) &&
+           gcr_is_met(gcr_judge_model(4, largest_record(4), GCR_RECORD_MOST)) && gcr_difference(largest_record(4)) &&
            gcr_is_met(gcr_judge_model(1, largest_record(1), GCR_RECORD_MOST)) && gcr_is_broken(turned) &&
            gcr_broken_a(turned) == 0 && gcr_broken_b(turned) == 0 && gcr_is_refused(ring) &&
            gcr_refused_number(ring) == 10;

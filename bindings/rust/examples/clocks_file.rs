@@ -13,7 +13,7 @@ fn judged(record: &[u8]) -> Result<String, Refusal> {
     Ok(format!("by {} ms: 3 {all}, 4 {writes}", difference(record)))
 }
 
-/// Where the record has a difference, it is judged by none before.
+/// Where the record has another difference than 0, it is judged by 0 before.
 fn compared(record: &[u8]) -> Result<String, Refusal> {
     let own = judged(record)?;
     match with_difference(record, 0) {

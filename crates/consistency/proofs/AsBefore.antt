@@ -60,7 +60,7 @@ pub record AsBefore (s : List ℕ) : Type 0 where
       ≡ first (countIn s) (outside (from (write (historyOf (editionOf s) s)) (rbBefore (historyOf (editionOf s) s))) (ar (historyOf (editionOf s) s)))
   -- rb, of which so, hb and predicates 5 to 12 are made
   pub times : (a b : ℕ) → rb (historyOf (editionOf s) s) a b ≡ rbBefore (historyOf (editionOf s) s) a b
-  -- all thirteen, whatever terms say of which they don't ask: 2 and 5 to 13 ask for none
+  -- all thirteen, on any terms that say the same of what the predicate is judged by; 2 and 5 to 13 are judged by none
   pub others : (p : Predicate) (t : Terms) → SameFor p t (historyOf (editionOf s) s .terms) → verdict p (under t (historyOf (editionOf s) s)) ≡ verdict p (historyOf (editionOf s) s)
 
 left-before : (h : History) → ((o : ℕ) → h .terms .opening o ≡ none) → (e : ℕ) (l : Last) → leftBy h e l ≡ leftBefore h l

@@ -1,4 +1,4 @@
--- Clocks: so goes by one site's own, rb is found without a sum, and a larger difference relates fewer events. Assumes nothing.
+-- Clocks: so goes by one site's own, and rb is found without a sum. Assumes nothing.
 use mathlib.Core.Path.{_≡_, refl, sym, ap, _∙_}
 use mathlib.Core.Bool.{Bool, true, false, cond, _&&_, _||_, and-true, and-false}
 use Prim.Native.Nat.{ℕ, _+_, _-_}

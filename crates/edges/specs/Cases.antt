@@ -370,10 +370,11 @@ ofLacking =
     ∷ ruled (block0 gcr1 11 (1 ∷ [])) 1 (refused 5 0)
     ∷ []
 
--- four bytes of a difference that all count: 67,305,985 is 1, 2, 3, 4, lowest first; and no byte of the opening beside them
+-- four bytes of a difference that all count: 67,305,985 is 1, 2, 3, 4, lowest first
 abbrev pub ofDifference : List Case
 ofDifference = ruled (recordBytes gcr2 2 (under (differing 67305985) (reversed (returned 0 5) 1 67305990))) 3 met ∷ []
 
+-- and no other does: a byte behind them is that of an opening
 abbrev pub ofExceeded : List Case
 ofExceeded =
     ruled (recordBytes gcr2 2 (under (record { difference = 67305985; opening = opening 0 7 }) (reversed (returned 0 5) 1 67305991))) 3 (broken 0 1) ∷ []
