@@ -17,14 +17,14 @@ use Rattle.rows.proofs.RowLaws.{has-past, row-empty, row-or, row-same}
 use Rattle.rows.proofs.TableLaws.{row-room, length-row, length-row-le, has-row}
 use Rattle.record.specs.Terms.{Terms}
 use Rattle.record.specs.History.{History, under, vis}
-use Rattle.record.specs.Words.{startIn, returnIn, historyFrom}
+use Rattle.record.specs.Words.{startIn, historyFrom}
 use Rattle.consistency.specs.Relations.{ob, rb, so, step, read, both, through}
 use Rattle.consistency.proofs.ClockLaws.{rb-even, rb-far}
 use Rattle.tables.specs.Tables.{part}
 use Rattle.tables.specs.Sweep.{InOrder, taken, ReturnedBefore, returnedIn, OneClock, Sweeps}
 use Rattle.tables.proofs.PartLaws.{front-given, same-later}
 use Rattle.tables.proofs.SweepLaws.{clock-front}
-use Rattle.tables.proofs.TakenLaws.{taken-none, taken-more, taken-returned}
+use Rattle.tables.proofs.TakenLaws.{Marks, marks-none, marks-more, taken-none, taken-more, taken-returned}
 
 -- a row of n events is in its first w words
 row-front : (n w : ℕ) (f : ℕ → Bool) (far : List ℕ) → n ≤ 64 * w → Row n f far → Row n f (rowAt far w 0)
@@ -40,9 +40,7 @@ module _ (l : List ℕ) (n w d : ℕ) (starts returns : List ℕ) where
 
   -- the rows of the first i starts are joined, and the first k returns are in the row `far`
   pub record Joining (t₀ : List ℕ) (k i : ℕ) (far t : List ℕ) : Type 0 where
-    pub passed : i ≤ length starts
-    pub within : k ≤ length returns
-    pub early : (j e : ℕ) → j < k → i ≤ e → e < length starts → returnIn l (getD returns j 0) < startIn l (getD starts e 0) - d
+    pub marks : Marks l starts returns d k i
     pub held : Row n (taken returns k) far
     pub wide : length far ≡ 8
     pub size : length t ≡ length t₀
@@ -51,9 +49,7 @@ module _ (l : List ℕ) (n w d : ℕ) (starts returns : List ℕ) where
   module _ (by-start : InOrder l n false starts (length starts)) (by-return : InOrder l n true returns (length returns)) (t₀ : List ℕ) where
     pub joining-none : Joining t₀ 0 0 (replicate 8 0) t₀
     joining-none = record {
-      passed = omega arith;
-      within = omega arith;
-      early = λ j e h. absurd (omega arith);
+      marks = marks-none l starts returns d;
       held = row-same n (λ x. false) (replicate 8 0) (row-empty n 8) (taken returns 0) (λ x h. sym (taken-none returns x));
       wide = length-replicate {A = ℕ} 8 0;
       size = refl;
@@ -62,18 +58,12 @@ module _ (l : List ℕ) (n w d : ℕ) (starts returns : List ℕ) where
     }
 
     module _ (k i : ℕ) (far t : List ℕ) (s : Joining t₀ k i far t) where
-      -- every return in the row so far is before the next start less the difference
-      pub joining-early : i < length starts → (x : ℕ) → x ≡ startIn l (getD starts i 0) - d → (j : ℕ) → j < k → returnIn l (getD returns j 0) < x
-      joining-early h x e j b = rw e (s .early j i b (omega arith) h)
-
       pub joining-more : n ≤ 64 * w → length t₀ ≡ n * w → i < length starts → (x k′ : ℕ) (far′ t′ : List ℕ) → x ≡ startIn l (getD starts i 0) - d
           → ReturnedBefore l returns (length returns) x k′ → Row n (taken returns k′) far′ → length far′ ≡ length far
           → RowPut w (getD starts i 0) (orRow (rowAt t w (getD starts i 0)) (rowAt far′ w 0)) t t′
           → Joining t₀ k′ (i + 1) far′ t′
       joining-more many full h x k′ far′ t′ e b u same put = record {
-        passed = omega arith;
-        within = b .within;
-        early = λ j f p q g. omega (arith, b .passed j p, by-start .rising i f (omega arith) g);
+        marks = marks-more l starts returns d k i (s .marks) h x e n k′ by-start b;
         held = u;
         wide = same ∙ s .wide;
         size = put .size ∙ s .size;

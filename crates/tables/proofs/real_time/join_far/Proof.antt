@@ -5,7 +5,8 @@ use native.Mathlib.Omega.{arith}
 use borrow.Author.Needs.{needs}
 use lib.ListN.{length, getD}
 use Rattle.rows.proofs.TableLaws.{row-room}
-use Rattle.tables.proofs.RealTimeLaws.{Joining, joining-none, joining-early, joining-more, joining-all}
+use Rattle.tables.proofs.TakenLaws.{marks-early}
+use Rattle.tables.proofs.RealTimeLaws.{Joining, joining-none, joining-more, joining-all}
 use Rattle.tables.proofs.real_time.join_far.Statement.{statement}
 use Rattle.tables.proofs.real_time.join_far.Tie as tie
 
@@ -59,8 +60,8 @@ join-before-requires c κs =
     let a = s .args in (
       (s .pre .0 .0, omega (arith, s .pre .0 .1, s .pre .0 .2, l .inv .wide), s .pre .1 .1),
       (
-        l .inv .within,
-        joining-early (a .l .now) (a .n) (a .w) (a .difference) (a .starts .now) (a .returns .now) (s .pre .1 .0) (s .pre .1 .1) (a .t .now) (l .k) (l .i) (l .far) (l .t) (l .inv)
+        l .inv .marks .within,
+        marks-early (a .l .now) (a .starts .now) (a .returns .now) (a .difference) (l .k) (l .i) (l .inv .marks)
             (d .before .before .loop-test .taken) (e .less .result) (e .less .ensures ∙ ap (λ (x : ℕ). x - a .difference) (d .start-time .ensures)),
         l .inv .held,
       ),
