@@ -61,7 +61,8 @@ pub fn clocks(n: usize) -> Rc<Input> {
     let mut record = side_by_side(n).apart(difference as u32);
     for event in &mut record.events {
         let ahead = difference / (SITES as u64 - 1) * u64::from(event.site);
-        (event.start, event.end) = (STEP * event.start + ahead, STEP * event.end + ahead);
+        event.start = STEP * event.start + ahead;
+        event.end = event.end.map(|end| STEP * end + ahead);
     }
     Input::new("clocks", n, record.to_bytes())
 }

@@ -27,7 +27,12 @@ pub struct Judged<'a> {
 
 impl<'a> Judged<'a> {
     pub fn new(record: &'a Record) -> Judged<'a> {
-        Judged { events: &record.events, openings: record.edition.openings(), relations: Relations::of(record) }
+        Judged::by(record, Relations::of(record))
+    }
+
+    /// With these relations in the place of the record's.
+    pub fn by(record: &'a Record, relations: Relations) -> Judged<'a> {
+        Judged { events: &record.events, openings: record.edition.openings(), relations }
     }
 
     /// The answer of a predicate numbered 1 to 13.
@@ -63,7 +68,7 @@ impl<'a> Judged<'a> {
 
     /// RVal's break: the lowest failing read with the write it should hold, or twice where it sees none.
     fn wrong_read(&self) -> Option<(usize, usize)> {
-        self.all().filter(|&e| self.events[e].is_read() && !self.events[e].pending).find_map(|e| {
+        self.all().filter(|&e| self.events[e].is_read() && !self.events[e].pending()).find_map(|e| {
             let last = self.last_visible_write(e);
             let due = match last {
                 Some(write) => self.events[write].value,
@@ -86,7 +91,7 @@ impl<'a> Judged<'a> {
         let differ = |a: usize, b: usize| vis.has(a, b) != ar.has(a, b);
         self.all().find_map(|a| {
             let seen = self.all().any(|b| vis.has(a, b));
-            let excused = self.events[a].pending && !seen;
+            let excused = self.events[a].pending() && !seen;
             let difference = self.all().find(|&b| differ(a, b));
             difference.filter(|_| !excused).map(|b| (a, b))
         })

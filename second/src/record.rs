@@ -33,11 +33,11 @@ pub struct Event {
     pub kind: Kind,
     pub site: u8,
     pub object: u8,
-    pub pending: bool,
     pub value: Option<u32>,
     pub position: u16,
     pub start: u64,
-    pub end: u64,
+    /// The return; a pending event has none.
+    pub end: Option<u64>,
     /// The events visible to this one.
     pub visible: EventSet,
 }
@@ -63,17 +63,7 @@ pub struct Record {
 
 impl Event {
     fn new(kind: Kind, site: u8, object: u8, value: Option<u32>) -> Event {
-        Event {
-            kind,
-            site,
-            object,
-            pending: false,
-            value,
-            position: 0,
-            start: 0,
-            end: 0,
-            visible: [false; MOST_EVENTS],
-        }
+        Event { kind, site, object, value, position: 0, start: 0, end: Some(0), visible: [false; MOST_EVENTS] }
     }
 
     pub fn write(site: u8, object: u8, value: u32) -> Event {
@@ -85,14 +75,13 @@ impl Event {
     }
 
     pub fn at(mut self, start: u64, end: u64) -> Event {
-        self.start = start;
-        self.end = end;
+        (self.start, self.end) = (start, Some(end));
         self
     }
 
     pub fn pending_from(mut self, start: u64) -> Event {
-        self.pending = true;
-        self.at(start, 0)
+        (self.start, self.end) = (start, None);
+        self
     }
 
     pub fn sees(mut self, events: &[usize]) -> Event {
@@ -110,17 +99,23 @@ impl Event {
         self.kind == Kind::Write
     }
 
+    pub fn pending(&self) -> bool {
+        self.end.is_none()
+    }
+
     pub fn to_slot(&self) -> [u8; SLOT_BYTES] {
         let mut slot = [0; SLOT_BYTES];
         slot[0] = self.is_write() as u8;
         slot[1] = self.site;
         slot[2] = self.object;
-        slot[3] = self.pending as u8;
+        slot[3] = self.pending() as u8;
         slot[4..8].copy_from_slice(&self.value.unwrap_or(0).to_le_bytes());
         slot[8] = self.value.is_some() as u8;
         slot[10..12].copy_from_slice(&self.position.to_le_bytes());
         slot[16..24].copy_from_slice(&self.start.to_le_bytes());
-        slot[24..32].copy_from_slice(&self.end.to_le_bytes());
+        if let Some(end) = self.end {
+            slot[24..32].copy_from_slice(&end.to_le_bytes());
+        }
         for event in (0..MOST_EVENTS).filter(|&event| self.visible[event]) {
             slot[32 + event / 8] |= 1 << (event % 8);
         }
@@ -131,8 +126,10 @@ impl Event {
     pub fn from_slot(slot: &[u8]) -> Event {
         let value = (slot[8] == 1).then(|| u32_at(slot, 4));
         let kind = if slot[0] == 1 { Kind::Write } else { Kind::Read };
-        let mut event = Event::new(kind, slot[1], slot[2], value).at(u64_at(slot, 16), u64_at(slot, 24));
-        event.pending = slot[3] == 1;
+        let mut event = Event::new(kind, slot[1], slot[2], value);
+        event.start = u64_at(slot, 16);
+        // The state says whether there is a return; what a pending event has in its place is not looked at.
+        event.end = (slot[3] == 0).then(|| u64_at(slot, 24));
         event.position = u16_at(slot, 10);
         event.visible = visible_of(slot);
         event

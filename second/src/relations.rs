@@ -63,18 +63,26 @@ pub struct Relations {
     pub hb: Pairs,
 }
 
-/// a returned before b. One site's events have one clock; those of two sites may differ.
+/// a returned before b: never where a is pending. One site's events have one clock; those of two sites may differ.
 pub fn returned_before(difference: u32, a: &Event, b: &Event) -> bool {
-    let needed = if a.site == b.site { 0 } else { difference };
-    !a.pending && u128::from(a.end) + u128::from(needed) < u128::from(b.start)
+    match a.end {
+        None => false,
+        Some(end) if a.site == b.site => end < b.start,
+        Some(end) => u128::from(end) + u128::from(difference) < u128::from(b.start),
+    }
 }
 
 impl Relations {
     pub fn of(record: &Record) -> Relations {
+        let difference = record.edition.difference();
+        Relations::by(record, |a, b| returned_before(difference, a, b))
+    }
+
+    /// By a rule of which event returned before which, right or wrong.
+    pub fn by(record: &Record, before: impl Fn(&Event, &Event) -> bool) -> Relations {
         let events = &record.events;
         let n = events.len();
-        let difference = record.edition.difference();
-        let rb = Pairs::such_that(n, |a, b| returned_before(difference, &events[a], &events[b]));
+        let rb = Pairs::such_that(n, |a, b| before(&events[a], &events[b]));
         let so = rb.cut(|a, b| events[a].site == events[b].site);
         let vis = Pairs::such_that(n, |a, b| events[b].visible[a]);
         let step = Pairs::such_that(n, |a, b| so.has(a, b) || vis.has(a, b));

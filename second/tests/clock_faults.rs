@@ -10,7 +10,7 @@ use second::predicates::Answer::{self, Broken, Met};
 use second::predicates::Judged;
 use second::questions::ask;
 use second::record::{seal, Record};
-use second::relations::{returned_before, Pairs};
+use second::relations::{returned_before, Relations};
 
 /// The right judge but for its rule of returned before.
 struct ByRule(Rule);
@@ -19,10 +19,8 @@ impl ByRule {
     fn answers(&self, bytes: &[u8]) -> Answers {
         let record = ask(bytes)?;
         let difference = record.edition.difference();
-        let mut judged = Judged::new(&record);
-        let events = &record.events;
-        judged.relations.rb = Pairs::such_that(events.len(), |a, b| self.0(difference, &events[a], &events[b]));
-        Ok(judged.answers())
+        let relations = Relations::by(&record, |a, b| self.0(difference, a, b));
+        Ok(Judged::by(&record, relations).answers())
     }
 }
 

@@ -286,7 +286,7 @@ fn neighbours_only(record: &Record, relations: &mut Relations) {
 
 fn pending_returned_at_zero(record: &Record, relations: &mut Relations) {
     let events = &record.events;
-    relations.rb = Pairs::such_that(events.len(), |a, b| events[a].end < events[b].start);
+    relations.rb = Pairs::such_that(events.len(), |a, b| events[a].end.unwrap_or(0) < events[b].start);
 }
 
 #[test]

@@ -42,24 +42,25 @@ pub const PENDING_AT_0: &str = "tells: pending as returned at 0";
 
 pub const WRONG_RULES: [(&str, Rule); 8] = [
     (NO_DIFFERENCE, |_, a, b| returned_before(0, a, b)),
-    (AT_DIFFERENCE, |difference, a, b| between(a, b, sum(difference, a) <= b.start.into())),
-    (NOT_ONE_ABOVE, |difference, a, b| between(a, b, sum(difference, a) + 1 < b.start.into())),
-    (SUM_WRAPS, |difference, a, b| between(a, b, a.end.wrapping_add(difference.into()) < b.start)),
-    (START_WRAPS, |difference, a, b| between(a, b, a.end < b.start.wrapping_sub(difference.into()))),
-    (AT_ONE_SITE, |difference, a, b| !a.pending && sum(difference, a) < b.start.into()),
+    (AT_DIFFERENCE, |difference, a, b| between(a, b, |end| sum(end, difference) <= b.start.into())),
+    (NOT_ONE_ABOVE, |difference, a, b| between(a, b, |end| sum(end, difference) + 1 < b.start.into())),
+    (SUM_WRAPS, |difference, a, b| between(a, b, |end| end.wrapping_add(difference.into()) < b.start)),
+    (START_WRAPS, |difference, a, b| between(a, b, |end| end < b.start.wrapping_sub(difference.into()))),
+    (AT_ONE_SITE, |difference, a, b| a.end.is_some_and(|end| sum(end, difference) < b.start.into())),
     (NOT_AT_ONE_SITE, |difference, a, b| a.site != b.site && returned_before(difference, a, b)),
-    (PENDING_AT_0, |difference, a, b| returned_before(difference, &Event { pending: false, ..a.clone() }, b)),
+    (PENDING_AT_0, |difference, a, b| returned_before(difference, &a.clone().at(a.start, a.end.unwrap_or(0)), b)),
 ];
 
-fn sum(difference: u32, a: &Event) -> u128 {
-    u128::from(a.end) + u128::from(difference)
+/// As a whole number that does not wrap.
+fn sum(end: u64, difference: u32) -> u128 {
+    u128::from(end) + u128::from(difference)
 }
 
-/// Wrong between sites alone.
-fn between(a: &Event, b: &Event, before: bool) -> bool {
+/// Wrong between sites alone, by what is said of a return.
+fn between(a: &Event, b: &Event, before: impl Fn(u64) -> bool) -> bool {
     match a.site == b.site {
         true => returned_before(0, a, b),
-        false => !a.pending && before,
+        false => a.end.is_some_and(before),
     }
 }
 

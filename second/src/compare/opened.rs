@@ -126,7 +126,7 @@ pub fn read_broken(record: &Record, answer: Answer, tally: &mut Tally) {
 /// What each returned read of a record holds beside its opening.
 pub fn reads(record: &Record, tally: &mut Tally) {
     let openings = record.edition.openings();
-    for read in record.events.iter().filter(|event| event.is_read() && !event.pending) {
+    for read in record.events.iter().filter(|event| event.is_read() && !event.pending()) {
         let opening = openings.of(read.object as usize);
         let sort = match last_write(record, read) {
             None => Some(sort_of_unwritten(read.value, opening)),

@@ -32,7 +32,7 @@ fn visible_bit(random: &mut Random, record: &mut Record) {
 
 /// RVal stands last in every model, so its edge needs a share of its own.
 fn read_value(random: &mut Random, record: &mut Record) {
-    let held = |event: &&mut Event| event.is_read() && !event.pending;
+    let held = |event: &&mut Event| event.is_read() && !event.pending();
     let openings = record.edition.openings();
     let mut reads: Vec<&mut Event> = record.events.iter_mut().filter(held).collect();
     if !reads.is_empty() {
@@ -83,8 +83,8 @@ fn field(random: &mut Random, event: &mut Event, others: &Record) {
         2 => event.value = value(random, event),
         3 => turn_kind(event),
         4 => turn_state(event),
-        5 => event.end = boundary(random, others).max(event.start),
-        6 => event.start = boundary(random, others).min(event.end),
+        5 => event.end = Some(boundary(random, others).max(event.start)),
+        6 => event.start = not_after(event.end, boundary(random, others)),
         _ => nudge(random, event),
     }
 }
@@ -109,29 +109,32 @@ fn turn_kind(event: &mut Event) {
 }
 
 fn turn_state(event: &mut Event) {
-    if event.pending {
-        event.pending = false;
-        event.end = event.start;
+    if event.pending() {
+        event.end = Some(event.start);
     } else {
         make_pending(event);
     }
+}
+
+/// A time, or the return where that comes sooner.
+fn not_after(end: Option<u64>, time: u64) -> u64 {
+    end.map_or(time, |end| time.min(end))
 }
 
 /// A time on, just before or just after some event's start or return, or as far from it as clocks may differ.
 fn boundary(random: &mut Random, others: &Record) -> u64 {
     let other = &others.events[random.index(others.events.len())];
     let difference = random.pick(&[0, others.edition.difference() as u64]);
-    let time = match random.chance(50) {
-        true => other.start.saturating_sub(difference),
-        false => other.end.saturating_add(difference),
+    let time = match (random.chance(50), other.end) {
+        (false, Some(end)) => end.saturating_add(difference),
+        _ => other.start.saturating_sub(difference),
     };
     random.pick(&[time, time.saturating_sub(1), time.saturating_add(1)])
 }
 
 fn nudge(random: &mut Random, event: &mut Event) {
-    if event.pending || random.chance(50) {
-        event.start = event.start.saturating_sub(1);
-    } else {
-        event.end = event.end.saturating_add(1);
+    match event.end {
+        Some(end) if !random.chance(50) => event.end = Some(end.saturating_add(1)),
+        _ => event.start = event.start.saturating_sub(1),
     }
 }

@@ -31,8 +31,9 @@ fn near_a_gap(random: &mut Random, events: &[Event]) -> Option<u32> {
 fn drawn_gap(random: &mut Random, events: &[Event]) -> Option<(bool, u64)> {
     let mut draw = || events.get(random.index(events.len().max(1)));
     let (a, b) = (draw()?, draw()?);
-    let between = a.site != b.site && !a.pending && a.end < b.start;
-    between.then(|| (a.position > b.position, b.start - a.end))
+    let end = a.end?;
+    let between = a.site != b.site && end < b.start;
+    between.then(|| (a.position > b.position, b.start - end))
 }
 
 /// Lets the sites' clocks differ, and the record tell by how much at most: each event comes later by what its site's
@@ -52,14 +53,12 @@ pub fn set_apart(random: &mut Random, record: &mut Record) {
 
 /// The latest time of all becomes the largest there is, so that sums with it go past 64 bits.
 pub fn move_to_the_end(record: &mut Record) {
-    let latest = record.events.iter().map(|event| event.start.max(event.end)).max().unwrap_or(0);
+    let times = record.events.iter().flat_map(|event| [Some(event.start), event.end]).flatten();
+    let latest = times.max().unwrap_or(0);
     record.events.iter_mut().for_each(|event| move_by(event, u64::MAX - latest));
 }
 
-/// A pending event's return stays 0.
 fn move_by(event: &mut Event, later: u64) {
     event.start += later;
-    if !event.pending {
-        event.end += later;
-    }
+    event.end = event.end.map(|end| end + later);
 }

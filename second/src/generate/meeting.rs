@@ -84,7 +84,7 @@ fn add_what_is_asked(record: &mut Record, predicate: u32) {
 
 /// Pending events are left out for the whole record, others seen by all later ones.
 fn single_order(record: &mut Record, b: usize, c: usize) {
-    record.events[c].visible[b] = !record.events[b].pending;
+    record.events[c].visible[b] = !record.events[b].pending();
 }
 
 fn inclusion(record: &mut Record, predicate: u32, b: usize, c: usize) {

@@ -72,7 +72,7 @@ fn times(random: &mut Random, record: &mut Record) {
     let pending = random.pick(&[0, 0, 15, 50]);
     for (k, event) in (0u64..).zip(record.events.iter_mut()) {
         let (start, end) = span(random, style, k, n);
-        (event.start, event.end) = (start, end);
+        (event.start, event.end) = (start, Some(end));
         if random.chance(pending) {
             make_pending(event);
         }
@@ -94,8 +94,7 @@ fn span(random: &mut Random, style: u64, k: u64, n: u64) -> (u64, u64) {
 }
 
 pub fn make_pending(event: &mut Event) {
-    event.pending = true;
-    event.end = 0;
+    event.end = None;
     if event.kind == Kind::Read {
         event.value = None;
     }
@@ -173,7 +172,7 @@ fn opening_or_none(random: &mut Random, record: &mut Record, event: usize) {
     let openings = record.edition.openings();
     let read = &mut record.events[event];
     if random.chance(40) && read.is_read() {
-        let opening = openings.of(read.object as usize).filter(|_| !read.pending);
+        let opening = openings.of(read.object as usize).filter(|_| !read.pending());
         read.value = opening.filter(|_| random.chance(50));
     }
 }
@@ -181,7 +180,7 @@ fn opening_or_none(random: &mut Random, record: &mut Record, event: usize) {
 /// Gives a returned read the value of the last visible write of its object, or else the opening.
 pub fn hold_right_value(record: &mut Record, event: usize) {
     let read = &record.events[event];
-    if read.is_read() && !read.pending {
+    if read.is_read() && !read.pending() {
         let seen = (0..record.events.len().min(MOST_EVENTS)).filter(|&w| read.visible[w]);
         let writes = seen.map(|w| &record.events[w]).filter(|w| w.is_write() && w.object == read.object);
         let last = writes.max_by_key(|write| write.position);

@@ -60,7 +60,7 @@ impl Facts<'_> {
             ("event # does not see event #", &[b, a]) => !vis.has(a, b),
             ("event # sees event #", &[b, a]) => vis.has(a, b),
             ("event # would have to see itself", &[a]) => !vis.has(a, a),
-            ("event # is pending, but event # sees it", &[a, c]) => events[a].pending && vis.has(a, c),
+            ("event # is pending, but event # sees it", &[a, c]) => events[a].pending() && vis.has(a, c),
             ("event #, an earlier read at event #'s site, sees event #", &[read, b, a]) => {
                 earlier_read(read, b) && vis.has(a, read)
             }
@@ -133,7 +133,9 @@ impl Facts<'_> {
     fn times(&self, (a, end): (usize, usize), (b, start): (usize, usize), by: usize) -> bool {
         let (first, second) = (&self.record.events[a], &self.record.events[b]);
         let skew = if first.site == second.site { 0 } else { self.record.edition.difference() };
-        self.relations.rb.has(a, b) && (first.end, second.start) == (end as u64, start as u64) && skew as usize == by
+        self.relations.rb.has(a, b)
+            && (first.end, second.start) == (Some(end as u64), start as u64)
+            && skew as usize == by
     }
 
     /// `event 2 holds 7, not 8`: the value that the read has, and the one that its last visible write has, or where there
@@ -148,7 +150,7 @@ impl Facts<'_> {
             Some(write) => self.record.events[write].value,
             None => self.opening(object),
         };
-        read.is_read() && !read.pending && held != due && text(read.value) == held && text(right) == due
+        read.is_read() && !read.pending() && held != due && text(read.value) == held && text(right) == due
     }
 
     fn opening(&self, object: usize) -> Option<u32> {
