@@ -37,7 +37,7 @@ feature() {
 # Seeds of each comparer in a CI run, in which a spawned program costs a millisecond or two. Records are of two editions
 # that may be wrong in many places, and half of the scripts have closes, after which little is late or lacking. With
 # these every answer that a comparer must meet occurs twenty times and more.
-seeds=$((4000 * share))
+seeds=$((5000 * share))
 
 # The linked build has a target folder of its own, or both would undo each other.
 compare() {

@@ -118,7 +118,7 @@ fn large_with_differences() -> Vec<Named<Vec<u8>>> {
 #[test]
 fn judges_clocks_alike_in_turn() {
     let mut columns = Columns::new();
-    for (name, bytes) in sweeps::clocks().into_iter().chain(large_with_differences()) {
+    for (name, bytes) in [sweeps::clocks(), sweeps::never_returned(), large_with_differences()].concat() {
         let record = ask(&bytes).expect("passes");
         prepare(&bytes, &mut columns).expect("both pass it");
         let broken = columns.all_broken().map(|pair| pair.map_or(Met, |(a, b)| Broken(a, b)));

@@ -17,7 +17,7 @@ use std::collections::{BTreeMap, BTreeSet};
 #[test]
 fn every_refusal_at_many_places() {
     let mut places: BTreeMap<u32, Vec<u32>> = BTreeMap::new();
-    for seed in 0..4_000 {
+    for seed in 0..5_000 {
         if let Err(refusal) = ask(&record(seed).bytes) {
             places.entry(refusal.number).or_default().push(refusal.place);
         }
@@ -36,7 +36,7 @@ fn every_predicate_met_and_broken() {
     let mut met = [0; 13];
     let mut broken = [0; 13];
     let mut twice = [0; 13];
-    for seed in 0..4_000 {
+    for seed in 0..5_000 {
         let Ok(record) = ask(&record(seed).bytes) else { continue };
         if record.events.len() > 24 {
             continue;
@@ -86,8 +86,9 @@ fn assert_all_occur(lists: &[&[Row]], seeds: u64, count: impl FnMut(u64, &mut Ta
 #[test]
 fn every_answer_of_records() {
     let of_models = [must_occur::MODELS, must_occur::MODEL_CLOCKS];
-    let lists = [&of_models[..], &[must_occur::EDITIONS, must_occur::READS, must_occur::CLOCKS]].concat();
-    assert_all_occur(&lists, 4_000, |seed, tally| {
+    let of_records = [must_occur::EDITIONS, must_occur::READS, must_occur::CLOCKS, must_occur::RETURNS];
+    let lists = [&of_models[..], &of_records].concat();
+    assert_all_occur(&lists, 5_000, |seed, tally| {
         let bytes = record(seed).bytes;
         models::count(&bytes, &answers(&bytes), tally);
         answered::number_given(14, tally);
@@ -97,7 +98,7 @@ fn every_answer_of_records() {
 #[test]
 fn every_answer_of_calls_and_rehearsals() {
     let lists = [must_occur::REHEARSAL, must_occur::STORE_OPENINGS, must_occur::CALLS];
-    assert_all_occur(&lists, 4_000, |seed, tally| {
+    assert_all_occur(&lists, 5_000, |seed, tally| {
         let given = scripts::rehearsal(seed);
         let (mut record, mut answers) = (vec![0; given.record_bytes], vec![0; given.answer_bytes]);
         let outcome = rehearse(given.sites, &given.openings, &given.script, &mut record, &mut answers);
@@ -108,7 +109,7 @@ fn every_answer_of_calls_and_rehearsals() {
 #[test]
 fn every_answer_of_the_rehearsing_program() {
     let lists = [must_occur::REHEARSE, must_occur::STORE_OPENINGS, must_occur::CALLS];
-    assert_all_occur(&lists, 4_000, |seed, tally| {
+    assert_all_occur(&lists, 5_000, |seed, tally| {
         programs::rehearse_due(&scripts::program_input(seed), tally);
     });
 }

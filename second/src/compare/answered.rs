@@ -2,7 +2,7 @@
 
 use super::copies::{calls_answered, Copies};
 use super::tally::Tally;
-use super::{clocks, opened};
+use super::{clocks, opened, returned, states};
 use crate::models::{first_broken, Answers, MODELS};
 use crate::predicates::{Answer, PREDICATES};
 use crate::questions::Refusal;
@@ -55,16 +55,17 @@ pub fn reading(refusal: Option<Refusal>, tally: &mut Tally) {
     }
 }
 
-/// A reading of a record, with its edition.
+/// A reading of a record, with its edition and its states.
 pub fn record(bytes: &[u8], refusal: Option<Refusal>, tally: &mut Tally) {
     reading(refusal, tally);
     edition(bytes, refusal, tally);
 }
 
-/// What block 0 of a record says, and what refused it.
+/// What block 0 of a record says, which slot goes wrong between state and return, and what refused it.
 pub fn edition(bytes: &[u8], refusal: Option<Refusal>, tally: &mut Tally) {
     opened::edition(bytes, refusal, tally);
     clocks::read(bytes, refusal, tally);
+    states::read(bytes, refusal, tally);
 }
 
 /// A reading and what was found of the predicates, with what the record's reads hold and its difference makes.
@@ -76,6 +77,7 @@ pub fn judged(bytes: &[u8], answers: &Answers, tally: &mut Tally) {
         opened::reads(&record, tally);
         opened::read_broken(&record, answers[0], tally);
         clocks::judged(&record, answers, tally);
+        returned::judged(&record, answers, tally);
     }
 }
 

@@ -38,9 +38,8 @@ pub const SUM_WRAPS: &str = "tells: return + difference wraps";
 pub const START_WRAPS: &str = "tells: start - difference wraps";
 pub const AT_ONE_SITE: &str = "tells: difference at one site too";
 pub const NOT_AT_ONE_SITE: &str = "tells: never before at one site";
-pub const PENDING_AT_0: &str = "tells: pending as returned at 0";
 
-pub const WRONG_RULES: [(&str, Rule); 8] = [
+pub const WRONG_RULES: [(&str, Rule); 7] = [
     (NO_DIFFERENCE, |_, a, b| returned_before(0, a, b)),
     (AT_DIFFERENCE, |difference, a, b| between(a, b, |end| sum(end, difference) <= b.start.into())),
     (NOT_ONE_ABOVE, |difference, a, b| between(a, b, |end| sum(end, difference) + 1 < b.start.into())),
@@ -48,11 +47,10 @@ pub const WRONG_RULES: [(&str, Rule); 8] = [
     (START_WRAPS, |difference, a, b| between(a, b, |end| end < b.start.wrapping_sub(difference.into()))),
     (AT_ONE_SITE, |difference, a, b| a.end.is_some_and(|end| sum(end, difference) < b.start.into())),
     (NOT_AT_ONE_SITE, |difference, a, b| a.site != b.site && returned_before(difference, a, b)),
-    (PENDING_AT_0, |difference, a, b| returned_before(difference, &a.clone().at(a.start, a.end.unwrap_or(0)), b)),
 ];
 
 /// As a whole number that does not wrap.
-fn sum(end: u64, difference: u32) -> u128 {
+pub fn sum(end: u64, difference: u32) -> u128 {
     u128::from(end) + u128::from(difference)
 }
 

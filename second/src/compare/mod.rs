@@ -13,6 +13,8 @@ pub mod opened;
 pub mod programs;
 pub mod reader;
 pub mod rehearsal;
+pub mod returned;
+pub mod states;
 pub mod subject;
 pub mod tally;
 

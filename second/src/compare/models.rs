@@ -21,6 +21,7 @@ pub fn compare(subject: &dyn Judge, seeds: &Seeds, tally: &mut Tally) {
     tally.occurrences.must(must_occur::EDITIONS);
     tally.occurrences.must(must_occur::READS);
     tally.occurrences.must(must_occur::CLOCKS);
+    tally.occurrences.must(must_occur::RETURNS);
     tally.occurrences.must(must_occur::MODEL_CLOCKS);
     one_record(subject, &named("empty".to_string(), &[]), tally);
     for sample in samples::records() {
@@ -29,7 +30,7 @@ pub fn compare(subject: &dyn Judge, seeds: &Seeds, tally: &mut Tally) {
     for (name, bytes) in sweeps::block_0() {
         one_record(subject, &named(name, &bytes), tally);
     }
-    for (name, bytes) in sweeps::clocks() {
+    for (name, bytes) in sweeps::clocks().into_iter().chain(sweeps::never_returned()) {
         let case = named(name, &bytes);
         one_record(subject, &case, tally);
         metamorphic::differences(subject, &case, tally);

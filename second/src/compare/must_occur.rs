@@ -4,6 +4,8 @@ use super::answered::*;
 use super::clocks::*;
 use super::occurrences::Row;
 use super::opened::*;
+use super::returned::TOLD;
+use super::states::*;
 
 /// The numbers of predicates, and of models.
 const THIRTEEN: &[u32] = &[1, 2, 3, 4, 5, 6, 7, 8, 9, 10, 11, 12, 13];
@@ -37,6 +39,9 @@ pub const EDITIONS: &[Row] = &[
     (ALL_OPENINGS, &[0]),
     (DIFFERENCE, &[0, 4, 5, 6, 7, 8, 9, 10]),
     (DIFFERENCE_IN_GCR1, &[4, 5]),
+    (PENDING_WITH_RETURN, &[1, 2, u32::MAX]),
+    (RETURNED_AT_0, &[7]),
+    (NO_STATE, &[7]),
 ];
 
 /// Of every record that is judged: what RVal meets.
@@ -71,8 +76,10 @@ pub const CLOCKS: &[Row] = &[
     (START_WRAPS, REAL_TIME),
     (AT_ONE_SITE, REAL_TIME),
     (NOT_AT_ONE_SITE, REAL_TIME),
-    (PENDING_AT_0, REAL_TIME),
 ];
+
+/// And what tells each case of rb.
+pub const RETURNS: &[Row] = &TOLD;
 
 /// The models that have one of these two in their lists.
 pub const MODEL_CLOCKS: &[Row] = &[(MODEL_MET_BY_IT, &[1, 2, 5])];

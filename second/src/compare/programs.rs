@@ -34,6 +34,7 @@ pub fn verdict(program: &Path, seeds: &Seeds, tally: &mut Tally) {
     tally.occurrences.must(must_occur::EDITIONS);
     tally.occurrences.must(must_occur::READS);
     tally.occurrences.must(must_occur::CLOCKS);
+    tally.occurrences.must(must_occur::RETURNS);
     records(program, verdict_due, seeds, tally);
 }
 
@@ -95,7 +96,8 @@ fn records(program: &Path, due: Due, seeds: &Seeds, tally: &mut Tally) {
     for sample in samples::records() {
         one(program, due, sample.name, &sample.bytes, tally);
     }
-    for (name, bytes) in sweeps::block_0_of_programs().into_iter().chain(sweeps::clocks()) {
+    let fixed = [sweeps::block_0_of_programs(), sweeps::clocks(), sweeps::never_returned()].concat();
+    for (name, bytes) in fixed {
         one(program, due, name, &bytes, tally);
     }
     seeds.each(tally, |seed, tally| {

@@ -21,7 +21,8 @@ pub fn compare(subject: &dyn Reader, seeds: &Seeds, tally: &mut Tally) {
         let case = Case { name: format!("reader-{}", sample.name), input: &sample.bytes };
         one_record(subject, 0, &case, tally);
     }
-    for (name, bytes) in sweeps::block_0().into_iter().chain(sweeps::clocks()) {
+    let fixed = [sweeps::block_0(), sweeps::clocks(), sweeps::never_returned()].concat();
+    for (name, bytes) in fixed {
         one_record(subject, 0, &Case { name: format!("reader-{name}"), input: &bytes }, tally);
     }
     seeds.each(tally, |seed, tally| {

@@ -14,7 +14,7 @@ enum Damage {
 
 /// Those of late questions stand here more than once, as earlier damage hides theirs, and so does length, which may
 /// leave no letters.
-const DAMAGES: [Damage; 23] = [
+const DAMAGES: [Damage; 25] = [
     Length(length),
     Length(length),
     Bytes(block_check),
@@ -27,7 +27,9 @@ const DAMAGES: [Damage; 23] = [
     Bytes(header_numbers),
     Length(block_count),
     Bytes(slot_field),
-    Bytes(slot_field),
+    Bytes(state_or_return),
+    Bytes(state_or_return),
+    Bytes(state_or_return),
     Bytes(past_the_events),
     Bytes(block_tail),
     Bytes(position),
@@ -204,18 +206,47 @@ fn slot_field(random: &mut Random, bytes: &mut [u8]) {
     let Some(event) = first_or_any(random, bytes) else { return };
     let sites = bytes[6];
     let slot = slot_mut(bytes, event);
-    match random.below(9) {
+    match random.below(7) {
         0 => slot[0] = random.pick(&[2, 3, 128, 255, 1, 0]),
         1 => slot[1] = random.pick(&[sites, sites.wrapping_add(1), 8, 255]),
-        2 => slot[3] = random.pick(&[2, 128, 255, 1, 0]),
-        3 => slot[8] = random.pick(&[2, 255, 0, 1]),
-        4 => slot[random.pick(&[9, 12, 13, 14, 15])] = 1 << random.below(8),
-        5 => slot[24..32].copy_from_slice(&random.pick(&[0u64, 1, u64::MAX]).to_le_bytes()),
-        6 => return_before_start(slot),
-        7 => pending_with_value(random, slot),
+        2 => slot[8] = random.pick(&[2, 255, 0, 1]),
+        3 => slot[random.pick(&[9, 12, 13, 14, 15])] = 1 << random.below(8),
+        4 => return_before_start(slot),
+        5 => pending_with_value(random, slot),
         _ => (slot[8], slot[4 + random.index(4)]) = (0, 1 << random.below(8)),
     }
     seal(bytes);
+}
+
+/// Pending with a return, returned without one, or neither.
+fn state_or_return(random: &mut Random, bytes: &mut [u8]) {
+    let Some(event) = first_or_any(random, bytes) else { return };
+    let slot = slot_mut(bytes, event);
+    match random.below(10) {
+        0..=2 => slot[3] = random.pick(&[2, 128, 255, 1, 0]),
+        3 => slot[24..32].copy_from_slice(&random.pick(&[0u64, 1, u64::MAX]).to_le_bytes()),
+        4..=5 => return_at_0(slot),
+        _ => pending_with_return(random, slot),
+    }
+    seal(bytes);
+}
+
+/// The rest as it should be.
+fn pending_with_return(random: &mut Random, slot: &mut [u8]) {
+    slot[3] = 1;
+    if slot[0] == 0 {
+        slot[4..9].fill(0);
+    }
+    let end = random.pick(&[1, u64_at(slot, 16).max(2), u64::MAX]);
+    slot[24..32].copy_from_slice(&end.to_le_bytes());
+}
+
+/// As a pending event looks that is taken as returned.
+fn return_at_0(slot: &mut [u8]) {
+    let start = u64_at(slot, 16).max(1);
+    slot[16..24].copy_from_slice(&start.to_le_bytes());
+    slot[3] = 0;
+    slot[24..32].fill(0);
 }
 
 /// Just below the start, where the start allows it.

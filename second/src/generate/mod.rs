@@ -6,6 +6,7 @@ pub mod damage;
 pub mod meeting;
 pub mod openings;
 pub mod random;
+pub mod returns;
 pub mod scripts;
 pub mod shapes;
 pub mod sweeps;
@@ -24,12 +25,13 @@ pub struct Sample {
 type Family = fn(&mut Random) -> Vec<u8>;
 
 /// Each family with its share of a hundred seeds.
-const FAMILIES: [(u64, &str, Family); 8] = [
-    (16, "small", small),
+const FAMILIES: [(u64, &str, Family); 9] = [
+    (6, "small", small),
+    (10, "returns", at_returns),
     (21, "edge", edge),
-    (28, "damaged", damaged),
+    (30, "damaged", damaged),
     (18, "block-0", block_0),
-    (5, "bit", one_bit),
+    (3, "bit", one_bit),
     (4, "large", large),
     (4, "large-edge", large_edge),
     (4, "rehearsed", rehearsed),
@@ -50,6 +52,11 @@ pub fn record(seed: u64) -> Sample {
 fn small(random: &mut Random) -> Vec<u8> {
     let n = random.below(7) as usize;
     shapes::of_either_edition(random, n).to_bytes()
+}
+
+fn at_returns(random: &mut Random) -> Vec<u8> {
+    let n = 3 + random.below(3) as usize;
+    returns::record(random, n).to_bytes()
 }
 
 fn large(random: &mut Random) -> Vec<u8> {

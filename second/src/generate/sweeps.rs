@@ -82,7 +82,8 @@ fn unwritten_of(edition: Edition) -> Record {
 
 /// Two events against arbitration, the later one starting so long after the other's return: at two sites or at one,
 /// early and at the end of time, the first one pending or not. The differences have one bit each, none and all. Between
-/// sites 3 and 4 are broken only where the later one starts beyond the difference.
+/// sites 3 and 4 are broken only where the later one starts beyond the difference, at one site where it starts after the
+/// return.
 pub fn clocks() -> Vec<Named<Vec<u8>>> {
     let differences = (0..32).map(|bit| 1 << bit).chain([0, u32::MAX]);
     differences.flat_map(of_difference).map(|(name, record)| (name, record.to_bytes())).collect()
@@ -97,15 +98,51 @@ fn of_difference(difference: u32) -> Vec<Named<Record>> {
     let write = |site| Event::write(site, 0, 1);
     let last = u64::MAX;
     vec![
+        pair("well-within", write(0).at(0, 4), write(1).at(3 + within, last)),
         pair("within", write(0).at(0, 3), write(1).at(3 + within, last)),
         pair("beyond", write(0).at(0, 3), write(1).at(3 + beyond, last)),
         pair("one-site", write(1).at(0, 3), write(1).at(4, last)),
+        pair("last-at-one-site", write(1).at(0, last - 1), write(1).at(last, last)),
+        pair("last-but-one-at-one-site", write(1).at(0, last - 2), write(1).at(last - 1, last)),
+        pair("at-once", write(1).at(0, 3), write(1).at(3, last)),
+        pair("at-once-at-the-end", write(1).at(0, last), write(1).at(last, last)),
+        pair("at-once-before-the-end", write(1).at(0, last - 1), write(1).at(last - 1, last)),
         pair("pending", write(0).pending_from(0), write(1).at(beyond, last)),
+        pair("pending-to-the-end", write(0).pending_from(0), write(1).at(last, last)),
+        pair("pending-to-the-beginning", write(0).pending_from(last), write(1).at(0, 0)),
+        pair("pending-then-same-site", write(1).pending_from(0), write(1).at(last, last)),
         pair("within-at-the-end", write(1).at(0, last - within), write(0).at(last, last)),
         pair("beyond-at-the-end", write(1).at(0, last - beyond), write(0).at(last, last)),
+        pair("just-past-the-end", write(1).at(0, last - within.saturating_sub(1)), write(0).at(last, last)),
         pair("past-the-end", write(1).at(0, last), write(0).at(last, last)),
         pair("before-the-beginning", write(1).at(0, 0), write(0).at(0, 0)),
     ]
+}
+
+/// A write and a read that never returned. All of 3 to 12 are met. Had the two returned before the others of their site
+/// start, all would be broken where they stand last in arbitration, and all but 4 and 7 where the write stands first.
+pub fn never_returned() -> Vec<Named<Vec<u8>>> {
+    let mut all = Vec::new();
+    for start in [0, 1, 5, u64::MAX - 1, u64::MAX] {
+        for (place, positions) in [("last", [4, 3, 2, 1, 0]), ("first", [0, 4, 3, 2, 1])] {
+            let record = two_pending(start).with_positions(&positions);
+            all.push((format!("never-returned-{start}-{place}"), record.to_bytes()));
+            all.push((format!("never-returned-{start}-{place}-apart"), record.apart(u32::MAX).to_bytes()));
+        }
+    }
+    all
+}
+
+/// The read sees a write of another site, and the events that start later see nothing.
+fn two_pending(start: u64) -> Record {
+    let events = vec![
+        Event::write(0, 0, 1).pending_from(0),
+        Event::read(0, 0, None).pending_from(0).sees(&[2]),
+        Event::write(1, 0, 2).at(0, u64::MAX),
+        Event::read(0, 0, None).at(start, u64::MAX),
+        Event::write(0, 0, 3).at(start, u64::MAX),
+    ];
+    Record::in_order(2, events)
 }
 
 fn turned(bytes: &[u8], at: usize) -> Vec<u8> {
