@@ -39,7 +39,7 @@ impl Case {
 
 pub fn all() -> Vec<Case> {
     let (records, disordered, opened) = (records(), disordered(), SIZES.map(inputs::opened));
-    let clocks = SIZES.map(inputs::clocks);
+    let (clocks, pending) = (SIZES.map(inputs::clocks), SIZES.map(inputs::pending));
     let passing = || records.iter().chain(&disordered).chain(&opened);
     let mut all: Vec<Case> = passing().chain(&rings()).map(read).collect();
     for &predicate in Predicate::ALL {
@@ -49,7 +49,7 @@ pub fn all() -> Vec<Case> {
     for predicate in [Predicate::RealTime, Predicate::RealTimeWrites] {
         all.extend(clocks.iter().map(|record| judge_predicate(predicate, record)));
     }
-    all.extend(passing().chain(&clocks).map(judge_all));
+    all.extend(passing().chain(&clocks).chain(&pending).map(judge_all));
     all.extend(passing().map(judge_model));
     all.extend(scripts().iter().map(rehearse));
     all

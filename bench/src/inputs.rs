@@ -67,6 +67,15 @@ pub fn clocks(n: usize) -> Rc<Input> {
     Input::new("clocks", n, record.to_bytes())
 }
 
+/// The same events, where no read returned. These are before nothing, and hold no value.
+pub fn pending(n: usize) -> Rc<Input> {
+    let mut record = side_by_side(n);
+    for event in record.events.iter_mut().filter(|event| event.is_read()) {
+        (event.end, event.value) = (None, None);
+    }
+    Input::new("pending", n, record.to_bytes())
+}
+
 /// Every object opens with a figure. Eight sites side by side as in `sparse`, but a read is of an object that the next
 /// site writes, and which it does not see written: it holds the opening. 2 and 13 are broken.
 pub fn opened(n: usize) -> Rc<Input> {
@@ -248,6 +257,7 @@ mod tests {
             assert_eq!(broken(&sparse(n)), [2]);
             assert_eq!(broken(&opened(n)), [2, 13]);
             assert_eq!(broken(&clocks(n)), [2]);
+            assert_eq!(broken(&pending(n)), [2]);
         }
         assert_eq!(broken(&rehearsed()), [2, 3, 4, 13]);
         assert_eq!(broken(&by_site()), [2, 3, 4, 13]);
@@ -270,6 +280,14 @@ mod tests {
         // By one clock 3 and 4 would be broken.
         let one_clock = ask(&clocks(256).bytes).expect("passes").apart(0);
         assert_eq!(broken(&Input::new("one clock", 256, one_clock.to_bytes())), [2, 3, 4]);
+    }
+
+    #[test]
+    fn half_of_the_events_never_returned() {
+        for n in [16, 64, 256] {
+            let record = ask(&pending(n).bytes).expect("passes");
+            assert_eq!(record.events.iter().filter(|event| event.pending()).count(), n / 2);
+        }
     }
 
     #[test]
