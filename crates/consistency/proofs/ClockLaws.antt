@@ -7,7 +7,7 @@ use borrow.Author.Tests.{lt-ltb, ltb-true}
 use lib.Dec.{ltb}
 use Rattle.rows.proofs.Tests.{split, same-test}
 use Rattle.record.specs.History.{History}
-use Rattle.consistency.specs.Relations.{ss, skew, rb, so}
+use Rattle.consistency.specs.Relations.{ss, rb, so}
 
 -- a returned before the time t, by one clock
 abbrev pub returned : History → ℕ → ℕ → Bool
@@ -25,20 +25,17 @@ module _ (h : History) (a b : ℕ) where
   d = h .terms .difference
 
   at-one-site : ss h a b ≡ true → rb h a b ≡ returned h a (h .start b)
-  unfolding rb skew
-  at-one-site e = rw e (ap (λ (r : ℕ). cond (h .isPending a) false (ltb r (h .start b))) (omega arith))
+  unfolding rb
+  at-one-site e = rw e refl
 
   between-sites : ss h a b ≡ false → rb h a b ≡ returned h a (h .start b - h .terms .difference)
-  unfolding rb skew
+  unfolding rb
   between-sites e = rw e (ap (λ (t : Bool). cond (h .isPending a) false t) (sum-left (h .return a) d (h .start b)))
 
   pub rb-even : h .terms .difference ≡ 0 → rb h a b ≡ returned h a (h .start b)
-  unfolding rb skew
-  rb-even e = ap (λ (x : ℕ). cond (h .isPending a) false (ltb x (h .start b))) (go (ss h a b))
-    where
-      go : (t : Bool) → h .return a + cond t 0 (h .terms .difference) ≡ h .return a
-      go true = omega arith
-      go false = omega (arith, e)
+  rb-even e =
+      split (ss h a b) at-one-site
+      (λ f. between-sites f ∙ ap (returned h a) (omega (arith, e)))
 
   pub so-own : so h a b ≡ returned h a (h .start b) && ss h a b
   unfolding so

@@ -1,8 +1,9 @@
--- What follows. What users should know: MetIffHolds, BrokenIff, HappensBefore, SameVerdict, OtherClocks, AsBefore.
+-- What follows. What users should know: MetIffHolds, BrokenIff, HappensBefore, ReturnsBefore, SameVerdict, OtherClocks, AsBefore.
 pub mod FirstPairLaws
 pub mod LastWriteLaws
 pub mod MetIffHolds
 pub mod HappensBefore
+pub mod ReturnsBefore
 pub mod ClockLaws
 pub mod SameVerdict
 pub mod OtherClocks

@@ -1,15 +1,14 @@
 -- The same events and openings, under clocks that differ by more or less: all but predicates 3 and 4 have the same verdict, and what a smaller difference
 -- met, a larger meets. Assumes nothing.
 use mathlib.Core.Path.{_≡_, refl, sym, ap₂, _∙_}
-use mathlib.Core.Bool.{Bool, true, false, cond, _||_, true≢false}
+use mathlib.Core.Bool.{Bool, true, false, _||_, true≢false}
 use mathlib.Core.List.{List, [], _∷_}
-use Prim.Native.Nat.{ℕ, _+_, _<_, _≤_}
+use Prim.Native.Nat.{ℕ, _-_, _<_, _≤_}
 use native.Mathlib.Omega.{arith}
 use borrow.Author.Tests.{lt-ltb, ltb-true}
-use lib.Dec.{ltb}
-use Rattle.rows.proofs.Tests.{and-both, and-left, and-right}
-use Rattle.record.specs.History.{History, under}
-use Rattle.consistency.specs.Relations.{ss, skew, rb, ar, write, from}
+use Rattle.rows.proofs.Tests.{split, or-elim, or-left, or-right, and-both, and-left, and-right}
+use Rattle.record.specs.History.{History}
+use Rattle.consistency.specs.Relations.{rb, so, ar, write, from}
 use Rattle.consistency.specs.Predicates.{rule, byClocks, verdict, numbered}
 use Rattle.consistency.specs.Holds.{Holds, Obeys, Within}
 use Rattle.consistency.specs.Models.{timed, orElse, firstBroken}
@@ -18,8 +17,9 @@ use Rattle.consistency.specs.declared.Verdict.the-variants.{Met, Broken}
 use Rattle.consistency.specs.declared.Outcome.the-variants.{AllMet}
 use Rattle.consistency.specs.declared.Predicate.{Predicate}
 use Rattle.consistency.specs.declared.Predicate.the-variants.{RVal, SingleOrder, RealTime, RealTimeWrites, MonotonicReads, ReadYourWrites, MonotonicWrites, WritesFollowReads, Pram, CausalVisibility, CausalArbitration, PerObjectPram, PerObjectSingleOrder}
+use Rattle.consistency.proofs.ClockLaws.{returned, rb-far}
 use Rattle.consistency.proofs.MetIffHolds.{met-holds, within-met}
-use Rattle.consistency.proofs.SameVerdict.{SameEvents, SameFor, on-terms, rb-same, ar-same, verdict-for}
+use Rattle.consistency.proofs.SameVerdict.{SameEvents, SameFor, so-same, ar-same, verdict-for}
 
 module _ (h k : History) (s : SameEvents h k) (o : SameFor RVal (h .terms) (k .terms)) where
   -- ---- all but 3 and 4
@@ -55,16 +55,19 @@ module _ (h k : History) (s : SameEvents h k) (o : SameFor RVal (h .terms) (k .t
   -- ---- a larger difference
 
   module _ (more : h .terms .difference ≤ k .terms .difference) where
-    less : (p t : Bool) (r x : ℕ) → cond p false (ltb (r + cond t 0 (k .terms .difference)) x) ≡ true → cond p false (ltb (r + cond t 0 (h .terms .difference)) x) ≡ true
-    less true t r x e = e
-    less false true r x e = e
-    less false false r x e = lt-ltb (r + h .terms .difference) x (omega (arith, more, ltb-true (r + k .terms .difference) x e))
+    sooner : (a b : ℕ) → a < h .count → b < h .count → returned k a (k .start b - k .terms .difference) ≡ true → returned h a (h .start b - h .terms .difference) ≡ true
+    sooner a b i j e =
+        split (h .isPending a)
+        (λ p. absurd (true≢false (sym e ∙ rw (sym (s .isPending a i) ∙ p) refl)))
+        (λ p. let f = ltb-true (k .return a) (k .start b - k .terms .difference) (rw (sym (s .isPending a i) ∙ p) at e) in
+        rw p (lt-ltb (h .return a) (h .start b - h .terms .difference) (omega (arith, more, s .return a i p, s .start b j, f))))
 
     rb-less : (a b : ℕ) → a < h .count → b < h .count → rb k a b ≡ true → rb h a b ≡ true
-    unfolding rb skew ss
     rb-less a b i j e =
-        less (h .isPending a) (ss h a b) (h .return a) (h .start b)
-        (rb-same (under (k .terms) h) k (on-terms (k .terms) h (under (h .terms) k) s) refl a b i j ∙ e)
+        rb-far h a b
+        ∙ or-elim (returned k a (k .start b - k .terms .difference)) (so k a b) (sym (rb-far k a b) ∙ e)
+        (λ f. or-left (returned h a (h .start b - h .terms .difference)) (so h a b) (sooner a b i j f))
+        (λ f. or-right (returned h a (h .start b - h .terms .difference)) (so h a b) (so-same h k s a b i j ∙ f))
 
     -- for every pair, or only those that begin in a set
     within-ar : (f g : ℕ → Bool) → ((a : ℕ) → a < h .count → f a ≡ g a) → Within (h .count) (from f (rb h)) (ar h) → Within (k .count) (from g (rb k)) (ar k)

@@ -9,12 +9,13 @@ use native.Mathlib.Nat.{le-refl}
 use lib.Dec.{ltb, eqb}
 use Rattle.rows.specs.Lowest.{some}
 use Rattle.rows.specs.Relation.{Rel, reaches}
+use Rattle.rows.proofs.Tests.{split}
 use Rattle.rows.proofs.LowestLaws.{same-some}
 use Rattle.rows.proofs.ReachLaws.{reaches-same}
 use Rattle.record.specs.Terms.{none, value, Terms, SameTerms}
 use Rattle.record.specs.History.{History, under, vis, Agree}
 use Rattle.consistency.specs.FirstPair.{first}
-use Rattle.consistency.specs.Relations.{ss, ob, skew, rb, so, ar, step, hb, read, from, to, both, through}
+use Rattle.consistency.specs.Relations.{ss, ob, rb, so, ar, step, hb, read, from, to, both, through}
 use Rattle.consistency.specs.Reads.{candidate, later, lastBelow, lastWrite, sameHeld, held, leftBy, expected, wrongRead, lastOr, wrong}
 use Rattle.consistency.specs.Predicates.{Rule, last-value, _within_, _fits_, rule, differ, breaks, verdict, numbered}
 use Rattle.consistency.specs.Models.{orElse, firstBroken}
@@ -28,9 +29,19 @@ use Rattle.consistency.proofs.ClockLaws.{returned, so-own}
 
 -- ---- what is said the same
 
--- of the events
-abbrev pub SameEvents : History → History → Type 0
-SameEvents h k = Agree h (under (h .terms) k)
+-- of the events; of a return, where there is one
+pub record SameEvents (h k : History) : Type 0 where
+  pub count : h .count ≡ k .count
+  pub isWrite : (e : ℕ) → e < h .count → h .isWrite e ≡ k .isWrite e
+  pub site : (e : ℕ) → e < h .count → h .site e ≡ k .site e
+  pub object : (e : ℕ) → e < h .count → h .object e ≡ k .object e
+  pub isPending : (e : ℕ) → e < h .count → h .isPending e ≡ k .isPending e
+  pub isPresent : (e : ℕ) → e < h .count → h .isPresent e ≡ k .isPresent e
+  pub value : (e : ℕ) → e < h .count → h .value e ≡ k .value e
+  pub position : (e : ℕ) → e < h .count → h .position e ≡ k .position e
+  pub start : (e : ℕ) → e < h .count → h .start e ≡ k .start e
+  pub return : (e : ℕ) → e < h .count → h .isPending e ≡ false → h .return e ≡ k .return e
+  pub sees : (e b : ℕ) → e < h .count → b < h .count → h .sees e b ≡ k .sees e b
 
 -- of the terms that a predicate is judged by
 abbrev pub SameFor : Predicate → Terms → Terms → Type 0
@@ -48,12 +59,9 @@ SameFor CausalArbitration t u = Unit
 SameFor PerObjectPram t u = Unit
 SameFor PerObjectSingleOrder t u = Unit
 
-same-terms : (t : Terms) → SameTerms t t
-same-terms t = record { difference = refl; opening = λ o. refl }
-
--- whatever the terms that both are put on
-pub on-terms : (t : Terms) (h k : History) → Agree h k → Agree (under t h) (under t k)
-on-terms t h k s = record {
+-- what histories that say the same of all say of the events
+same-events : (h k : History) → Agree h k → SameEvents h k
+same-events h k s = record {
   count = s .count;
   isWrite = s .isWrite;
   site = s .site;
@@ -63,9 +71,8 @@ on-terms t h k s = record {
   value = s .value;
   position = s .position;
   start = s .start;
-  return = s .return;
+  return = λ e i p. s .return e i;
   sees = s .sees;
-  terms = same-terms t;
 }
 
 same-for : (t u : Terms) → SameTerms t u → (p : Predicate) → SameFor p t u
@@ -108,6 +115,10 @@ wider : (m n : ℕ) (l : Last) → m ≤ n → LastIn m l → LastIn n l
 wider m n Nothing h s = tt
 wider m n (At w) h s = omega arith
 
+-- a pending event is before nothing, whatever would be asked of its return
+unless-pending : {p q x y : Bool} → p ≡ q → (p ≡ false → x ≡ y) → cond p false x ≡ cond q false y
+unless-pending {p} {q} {x} {y} e f = split p (λ t. rw (t, sym e ∙ t) refl) (λ t. rw (t, sym e ∙ t) (f t))
+
 module _ (h k : History) (s : SameEvents h k) where
   abbrev Same : Rel → Rel → Type 0
   Same = Alike (h .count)
@@ -127,16 +138,17 @@ module _ (h k : History) (s : SameEvents h k) where
 
   -- by one clock, and so at one site
   returned-same : (a b : ℕ) → a < h .count → b < h .count → returned h a (h .start b) ≡ returned k a (k .start b)
-  returned-same a b i j = ap₂ (λ (p t : Bool). cond p false t) (s .isPending a i) (ap₂ ltb (s .return a i) (s .start b j))
+  returned-same a b i j = unless-pending (s .isPending a i) (λ p. ap₂ ltb (s .return a i p) (s .start b j))
 
-  so-same : Same (so h) (so k)
+  pub so-same : Same (so h) (so k)
   so-same a b i j = so-own h a b ∙ ap₂ _&&_ (returned-same a b i j) (ss-same a b i j) ∙ sym (so-own k a b)
 
-  pub rb-same : h .terms .difference ≡ k .terms .difference → Same (rb h) (rb k)
-  unfolding rb skew
+  rb-same : h .terms .difference ≡ k .terms .difference → Same (rb h) (rb k)
+  unfolding rb
   rb-same e a b i j =
-      ap₂ (λ (p t : Bool). cond p false t) (s .isPending a i)
-      (ap₂ ltb (ap₂ _+_ (s .return a i) (ap₂ (λ (t : Bool) (x : ℕ). cond t 0 x) (ss-same a b i j) e)) (s .start b j))
+      unless-pending (s .isPending a i)
+      (λ p. ap₂ (λ (t : Bool) (r : ℕ). cond t (ltb r (h .start b)) (ltb (r + h .terms .difference) (h .start b))) (ss-same a b i j) (s .return a i p)
+      ∙ ap₂ (λ (x d : ℕ). cond (ss k a b) (ltb (k .return a) x) (ltb (k .return a + d) x)) (s .start b j) e)
 
   vis-same : Same (vis h) (vis k)
   unfolding vis
@@ -247,17 +259,38 @@ module _ (h k : History) (s : SameEvents h k) where
 
 module _ (h k : History) (s : Agree h k) where
   pub verdict-same : (p : Predicate) → verdict p h ≡ verdict p k
-  verdict-same p = verdict-for h k (on-terms (h .terms) h k s) p (same-for (h .terms) (k .terms) (s .terms) p)
+  verdict-same p = verdict-for h k (same-events h k s) p (same-for (h .terms) (k .terms) (s .terms) p)
 
   pub firstBroken-same : (ps : List ℕ) → firstBroken ps h ≡ firstBroken ps k
   unfolding firstBroken
   firstBroken-same [] = refl
   firstBroken-same (p ∷ ps) = ap₂ (orElse p) (verdict-same (numbered p)) (firstBroken-same ps)
 
--- ---- the events of one history, on other terms
+-- ---- the events of one history, on other terms, and with other numbers where there is no return
 
-same-under : (t : Terms) (h : History) → SameEvents (under t h) h
-same-under t h = record {
+-- h, but for the returns
+abbrev pub returning : (ℕ → ℕ) → History → History
+returning r h = record {
+  count = h .count;
+  isWrite = h .isWrite;
+  site = h .site;
+  object = h .object;
+  isPending = h .isPending;
+  isPresent = h .isPresent;
+  value = h .value;
+  position = h .position;
+  start = h .start;
+  return = r;
+  sees = h .sees;
+  terms = h .terms;
+}
+
+-- the same returns, of the events that have one
+abbrev pub SameReturns : (ℕ → ℕ) → History → Type 0
+SameReturns r h = (e : ℕ) → e < h .count → h .isPending e ≡ false → r e ≡ h .return e
+
+same-but : (t : Terms) (r : ℕ → ℕ) (h : History) → SameReturns r h → SameEvents (returning r (under t h)) h
+same-but t r h s = record {
   count = refl;
   isWrite = λ e i. refl;
   site = λ e i. refl;
@@ -267,13 +300,21 @@ same-under t h = record {
   value = λ e i. refl;
   position = λ e i. refl;
   start = λ e i. refl;
-  return = λ e i. refl;
+  return = s;
   sees = λ e b i j. refl;
-  terms = same-terms t;
 }
+
+same-under : (t : Terms) (h : History) → SameEvents (under t h) h
+same-under t h = same-but t (h .return) h (λ e i p. refl)
 
 pub verdict-under : (t : Terms) (h : History) (p : Predicate) → SameFor p t (h .terms) → verdict p (under t h) ≡ verdict p h
 verdict-under t h = verdict-for (under t h) h (same-under t h)
 
 pub write-under : (t : Terms) (h : History) (e : ℕ) → e < h .count → lastWrite (under t h) e ≡ lastWrite h e
 write-under t h = write-same (under t h) h (same-under t h)
+
+-- no verdict goes by a number that stands where a pending event has no return
+pub no-stand-in : (r : ℕ → ℕ) (h : History) → SameReturns r h → (p : Predicate) → verdict p (returning r h) ≡ verdict p h
+no-stand-in r h s p =
+    verdict-for (returning r h) h (same-but (h .terms) r h s) p
+    (same-for (h .terms) (h .terms) (record { difference = refl; opening = λ o. refl }) p)

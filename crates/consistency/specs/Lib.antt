@@ -1,6 +1,7 @@
 -- What a verdict means.
 pub mod FirstPair
 pub mod Relations
+pub mod ReturnsBefore
 pub mod Reads
 pub mod Predicates
 pub mod Holds

@@ -13,13 +13,15 @@ ss h a b = eqb (h .site a) (h .site b)
 unfoldable pub ob : History → Rel
 ob h a b = eqb (h .object a) (h .object b)
 
--- by how much the clocks of a's and b's sites may differ: one site's clock not at all
-unfoldable pub skew : History → ℕ → ℕ → ℕ
-skew h a b = cond (ss h a b) 0 (h .terms .difference)
-
--- rb: a returned before b, by more than their clocks may differ. A pending event returned before nothing
+-- rb, returns-before, the survey's a.rtime < b.stime, by cases: a pending event has no such time, and two sites' clocks may differ
 unfoldable pub rb : History → Rel
-rb h a b = cond (h .isPending a) false (ltb (h .return a + skew h a b) (h .start b))
+rb h a b =
+    -- first event pending: it is before nothing
+    cond (h .isPending a) false
+    -- same site: one clock
+    (cond (ss h a b) (ltb (h .return a) (h .start b))
+    -- other site: by more than the two clocks may differ
+    (ltb (h .return a + h .terms .difference) (h .start b)))
 
 -- so: rb and ss, so of one site's own clock
 unfoldable pub so : History → Rel

@@ -15,7 +15,7 @@ use Rattle.record.specs.Slots.{placeRight, valueRight, timesRight, gapsRight, e
 use Rattle.record.specs.Questions.{lengthRight, termsRight, headerRight, blocksRight, wrongPosition, wrongSet, onRing, byteQuestions, setQuestions, questions}
 use Rattle.record.specs.Encode.{littleBytes, bits, setBytes, slotBytes, figureBytes, openingBytes, termsBytes, withTerms, withSlots, sealed, unsealed, recordBytes}
 use Rattle.consistency.specs.FirstPair.{firstLeft, first}
-use Rattle.consistency.specs.Relations.{ss, ob, skew, rb, so, ar, step, hb, through}
+use Rattle.consistency.specs.Relations.{ss, ob, rb, so, ar, step, hb, through}
 use Rattle.consistency.specs.Reads.{candidate, lastBelow, lastWrite, expected, wrongRead, wrong}
 use Rattle.consistency.specs.Predicates.{rule, breaks, verdict, numbered}
 use Rattle.consistency.specs.Models.{firstBroken}
@@ -26,7 +26,7 @@ use Rattle.store.specs.Outstanding.{outstanding, puts, toldDone, toldCopies}
 use Rattle.store.specs.Recorded.{rank, recorded, storeRecord}
 use Rattle.store.specs.Rehearsal.{rehearsalRefusal, storeAfter, recordOf}
 use Rattle.edges.specs.Events.{member, historyOfEvents}
-use Rattle.edges.specs.Cases.{Case, right, allRight, ofEmpty, ofRing, ofHistories, ofClocks, ofListing, ofDeliveries, ofCloses, ofCopies, ofBlock0, ofZeros, ofLacking, ofDifference, ofExceeded, ofSecond, ofPast, ofFirst, ofOpenings, ofRefusals, edges}
+use Rattle.edges.specs.Cases.{Case, right, allRight, ofEmpty, ofRing, ofHistories, ofClocks, ofLargest, ofListing, ofDeliveries, ofCloses, ofCopies, ofBlock0, ofZeros, ofLacking, ofDifference, ofExceeded, ofSecond, ofPast, ofFirst, ofOpenings, ofRefusals, edges}
 
 also : (l m : List Case) → allRight l ≡ true → allRight m ≡ true → allRight (l ++ m) ≡ true
 unfolding allRight
@@ -39,7 +39,7 @@ also (c ∷ l) m e f = go (right c) (allRight l) (allRight (l ++ m)) e (λ g. al
 
 -- the test of a part: to unfold it is to unfold all that the cases ask
 unfoldable test : List Case → Bool
-unfolding searchFrom lowest some sum digit bitOf hasByte little via reaches zeros same sumA sumB blockRight historyOf vis placeRight valueRight timesRight gapsRight eventRight tailRight slotRight lengthRight openingIn openingsRight termsRight headerRight blocksRight wrongPosition wrongSet onRing byteQuestions setQuestions questions littleBytes bits setBytes slotBytes figureBytes openingBytes termsBytes withTerms withSlots sealed unsealed recordBytes firstLeft first ss ob skew rb so ar step hb through candidate lastBelow lastWrite expected wrongRead wrong rule breaks verdict numbered firstBroken judgedList judged predicateJudgment packedJudgments callAt callsFrom callsOf reached refusal copiesOf allCopies afterCopy afterCopies copied effect afterCall run total doneAnswer answer answers rank recorded storeRecord rehearsalRefusal storeAfter recordOf outstanding puts toldDone toldCopies member historyOfEvents right allRight
+unfolding searchFrom lowest some sum digit bitOf hasByte little via reaches zeros same sumA sumB blockRight historyOf vis placeRight valueRight timesRight gapsRight eventRight tailRight slotRight lengthRight openingIn openingsRight termsRight headerRight blocksRight wrongPosition wrongSet onRing byteQuestions setQuestions questions littleBytes bits setBytes slotBytes figureBytes openingBytes termsBytes withTerms withSlots sealed unsealed recordBytes firstLeft first ss ob rb so ar step hb through candidate lastBelow lastWrite expected wrongRead wrong rule breaks verdict numbered firstBroken judgedList judged predicateJudgment packedJudgments callAt callsFrom callsOf reached refusal copiesOf allCopies afterCopy afterCopies copied effect afterCall run total doneAnswer answer answers rank recorded storeRecord rehearsalRefusal storeAfter recordOf outstanding puts toldDone toldCopies member historyOfEvents right allRight
 test cs = allRight cs
 
 empty-hold : allRight ofEmpty ≡ true
@@ -57,6 +57,10 @@ histories-hold = refl
 clocks-hold : allRight ofClocks ≡ true
 unfolding test
 clocks-hold = refl
+
+largest-hold : allRight ofLargest ≡ true
+unfolding test
+largest-hold = refl
 
 listing-hold : allRight ofListing ≡ true
 unfolding test
@@ -120,6 +124,7 @@ edges-hold =
     (also ofRing _ ring-hold
     (also ofHistories _ histories-hold
     (also ofClocks _ clocks-hold
+    (also ofLargest _ largest-hold
     (also ofListing _ listing-hold
     (also ofDeliveries _ deliveries-hold
     (also ofCloses _ closes-hold
@@ -132,4 +137,4 @@ edges-hold =
     (also ofSecond _ second-hold
     (also ofPast _ past-hold
     (also ofFirst _ first-hold
-    (also ofOpenings ofRefusals openings-hold refusals-hold))))))))))))))))
+    (also ofOpenings ofRefusals openings-hold refusals-hold)))))))))))))))))

@@ -1,5 +1,5 @@
 -- The table: a history, a record's bytes, or a script, with a question and its answer.
-use mathlib.Core.Bool.{Bool, true, cond, _&&_}
+use mathlib.Core.Bool.{Bool, true, false, not, cond, _&&_}
 use mathlib.Core.List.{List, [], _∷_, _++_}
 use Prim.Native.Nat.{ℕ, _+_, _*_, _-_}
 use lib.Dec.{eqb}
@@ -10,6 +10,7 @@ use Rattle.record.specs.Layout.{Layout, gcr1, gcr2, editionOf, same}
 use Rattle.record.specs.History.{History, under}
 use Rattle.record.specs.Encode.{openingBytes, sealed, unsealed, recordBytes}
 use Rattle.record.specs.Terms.{Held, none, value, Terms}
+use Rattle.consistency.specs.Relations.{rb}
 use Rattle.consistency.specs.Predicates.{numbered, verdict}
 use Rattle.judge.specs.Judgments.{predicateJudgment, packedJudgment, packedJudgments}
 use Rattle.judge.specs.Lists.{packedVerdict}
@@ -30,6 +31,8 @@ opening object v o = cond (eqb o object) (value v) none
 pub data Case : Type 0 where
   -- the check sums A and B of a one-block record
   checked : (s : List ℕ) (a b : ℕ) → Case
+  -- whether a is rb before b
+  before : (h : History) (a b : ℕ) (answer : Bool) → Case
   -- a predicate's verdict on a history, as the host's number
   decided : (h : History) (predicate answer : ℕ) → Case
   -- what a judging call answers of a record's bytes, all questions asked, as the host's number: for a predicate, and for all thirteen
@@ -44,6 +47,7 @@ pub data Case : Type 0 where
 
 unfoldable pub right : Case → Bool
 right (checked s a b) = eqb (little 2 s 508) a && eqb (little 2 s 510) b
+right (before h a b answer) = cond answer (rb h a b) (not (rb h a b))
 right (decided h p answer) = eqb (packedVerdict (verdict (numbered p) h)) answer
 right (ruled s p answer) = eqb (packedJudgment (predicateJudgment (editionOf s) 1024 p s)) answer
 right (thirteen s numbers) = same (packedJudgments (editionOf s) 1024 13 s) numbers
@@ -93,7 +97,7 @@ reversed first site t =
 abbrev differing : ℕ → Terms
 differing d = record { difference = d; opening = λ o. none }
 
--- the largest number of 32 bits, and of 64
+-- the largest difference that its field carries, and the largest time
 abbrev most32 : ℕ
 most32 = 4294967295
 
@@ -267,41 +271,54 @@ ofHistories =
     ∷ decided foresight 10 (broken 0 0)
     ∷ []
 
--- 3 and 4 of events 0 and 1 on a difference of clocks
-abbrev clocked : ℕ → Time → ℕ → ℕ → ℕ → List Case → List Case
+-- whether event 0 is rb before event 1 on a difference of clocks, and with that 3 and 4, which are broken where it is
+abbrev clocked : ℕ → Time → ℕ → ℕ → Bool → List Case → List Case
 clocked d first site t answer rest =
-    decided (under (differing d) (reversed first site t)) 3 answer
-    ∷ decided (under (differing d) (reversed first site t)) 4 answer
+    before (under (differing d) (reversed first site t)) 0 1 answer
+    ∷ decided (under (differing d) (reversed first site t)) 3 (cond answer (broken 0 1) met)
+    ∷ decided (under (differing d) (reversed first site t)) 4 (cond answer (broken 0 1) met)
     ∷ rest
 
-abbrev between : ℕ → Time → ℕ → ℕ → List Case → List Case
-between d first t = clocked d first 1 t
+abbrev otherSite : ℕ → Time → ℕ → Bool → List Case → List Case
+otherSite d first t = clocked d first 1 t
 
-abbrev atOne : ℕ → Time → ℕ → ℕ → List Case → List Case
-atOne d first t = clocked d first 0 t
+abbrev sameSite : ℕ → Time → ℕ → Bool → List Case → List Case
+sameSite d first t = clocked d first 0 t
 
--- between sites by more than the difference, or not, also where the sum has more than 64 bits and where a start is less than the difference. At one site
--- no difference counts, for so neither; and a pending event returned before nothing
+-- the three cases of rb: between sites by more than the difference, or not, also where a start is less than the difference; at one site no difference
+-- counts, for so neither; and a pending event is before nothing
 abbrev pub ofClocks : List Case
 ofClocks =
-    between 0 (returned 0 5) 5 met
-    (between 0 (returned 0 5) 6 (broken 0 1)
-    (between 4 (returned 0 5) 10 (broken 0 1)
-    (between 5 (returned 0 5) 10 met
-    (atOne 4 (returned 0 5) 10 (broken 0 1)
-    (atOne 5 (returned 0 5) 10 (broken 0 1)
-    (atOne most32 (returned 0 5) 5 met
-    (atOne most32 (returned 0 5) 6 (broken 0 1)
-    (between most32 (returned 0 (most64 - 1)) most64 met
-    (atOne most32 (returned 0 (most64 - 1)) most64 (broken 0 1)
-    (between most32 (returned 0 0) most32 met
-    (between most32 (returned 0 0) (most32 + 1) (broken 0 1)
-    (between most32 (returned 0 0) 1 met
-    (between 0 (pending 0) 10 met
-    (between 4 (pending 0) 10 met
-    (atOne 4 (pending 0) 10 met
+    otherSite 0 (returned 0 5) 5 false
+    (otherSite 0 (returned 0 5) 6 true
+    (otherSite 4 (returned 0 5) 10 true
+    (otherSite 5 (returned 0 5) 10 false
+    (sameSite 4 (returned 0 5) 10 true
+    (sameSite 5 (returned 0 5) 10 true
+    (sameSite most32 (returned 0 5) 5 false
+    (sameSite most32 (returned 0 5) 6 true
+    (otherSite most32 (returned 0 0) most32 false
+    (otherSite most32 (returned 0 0) (most32 + 1) true
+    (otherSite most32 (returned 0 0) 1 false
+    (otherSite 0 (pending 0) 10 false
+    (otherSite 4 (pending 0) 10 false
+    (sameSite 4 (pending 0) 10 false
     (decided (under (differing most32) forgetful) 5 (broken 0 2)
-    ∷ []))))))))))))))))
+    ∷ []))))))))))))))
+
+-- the same where times and difference are the largest that their fields carry: pending; one less than the start, and the start itself; and, with the
+-- difference added, one less than the start, the start itself, and a sum of more than 64 bits
+abbrev pub ofLargest : List Case
+ofLargest =
+    otherSite most32 (pending most64) most64 false
+    (sameSite most32 (pending most64) most64 false
+    (sameSite most32 (returned 0 (most64 - 1)) most64 true
+    (sameSite most32 (returned 0 most64) most64 false
+    (otherSite most32 (returned 0 (most64 - most32 - 1)) most64 true
+    (otherSite most32 (returned 0 (most64 - most32)) most64 false
+    (otherSite most32 (returned 0 (most64 - 1)) most64 false
+    (otherSite most32 (returned 0 most64) most64 false
+    [])))))))
 
 abbrev pub ofListing : List Case
 ofListing =
@@ -410,4 +427,4 @@ ofRefusals =
 
 -- the table, in parts that the checker computes one by one
 abbrev pub edges : List Case
-edges = ofEmpty ++ (ofRing ++ (ofHistories ++ (ofClocks ++ (ofListing ++ (ofDeliveries ++ (ofCloses ++ (ofCopies ++ (ofBlock0 ++ (ofZeros ++ (ofLacking ++ (ofDifference ++ (ofExceeded ++ (ofSecond ++ (ofPast ++ (ofFirst ++ (ofOpenings ++ ofRefusals))))))))))))))))
+edges = ofEmpty ++ (ofRing ++ (ofHistories ++ (ofClocks ++ (ofLargest ++ (ofListing ++ (ofDeliveries ++ (ofCloses ++ (ofCopies ++ (ofBlock0 ++ (ofZeros ++ (ofLacking ++ (ofDifference ++ (ofExceeded ++ (ofSecond ++ (ofPast ++ (ofFirst ++ (ofOpenings ++ ofRefusals)))))))))))))))))

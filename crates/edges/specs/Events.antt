@@ -40,6 +40,7 @@ abbrev pub startOf : Time → ℕ
 startOf (returned s r) = s
 startOf (pending s) = s
 
+-- what a record has in the return's field: zeros where there is no return
 abbrev pub returnOf : Time → ℕ
 returnOf (returned s r) = r
 returnOf (pending s) = 0

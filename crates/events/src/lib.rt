@@ -1,6 +1,6 @@
 // The fields of an event, read from its four words, and terms, read from block 0's. The reader loads these words, and the judge reads from them.
 ghost use mathlib.Core.Path.{_≡_};
-ghost use mathlib.Core.Bool.{_&&_};
+ghost use mathlib.Core.Bool.{false, _&&_};
 ghost use Prim.Native.Nat.{_+_, _*_, _≤_, _<_};
 ghost use lib.Dec.{ltb};
 ghost use lib.ListN.{length};
@@ -63,8 +63,9 @@ pub fn start_time(l: &[u64], e: usize) -> u64
     l[4 * e + 2]
 }
 
+// A pending event has no return: its word is not read.
 pub fn return_time(l: &[u64], e: usize) -> u64
-    requires { ⌜ 4 * e + 4 ≤ length (now l) ⌝ }
+    requires { ⌜ (4 * e + 4 ≤ length (now l)) × (isPendingIn (now l) e ≡ false) ⌝ }
     ensures { λ r. ⌜ r ≡ returnIn (now (l .entry)) e ⌝ }
 {
     l[4 * e + 3]

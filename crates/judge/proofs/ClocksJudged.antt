@@ -1,6 +1,6 @@
 -- Of two passing records that differ in the difference of clocks alone: lists without predicates 3 and 4 have one answer, and what the smaller difference
 -- met, the larger meets. Assumes nothing.
-use mathlib.Core.Path.{_≡_, refl, sym, ap, ap₂, _∙_, subst}
+use mathlib.Core.Path.{_≡_, sym, ap, ap₂, _∙_, subst}
 use mathlib.Core.Bool.{Bool, true, false, cond, _&&_}
 use mathlib.Core.List.{List}
 use Prim.Native.Nat.{ℕ, _+_, _-_, _*_, _/_, _%_, _≤_, _<_}
@@ -79,9 +79,8 @@ module _ (s s′ : List ℕ) (c : OnOtherClocks s s′) where
       value = λ e i. slot-number 4 e 4;
       position = λ e i. slot-number 2 e 10;
       start = λ e i. slot-number 8 e 16;
-      return = λ e i. slot-number 8 e 24;
+      return = λ e i p. slot-number 8 e 24;
       sees = λ e b i j. ap (λ (x : ℕ). ltb b (64 * L .row) && bitOf x (b % 8)) (rest-byte (slotAt L e + 32 + b / 8) (omega arith));
-      terms = record { difference = refl; opening = λ o. refl };
     }
 
     same-openings : SameFor RVal (historyOf L s .terms) (historyOf L s′ .terms)

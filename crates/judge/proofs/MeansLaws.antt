@@ -22,6 +22,7 @@ use Rattle.consistency.specs.Holds.{DistinctPositions}
 use Rattle.consistency.specs.declared.Outcome.{Outcome}
 use Rattle.consistency.specs.declared.Outcome.the-variants.{AllMet, BrokenAt}
 use Rattle.consistency.proofs.BrokenIff.{list-met-iff, list-broken-iff}
+use Rattle.consistency.proofs.ReturnsBefore.{by-cases}
 use Rattle.consistency.proofs.HappensBefore.{hb-iff-chain}
 use Rattle.judge.specs.Judgments.{isNumber, pick, judgedList, judged, predicateJudgment, modelJudgment}
 use Rattle.judge.specs.Means.{Admitted, RefusedBy, short, named, Means, Exact}
@@ -99,6 +100,7 @@ module _ (L : Layout) (words number : ℕ) (ps s : List ℕ) where
   pub judged-exact : Exact L words number ps s (judged L words number s ps)
   judged-exact = record {
     exactly = λ k. (λ e. subst M e answer-means, means-answer k);
+    returns = by-cases h;
     chains = hb-iff-chain h;
     rings = ring-iff-steps (countIn s) (vis h);
   }

@@ -20,6 +20,7 @@ pub record History : Type 0 where
   -- the place in arbitration, ar
   pub position : ℕ → ℕ
   pub start : ℕ → ℕ
+  -- what stands in the return's field; a pending event has no return, and no relation looks at its field
   pub return : ℕ → ℕ
   -- sees e b: b is visible to e
   pub sees : ℕ → ℕ → Bool

@@ -3,6 +3,7 @@ use mathlib.Core.Path.{refl}
 use Prim.Native.Nat.{_-_}
 use native.Mathlib.Omega.{arith}
 use borrow.Author.Needs.{needs}
+use borrow.Author.Tests.{not-true}
 use lib.ListN.{length, getD}
 use Rattle.rows.specs.Row.{Row}
 use Rattle.rows.proofs.RowLaws.{row-same, row-insert, length-insert}
@@ -38,7 +39,8 @@ return-time-requires : tie.Need-return-time-requires Inv-loop μ-loop
 return-time-requires c κs =
     let k = c .before .before in
     let s = start k in
-    omega (arith, s .pre .0 .2 .events (k .loop .next) (omega arith) .0, s .pre .0 .0)
+    let x = s .pre .0 .2 .events (k .loop .next) (omega arith) in
+    (omega (arith, x .0, s .pre .0 .0), not-true _ (x .1))
 
 same-length : tie.Need-same-length Inv-loop μ-loop
 same-length c = search needs
