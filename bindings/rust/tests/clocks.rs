@@ -14,6 +14,8 @@ const STALE_READ: &[u8] = include_bytes!("../../../records/stale-read.gcr");
 /// Event 0, a write of site 0, returned at 110; event 1, of site 1, started at 150 and is before it in arbitration.
 const CLOCKS: &[u8] = include_bytes!("../../../records/clocks.gcr");
 const EARLY_READ: &[u8] = include_bytes!("../../../records/early-read.gcr");
+/// The early read's, but for event 0, which is pending.
+const NEVER_RETURNED: &[u8] = include_bytes!("../../../records/never-returned.gcr");
 
 const BROKEN: Verdict = Verdict::Broken { a: 0, b: 1 };
 /// The models that have predicate 3 or 4 in their lists.
@@ -87,6 +89,19 @@ fn at_one_site_no_difference_helps() {
     for (difference, a, b) in [(0, 0, 1), (1, 3, 4), (2, 3, 4), (u32::MAX, 3, 4)] {
         let verdict = judge_predicate(Predicate::RealTime, &apart(&record, difference));
         assert_eq!(verdict, Ok(Verdict::Broken { a, b }), "{difference}");
+    }
+}
+
+/// By a return of 0, which its field has, event 0 would be before both others.
+#[test]
+fn a_pending_event_is_before_nothing() {
+    let pending = 0x0000_0007_0100_0001;
+    assert_eq!(changed(EARLY_READ, &[(0, 0, pending), (0, 24, 0)]), NEVER_RETURNED);
+    let last = u64::MAX;
+    let at_the_end = changed(NEVER_RETURNED, &[(1, 16, last), (1, 24, last), (2, 16, last), (2, 24, last)]);
+    for difference in [0, 1, 39, u32::MAX] {
+        assert_eq!(judge_all(&apart(NEVER_RETURNED, difference)), Ok([Verdict::Met; 13]), "{difference}");
+        assert_eq!(timed(&apart(&at_the_end, difference)), [Verdict::Met; 2], "{difference}");
     }
 }
 
