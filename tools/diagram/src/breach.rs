@@ -138,7 +138,9 @@ fn alone(text: String) -> Reason {
 }
 
 fn returned(record: &Record, a: usize, b: usize, what: &str) -> Reason {
-    let (end, start) = (record.events[a].end.unwrap_or_default(), record.events[b].start);
+    // a pending event is before nothing, so that no break of these has one first
+    let Some(end) = record.events[a].end else { return alone(String::new()) };
+    let start = record.events[b].start;
     let by = match record.skew(a, b) {
         0 => String::new(),
         skew => format!("more than {skew} ms "),
