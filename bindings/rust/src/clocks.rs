@@ -12,9 +12,10 @@ const CHECKED: usize = 508;
 /// `GCR1`, which has none, it is 0.
 ///
 /// [`Predicate::RealTime`](crate::Predicate::RealTime) and
-/// [`Predicate::RealTimeWrites`](crate::Predicate::RealTimeWrites) are judged by it: between different sites an event
-/// returned before another started where return + difference < start, and the sum does not wrap. At one site it is
-/// return < start. No other predicate goes by it. What a rehearsal leaves has 0.
+/// [`Predicate::RealTimeWrites`](crate::Predicate::RealTimeWrites) are judged by it. A pending event returned before
+/// nothing. Another returned before one of its own site started where return < start, and before one of another site
+/// where return + difference < start; the sum does not wrap. No other predicate goes by it. What a rehearsal leaves
+/// has 0.
 ///
 /// ```
 /// # use gcr::{rehearse, Openings, RECORD_MOST};

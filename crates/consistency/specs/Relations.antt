@@ -13,7 +13,7 @@ ss h a b = eqb (h .site a) (h .site b)
 unfoldable pub ob : History → Rel
 ob h a b = eqb (h .object a) (h .object b)
 
--- rb, returns-before, the survey's a.rtime < b.stime, by cases: a pending event has no such time, and two sites' clocks may differ
+-- rb, returns-before, the survey's a.rtime < b.stime, by cases: a pending event's rtime is Ω, which is no number, and two sites' clocks may differ
 unfoldable pub rb : History → Rel
 rb h a b =
     -- first event pending: it is before nothing
@@ -23,7 +23,7 @@ rb h a b =
     -- other site: by more than the two clocks may differ
     (ltb (h .return a + h .terms .difference) (h .start b)))
 
--- so: rb and ss, so of one site's own clock
+-- so: rb and ss, which goes by one site's own clock
 unfoldable pub so : History → Rel
 so h a b = rb h a b && ss h a b
 

@@ -39,9 +39,9 @@ Means L words number ps s (Judged (BrokenAt p a b)) = Admitted L words number ×
 Means L words number ps s NoSuchNumber = (workWords L ≤ words) × (isNumber number ≡ false)
 Means L words number ps s (Refused r) = RefusedBy L words number s r
 
--- an answer is given exactly if what it says is so; rb, of which predicates 3 and 4 speak and so is made, is as its three cases say; hb, of which
--- predicates 10 and 11 speak, is one or more steps, each so or vis; and an event is on a ring, of which question 10 speaks, where one or more steps of
--- vis lead from it to itself
+-- an answer is given exactly if what it says is so; rb, of which predicates 3 and 4 speak and the relation so is made, is as its three cases say; hb, of
+-- which predicates 10 and 11 speak, is one or more steps, each so or vis; and an event is on a ring, of which question 10 speaks, where one or more
+-- steps of vis lead from it to itself
 pub record Exact (L : Layout) (words number : ℕ) (ps s : List ℕ) (j : Judgment) : Type 0 where
   pub exactly : (k : Judgment) → (j ≡ k) ↔ Means L words number ps s k
   pub returns : (a b : ℕ) → ByCases (historyOf L s) a b
