@@ -13,9 +13,9 @@ const CHECKED: usize = 508;
 ///
 /// [`Predicate::RealTime`](crate::Predicate::RealTime) and
 /// [`Predicate::RealTimeWrites`](crate::Predicate::RealTimeWrites) are judged by it. A pending event returned before
-/// nothing. Another returned before one of its own site started where return < start, and before one of another site
-/// where return + difference < start; the sum does not wrap. No other predicate goes by it. What a rehearsal leaves
-/// has 0.
+/// nothing. One that returned did so before an event of its own site started where return < start, and before one of
+/// another site where return + difference < start; the sum does not wrap. No other predicate goes by it. What a
+/// rehearsal leaves has 0.
 ///
 /// ```
 /// # use gcr::{rehearse, Openings, RECORD_MOST};

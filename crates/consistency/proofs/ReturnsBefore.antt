@@ -40,7 +40,7 @@ module _ (h : History) (a b : ℕ) where
 
 -- ---- as before
 
--- what is made of rb, as every verdict is, is what the former formula makes: 0 or the difference added to the return
+-- what is made of rb, as the verdicts of 3 to 12 are, is what the former formula makes, by which 0 or the difference was added to the return
 pub as-formerly : {X : Type 0} (made : (History → Rel) → X)
     → made rb ≡ made (λ h a b. cond (h .isPending a) false (ltb (h .return a + cond (ss h a b) 0 (h .terms .difference)) (h .start b)))
 unfolding rb
