@@ -7,7 +7,7 @@ use Prim.Native.Nat.{ℕ, _-_, _<_, _≤_}
 use native.Mathlib.Omega.{arith}
 use borrow.Author.Tests.{lt-ltb, ltb-true}
 use Rattle.rows.proofs.Tests.{split, or-elim, or-left, or-right, and-both, and-left, and-right}
-use Rattle.record.specs.History.{History}
+use Rattle.record.specs.History.{History, SameEvents}
 use Rattle.consistency.specs.Relations.{rb, so, ar, write, from}
 use Rattle.consistency.specs.Predicates.{rule, byClocks, verdict, numbered}
 use Rattle.consistency.specs.Holds.{Holds, Obeys, Within}
@@ -19,7 +19,7 @@ use Rattle.consistency.specs.declared.Predicate.{Predicate}
 use Rattle.consistency.specs.declared.Predicate.the-variants.{RVal, SingleOrder, RealTime, RealTimeWrites, MonotonicReads, ReadYourWrites, MonotonicWrites, WritesFollowReads, Pram, CausalVisibility, CausalArbitration, PerObjectPram, PerObjectSingleOrder}
 use Rattle.consistency.proofs.ClockLaws.{returned, rb-far}
 use Rattle.consistency.proofs.MetIffHolds.{met-holds, within-met}
-use Rattle.consistency.proofs.SameVerdict.{SameEvents, SameFor, so-same, ar-same, verdict-for}
+use Rattle.consistency.proofs.SameVerdict.{SameFor, so-same, ar-same, verdict-for}
 
 module _ (h k : History) (s : SameEvents h k) (o : SameFor RVal (h .terms) (k .terms)) where
   -- ---- all but 3 and 4

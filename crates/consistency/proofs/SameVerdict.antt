@@ -13,7 +13,7 @@ use Rattle.rows.proofs.Tests.{split}
 use Rattle.rows.proofs.LowestLaws.{same-some}
 use Rattle.rows.proofs.ReachLaws.{reaches-same}
 use Rattle.record.specs.Terms.{none, value, Terms, SameTerms}
-use Rattle.record.specs.History.{History, under, vis, Agree}
+use Rattle.record.specs.History.{History, under, vis, SameEvents, Agree}
 use Rattle.consistency.specs.FirstPair.{first}
 use Rattle.consistency.specs.Relations.{ss, ob, rb, so, ar, step, hb, read, from, to, both, through}
 use Rattle.consistency.specs.Reads.{candidate, later, lastBelow, lastWrite, sameHeld, held, leftBy, expected, wrongRead, lastOr, wrong}
@@ -27,21 +27,7 @@ use Rattle.consistency.proofs.FirstPairLaws.{Alike, first-same}
 use Rattle.consistency.proofs.LastWriteLaws.{LastIn, last-in, write-in}
 use Rattle.consistency.proofs.ClockLaws.{returned, so-own}
 
--- ---- what is said the same
-
--- of the events; of a return, where there is one
-pub record SameEvents (h k : History) : Type 0 where
-  pub count : h .count ≡ k .count
-  pub isWrite : (e : ℕ) → e < h .count → h .isWrite e ≡ k .isWrite e
-  pub site : (e : ℕ) → e < h .count → h .site e ≡ k .site e
-  pub object : (e : ℕ) → e < h .count → h .object e ≡ k .object e
-  pub isPending : (e : ℕ) → e < h .count → h .isPending e ≡ k .isPending e
-  pub isPresent : (e : ℕ) → e < h .count → h .isPresent e ≡ k .isPresent e
-  pub value : (e : ℕ) → e < h .count → h .value e ≡ k .value e
-  pub position : (e : ℕ) → e < h .count → h .position e ≡ k .position e
-  pub start : (e : ℕ) → e < h .count → h .start e ≡ k .start e
-  pub return : (e : ℕ) → e < h .count → h .isPending e ≡ false → h .return e ≡ k .return e
-  pub sees : (e b : ℕ) → e < h .count → b < h .count → h .sees e b ≡ k .sees e b
+-- ---- what is said the same, beside the events
 
 -- of the terms that a predicate is judged by
 abbrev pub SameFor : Predicate → Terms → Terms → Type 0
@@ -58,22 +44,6 @@ SameFor CausalVisibility t u = Unit
 SameFor CausalArbitration t u = Unit
 SameFor PerObjectPram t u = Unit
 SameFor PerObjectSingleOrder t u = Unit
-
--- what histories that say the same of all say of the events
-same-events : (h k : History) → Agree h k → SameEvents h k
-same-events h k s = record {
-  count = s .count;
-  isWrite = s .isWrite;
-  site = s .site;
-  object = s .object;
-  isPending = s .isPending;
-  isPresent = s .isPresent;
-  value = s .value;
-  position = s .position;
-  start = s .start;
-  return = λ e i p. s .return e i;
-  sees = s .sees;
-}
 
 same-for : (t u : Terms) → SameTerms t u → (p : Predicate) → SameFor p t u
 same-for t u s RVal = s .opening
@@ -259,7 +229,7 @@ module _ (h k : History) (s : SameEvents h k) where
 
 module _ (h k : History) (s : Agree h k) where
   pub verdict-same : (p : Predicate) → verdict p h ≡ verdict p k
-  verdict-same p = verdict-for h k (same-events h k s) p (same-for (h .terms) (k .terms) (s .terms) p)
+  verdict-same p = verdict-for h k (s .events) p (same-for (h .terms) (k .terms) (s .terms) p)
 
   pub firstBroken-same : (ps : List ℕ) → firstBroken ps h ≡ firstBroken ps k
   unfolding firstBroken

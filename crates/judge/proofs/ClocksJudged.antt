@@ -14,7 +14,7 @@ use Rattle.rows.specs.Octets.{little, hasByte}
 use Rattle.rows.specs.Row.{bitOf}
 use Rattle.record.specs.Layout.{Layout, edition, gcr2, editionOf, byte, countIn, slotAt, same, workWords}
 use Rattle.record.specs.Terms.{Held, none, value, openingIn, differenceIn}
-use Rattle.record.specs.History.{historyOf}
+use Rattle.record.specs.History.{historyOf, SameEvents}
 use Rattle.record.specs.Questions.{questions}
 use Rattle.record.specs.declared.Reading.the-variants.{Passed, ShortWork}
 use Rattle.record.proofs.NumberBytes.{little-same}
@@ -23,7 +23,7 @@ use Rattle.consistency.specs.Models.{timed, firstBroken}
 use Rattle.consistency.specs.declared.Outcome.{Outcome}
 use Rattle.consistency.specs.declared.Outcome.the-variants.{AllMet}
 use Rattle.consistency.specs.declared.Predicate.the-variants.{RVal}
-use Rattle.consistency.proofs.SameVerdict.{SameEvents, SameFor}
+use Rattle.consistency.proofs.SameVerdict.{SameFor}
 use Rattle.consistency.proofs.OtherClocks.{list-steady, list-larger}
 use Rattle.judge.specs.Judgments.{isNumber, pick, judgedList, judged}
 use Rattle.judge.specs.Clocks.{OnOtherClocks, ByClocks}

@@ -77,10 +77,10 @@ module _ (s : List ℕ) (passed : questions (editionOf s) s ≡ Passed) where
         heads = omega (arith, ap length loaded, length-append (slotWords (editionOf s) 0 4 s n) (drop (n * 4) d), length-slot-words (editionOf s) 0 4 s n);
         narrow = omega arith;
         rows = rw (counted, sets) (passed-graph s passed bytes (drop 1024 v));
-        sites = λ e i. omega (arith, passed-site s passed e (omega arith), same .site e (omega arith));
+        sites = λ e i. omega (arith, passed-site s passed e (omega arith), same .events .site e (omega arith));
         placed = record {
-          below = λ e i. omega (arith, passed-position s passed e (omega arith), same .position e (omega arith));
-          distinct = λ d e i j q. passed-distinct s passed d e (omega arith) (omega arith) (same .position d (omega arith) ∙ q ∙ sym (same .position e (omega arith)));
+          below = λ e i. omega (arith, passed-position s passed e (omega arith), same .events .position e (omega arith));
+          distinct = λ d e i j q. passed-distinct s passed d e (omega arith) (omega arith) (same .events .position d (omega arith) ∙ q ∙ sym (same .events .position e (omega arith)));
         };
       };
       agree = same;

@@ -113,17 +113,20 @@ module _ (L : Layout) (ok : Sound L) (sites : ℕ) (h : History) (good : WellFor
   pub encoded-agrees : Agree h (historyOf L (recordBytes L sites h))
   unfolding historyOf
   encoded-agrees = record {
-    count = sym count-back;
-    isWrite = λ e l. sym (ap (λ (x : ℕ). eqb x 1) (laid e l .kind) ∙ bit-is (h .isWrite e));
-    site = λ e l. sym (laid e l .site);
-    object = λ e l. sym (laid e l .object);
-    isPending = λ e l. sym (ap (λ (x : ℕ). eqb x 1) (laid e l .state) ∙ bit-is (h .isPending e));
-    isPresent = λ e l. sym (ap (λ (x : ℕ). eqb x 1) (laid e l .present) ∙ bit-is (h .isPresent e));
-    value = λ e l. sym (laid e l .value);
-    position = λ e l. sym (laid e l .position);
-    start = λ e l. sym (laid e l .start);
+    events = record {
+      count = sym count-back;
+      isWrite = λ e l. sym (ap (λ (x : ℕ). eqb x 1) (laid e l .kind) ∙ bit-is (h .isWrite e));
+      site = λ e l. sym (laid e l .site);
+      object = λ e l. sym (laid e l .object);
+      isPending = λ e l. sym (ap (λ (x : ℕ). eqb x 1) (laid e l .state) ∙ bit-is (h .isPending e));
+      isPresent = λ e l. sym (ap (λ (x : ℕ). eqb x 1) (laid e l .present) ∙ bit-is (h .isPresent e));
+      value = λ e l. sym (laid e l .value);
+      position = λ e l. sym (laid e l .position);
+      start = λ e l. sym (laid e l .start);
+      return = λ e l p. sym (laid e l .return);
+      sees = λ e b l m. sym (sees-back e b l (omega (arith, good .count, ok .wide)));
+    };
     return = λ e l. sym (laid e l .return);
-    sees = λ e b l m. sym (sees-back e b l (omega (arith, good .count, ok .wide)));
     terms = terms-back;
   }
 
@@ -195,9 +198,9 @@ module _ (L : Layout) (ok : Sound L) (sites : ℕ) (h : History) (good : WellFor
   unfolding wrongPosition
   position-yes e l =
       let k : History = historyOf L s in
-      let at : (d : ℕ) → d < n → k .position d ≡ h .position d = λ d m. sym (encoded-agrees .position d m) in
+      let at : (d : ℕ) → d < n → k .position d ≡ h .position d = λ d m. sym (encoded-agrees .events .position d m) in
       ap₂ _||_
-      (lt-leb (k .count) (k .position e) (omega (arith, at e l, good .position e l, encoded-agrees .count)))
+      (lt-leb (k .count) (k .position e) (omega (arith, at e l, good .position e l, encoded-agrees .events .count)))
       (none-some e (λ d. eqb (k .position d) (k .position e))
       (λ d m. ne-eqb (k .position d) (k .position e)
       (λ q. let z : d ≡ e = good .distinct d e (omega arith) l (sym (at d (omega arith)) ∙ q ∙ at e l) in omega arith)))

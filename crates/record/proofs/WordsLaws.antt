@@ -147,19 +147,25 @@ module _ (L : Layout) (s : List ℕ) (bytes : Bytes s) where
       → Agree (historyOf L s) (under (termsFrom (termsWords s)) (historyFrom (countIn s) (L .row) (headWords L s ++ tail) (visibleWords L s ++ rest)))
   unfolding historyOf historyFrom vis
   words-agree-at wide right tail rest = record {
-    count = refl;
-    isWrite = λ e h. sym (ap (λ (x : ℕ). eqb x 1) (first-byte tail e h 0 (4 * e) (slotAt L e) (omega arith) (omega arith) (omega arith)));
-    site = λ e h. sym (byte-part tail e h 0 (4 * e) (slotAt L e) (omega arith) (omega arith) (omega arith) 1 6 refl);
-    object = λ e h. sym (byte-part tail e h 0 (4 * e) (slotAt L e) (omega arith) (omega arith) (omega arith) 2 5 refl);
-    isPending = λ e h. sym (ap (λ (x : ℕ). eqb x 1) (byte-part tail e h 0 (4 * e) (slotAt L e) (omega arith) (omega arith) (omega arith) 3 4 refl));
-    isPresent = λ e h. sym (ap (λ (x : ℕ). eqb x 1) (first-byte tail e h 1 (4 * e + 1) (slotAt L e + 8) (omega arith) (omega arith) (omega arith)));
-    value = λ e h. sym (ap (λ (x : ℕ). x / 4294967296) (word tail e h 0 (4 * e) (slotAt L e) (omega arith) (omega arith) (omega arith)) ∙ little-high s bytes 4 4 (slotAt L e));
-    position = λ e h. sym (part tail e h 1 (4 * e + 1) (slotAt L e + 8) (omega arith) (omega arith) (omega arith) 2 2 4 refl ∙ ap (little 2 s) (omega arith));
-    start = λ e h. sym (word tail e h 2 (4 * e + 2) (slotAt L e + 16) (omega arith) (omega arith) refl);
-    return = λ e h. sym (word tail e h 3 (4 * e + 3) (slotAt L e + 24) (omega arith) (omega arith) refl);
-    sees = λ e b h k. sym (visible-vis rest b e (omega arith) h);
+    events = record {
+      count = refl;
+      isWrite = λ e h. sym (ap (λ (x : ℕ). eqb x 1) (first-byte tail e h 0 (4 * e) (slotAt L e) (omega arith) (omega arith) (omega arith)));
+      site = λ e h. sym (byte-part tail e h 0 (4 * e) (slotAt L e) (omega arith) (omega arith) (omega arith) 1 6 refl);
+      object = λ e h. sym (byte-part tail e h 0 (4 * e) (slotAt L e) (omega arith) (omega arith) (omega arith) 2 5 refl);
+      isPending = λ e h. sym (ap (λ (x : ℕ). eqb x 1) (byte-part tail e h 0 (4 * e) (slotAt L e) (omega arith) (omega arith) (omega arith) 3 4 refl));
+      isPresent = λ e h. sym (ap (λ (x : ℕ). eqb x 1) (first-byte tail e h 1 (4 * e + 1) (slotAt L e + 8) (omega arith) (omega arith) (omega arith)));
+      value = λ e h. sym (ap (λ (x : ℕ). x / 4294967296) (word tail e h 0 (4 * e) (slotAt L e) (omega arith) (omega arith) (omega arith)) ∙ little-high s bytes 4 4 (slotAt L e));
+      position = λ e h. sym (part tail e h 1 (4 * e + 1) (slotAt L e + 8) (omega arith) (omega arith) (omega arith) 2 2 4 refl ∙ ap (little 2 s) (omega arith));
+      start = λ e h. sym (word tail e h 2 (4 * e + 2) (slotAt L e + 16) (omega arith) (omega arith) refl);
+      return = λ e h p. returned e h;
+      sees = λ e b h k. sym (visible-vis rest b e (omega arith) h);
+    };
+    return = returned;
     terms = terms-agree right;
   }
+    where
+      returned : (e : ℕ) → e < countIn s → little 8 s (slotAt L e + 24) ≡ getD (headWords L s ++ tail) (4 * e + 3) 0
+      returned e h = sym (word tail e h 3 (4 * e + 3) (slotAt L e + 24) (omega arith) (omega arith) refl)
 
 -- a record's words, whatever follows them, say what it says
 pub words-agree : (s : List ℕ) → Bytes s → countIn s ≤ 256 → termsRight (editionOf s) s ≡ true → (tail rest : List ℕ)

@@ -1,6 +1,6 @@
 -- What a record says: its events, as functions of an event's number, who sees whom, and its terms.
 use mathlib.Core.Path.{_≡_}
-use mathlib.Core.Bool.{Bool, _&&_}
+use mathlib.Core.Bool.{Bool, false, _&&_}
 use mathlib.Core.List.{List}
 use Prim.Native.Nat.{ℕ, _+_, _*_, _<_}
 use lib.Dec.{eqb, ltb}
@@ -65,8 +65,8 @@ under t h = record {
 unfoldable pub vis : History → Rel
 vis h a b = h .sees b a
 
--- two histories say the same
-pub record Agree (h k : History) : Type 0 where
+-- two histories say the same of their events; of a return, where there is one
+pub record SameEvents (h k : History) : Type 0 where
   pub count : h .count ≡ k .count
   pub isWrite : (e : ℕ) → e < h .count → h .isWrite e ≡ k .isWrite e
   pub site : (e : ℕ) → e < h .count → h .site e ≡ k .site e
@@ -76,6 +76,11 @@ pub record Agree (h k : History) : Type 0 where
   pub value : (e : ℕ) → e < h .count → h .value e ≡ k .value e
   pub position : (e : ℕ) → e < h .count → h .position e ≡ k .position e
   pub start : (e : ℕ) → e < h .count → h .start e ≡ k .start e
-  pub return : (e : ℕ) → e < h .count → h .return e ≡ k .return e
+  pub return : (e : ℕ) → e < h .count → h .isPending e ≡ false → h .return e ≡ k .return e
   pub sees : (e b : ℕ) → e < h .count → b < h .count → h .sees e b ≡ k .sees e b
+
+-- they say the same of all: of their events, in the return's field also where there is no return, and of their terms
+pub record Agree (h k : History) : Type 0 where
+  pub events : SameEvents h k
+  pub return : (e : ℕ) → e < h .count → h .return e ≡ k .return e
   pub terms : SameTerms (h .terms) (k .terms)
