@@ -25,7 +25,7 @@ use Rattle.store.specs.Rules.{reached, refusal, copiesOf, allCopies, afterCopy,
 use Rattle.store.specs.Outstanding.{outstanding, puts, toldDone, toldCopies}
 use Rattle.store.specs.Recorded.{rank, recorded, storeRecord}
 use Rattle.store.specs.Rehearsal.{rehearsalRefusal, storeAfter, recordOf}
-use Rattle.edges.specs.Events.{member, historyOfEvents}
+use Rattle.record.specs.Listed.{member, historyOfEvents}
 use Rattle.edges.specs.Cases.{Case, right, allRight, ofEmpty, ofRing, ofHistories, ofClocks, ofLargest, ofListing, ofDeliveries, ofCloses, ofCopies, ofBlock0, ofZeros, ofLacking, ofDifference, ofExceeded, ofSecond, ofPast, ofFirst, ofOpenings, ofRefusals, edges}
 
 also : (l m : List Case) → allRight l ≡ true → allRight m ≡ true → allRight (l ++ m) ≡ true

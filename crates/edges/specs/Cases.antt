@@ -19,7 +19,7 @@ use Rattle.store.specs.Calls.{callsOf}
 use Rattle.store.specs.Rules.{deliveries, copiesByCloses, answers}
 use Rattle.store.specs.Outstanding.{puts, outstanding, toldDone, toldCopies}
 use Rattle.store.specs.Rehearsal.{rehearsalRefusal, termsOf, storeAfter, recordOf}
-use Rattle.edges.specs.Events.{Time, event, aRead, aWrite, returned, pending, historyOfEvents}
+use Rattle.record.specs.Listed.{Time, event, aRead, aWrite, returned, pending, historyOfEvents}
 
 -- no openings, as 132 bytes; and one opening, of one object
 abbrev pub noOpenings : List ℕ

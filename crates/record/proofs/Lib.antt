@@ -14,6 +14,7 @@ pub mod PositionLaws
 pub mod SetLaws
 pub mod QuestionLaws
 pub mod EncodedPasses
+pub mod ListedLaws
 pub mod SlotWords
 pub mod WorkLaws
 pub mod WordsLaws

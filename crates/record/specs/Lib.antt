@@ -9,3 +9,4 @@ pub mod Answers
 pub mod Words
 pub mod Encode
 pub mod WellFormed
+pub mod Listed
