@@ -1,4 +1,4 @@
--- What follows. What users should know: MetIffHolds, BrokenIff, HappensBefore, ReturnsBefore, SameVerdict, OtherClocks, AsBefore.
+-- What follows. What users should know: MetIffHolds, BrokenIff, HappensBefore, ReturnsBefore, SameVerdict, OtherClocks, AsBefore, ModelsGive.
 pub mod FirstPairLaws
 pub mod LastWriteLaws
 pub mod MetIffHolds
@@ -10,3 +10,6 @@ pub mod OtherClocks
 pub mod AsBefore
 pub mod BrokenIff
 pub mod ReadLaws
+pub mod PredicatesGive
+pub mod ModelsGive
+pub mod Separated

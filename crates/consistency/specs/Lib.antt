@@ -7,3 +7,5 @@ pub mod Predicates
 pub mod Holds
 pub mod Breaks
 pub mod Models
+pub mod Lattice
+pub mod Separating

@@ -5,11 +5,13 @@ ghost use mathlib.Core.Path.{_≡_};
 ghost use Rattle.record.specs.Layout.{editionOf};
 ghost use Rattle.record.specs.Questions.{reading, packedReading};
 ghost use Rattle.judge.specs.Judgments.{predicateJudgment, modelJudgment, packedJudgment, packedJudgments, laidOver};
+ghost use Rattle.judge.specs.Covers.{TellsHosts};
 
 // Judges a model, with the work memory inside.
 #[no_mangle]
 pub extern "C" fn gcr_judge_model(model: u32, s: &[u8]) -> u64
     ensures { λ r. ⌜ r ≡ packedJudgment (modelJudgment (editionOf (now (s .entry))) 1024 model (now (s .entry))) ⌝ }
+    ensures { λ r. ⌜ TellsHosts model (now (s .entry)) r ⌝ }
 {
     let mut work = [0u64; 1024];
     packing::pack(judge::judge_model(model as usize, s, &mut work))

@@ -79,7 +79,7 @@ module _ (L : Layout) (words number : ℕ) (ps s : List ℕ) where
   unfolding judged
   to-list a = rw (le-leb (workWords L) words (a .work), a .inRange)
 
-  to-outcome : Admitted L words number → Passes L s → judged L words number s ps ≡ Judged (firstBroken ps h)
+  pub to-outcome : Admitted L words number → Passes L s → judged L words number s ps ≡ Judged (firstBroken ps h)
   unfolding judgedList
   to-outcome a r = to-list a ∙ rw (answer-only L s Passed r)
 

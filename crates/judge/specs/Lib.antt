@@ -2,4 +2,5 @@
 pub mod Judgments
 pub mod Means
 pub mod Clocks
+pub mod Covers
 pub mod Lists

@@ -18,6 +18,7 @@ ghost use Rattle.consistency.specs.Models.{listOf, firstBroken};
 ghost use Rattle.judge.specs.Judgments.{refusedNumber, predicateJudgment, modelJudgment, packedJudgments, judgedList};
 ghost use Rattle.judge.specs.Means.{Exact};
 ghost use Rattle.judge.specs.Clocks.{ByClocks};
+ghost use Rattle.judge.specs.Covers.{TellsOthers};
 ghost use Rattle.judge.specs.Lists.{upToZero, Numbers};
 
 // The answer of a judging call.
@@ -86,6 +87,7 @@ pub fn judge_model(number: usize, s: &[u8], work: &mut [u64]) -> Judgment
     ensures { λ r. ⌜ r ≡ modelJudgment (editionOf (now (s .entry))) (length (now (work .entry))) number (now (s .entry)) ⌝ }
     ensures { λ r. ⌜ Exact (editionOf (now (s .entry))) (length (now (work .entry))) number (listOf number) (now (s .entry)) r ⌝ }
     ensures { λ r. ⌜ ByClocks (length (now (work .entry))) number (listOf number) (now (s .entry)) r ⌝ }
+    ensures { λ r. ⌜ TellsOthers (length (now (work .entry))) number (now (s .entry)) r ⌝ }
     ensures { λ r. ⌜ now (work .exit) ≡ workAfter (editionOf (now (s .entry))) (refusedNumber r) (now (s .entry)) (now (work .entry)) ⌝ }
 {
     if work.len() < 1024 {

@@ -10,6 +10,7 @@ use Rattle.consistency.specs.Models.{listOf}
 use Rattle.judge.specs.Judgments.{judgedList, modelJudgment}
 use Rattle.judge.proofs.MeansLaws.{exact-of}
 use Rattle.judge.proofs.ClocksJudged.{by-clocks}
+use Rattle.judge.proofs.CoversExactly.{tells-others}
 use Rattle.judge.proofs.JudgmentLaws.{judged-short, judged-low, judged-high, judged-list}
 use Rattle.judge.proofs.judge_model.Statement.{statement}
 use Rattle.judge.proofs.judge_model.Tie as tie
@@ -26,21 +27,21 @@ unfolding modelJudgment workAfter
 returns c =
     let a = c .before .before .before in
     let q = judged-short (words a) (a .args .number) (bytes a) (listOf (a .args .number)) (c .if1 .taken) in
-    (q, (exact-of (editionOf (bytes a)) (words a) (a .args .number) (listOf (a .args .number)) (bytes a) q, (by-clocks (words a) (a .args .number) (listOf (a .args .number)) (bytes a) q, refl)))
+    (q, (exact-of (editionOf (bytes a)) (words a) (a .args .number) (listOf (a .args .number)) (bytes a) q, (by-clocks (words a) (a .args .number) (listOf (a .args .number)) (bytes a) q, (tells-others (words a) (a .args .number) (bytes a) q, refl))))
 
 returns-2 : tie.Need-returns-2
 unfolding modelJudgment workAfter
 returns-2 c =
     let a = c .before .before .before .before in
     let q = judged-low (words a) (a .args .number) (bytes a) (listOf (a .args .number)) (c .before .if1 .left) (c .if2 .taken) in
-    (q, (exact-of (editionOf (bytes a)) (words a) (a .args .number) (listOf (a .args .number)) (bytes a) q, (by-clocks (words a) (a .args .number) (listOf (a .args .number)) (bytes a) q, refl)))
+    (q, (exact-of (editionOf (bytes a)) (words a) (a .args .number) (listOf (a .args .number)) (bytes a) q, (by-clocks (words a) (a .args .number) (listOf (a .args .number)) (bytes a) q, (tells-others (words a) (a .args .number) (bytes a) q, refl))))
 
 returns-3 : tie.Need-returns-3
 unfolding modelJudgment workAfter
 returns-3 c =
     let a = c .before .before .before .before .before in
     let q = judged-high (words a) (a .args .number) (bytes a) (listOf (a .args .number)) (c .before .before .if1 .left) (c .if3 .taken) in
-    (q, (exact-of (editionOf (bytes a)) (words a) (a .args .number) (listOf (a .args .number)) (bytes a) q, (by-clocks (words a) (a .args .number) (listOf (a .args .number)) (bytes a) q, refl)))
+    (q, (exact-of (editionOf (bytes a)) (words a) (a .args .number) (listOf (a .args .number)) (bytes a) q, (by-clocks (words a) (a .args .number) (listOf (a .args .number)) (bytes a) q, (tells-others (words a) (a .args .number) (bytes a) q, refl))))
 
 of-model-requires : tie.Need-of-model-requires
 of-model-requires c κs = search needs
@@ -61,7 +62,7 @@ returns-4 c =
     let q =
     l .judge-list .ensures .0 ∙ ap (judgedList (editionOf (bytes a)) (bytes a)) (m .of-model .ensures .0)
     ∙ judged-list (words a) (a .args .number) (bytes a) (listOf (a .args .number)) (e .before .before .if1 .left) (e .before .if2 .left) (e .if3 .left) in
-    (q, (exact-of (editionOf (bytes a)) (words a) (a .args .number) (listOf (a .args .number)) (bytes a) q, (by-clocks (words a) (a .args .number) (listOf (a .args .number)) (bytes a) q, l .judge-list .ensures .1)))
+    (q, (exact-of (editionOf (bytes a)) (words a) (a .args .number) (listOf (a .args .number)) (bytes a) q, (by-clocks (words a) (a .args .number) (listOf (a .args .number)) (bytes a) q, (tells-others (words a) (a .args .number) (bytes a) q, l .judge-list .ensures .1))))
 
 pub judge-model-spec : {M : Type 1} → statement M
 judge-model-spec =

@@ -4,6 +4,7 @@ use borrow.Author.Needs.{needs}
 use Rattle.record.specs.Layout.{editionOf}
 use Rattle.judge.specs.Judgments.{modelJudgment, packedJudgment}
 use Rattle.judge.proofs.JudgmentLaws.{model-fits, fitting-small}
+use Rattle.judge.proofs.CoversHosts.{tells-hosts}
 use Rattle.gcr.proofs.judging.gcr_judge_model.Statement.{statement}
 use Rattle.gcr.proofs.judging.gcr_judge_model.Tie as tie
 
@@ -19,7 +20,10 @@ pack-requires c κs =
     rw (c .before .judge-model .ensures .0) (fitting-small (modelJudgment (editionOf (a .s .now)) 1024 (a .model) (a .s .now)) (model-fits (a .s .now) 1024 (a .model)))
 
 returns : tie.Need-returns
-returns c = c .pack .ensures ∙ ap packedJudgment (c .before .before .judge-model .ensures .0)
+returns c =
+    let q = c .pack .ensures ∙ ap packedJudgment (c .before .before .judge-model .ensures .0) in
+    let a = c .before .before .before .before .before .args in
+    (q, tells-hosts (a .model) (a .s .now) q)
 
 pub gcr-judge-model-spec : {M : Type 1} → statement M
 gcr-judge-model-spec =
