@@ -86,6 +86,12 @@ apart-differ true false f = refl
 apart-differ false true f = refl
 apart-differ false false f = absurd (f refl)
 
+pub differ-same : (x y : Bool) → differ x y ≡ false → x ≡ y
+differ-same true true e = refl
+differ-same true false e = e
+differ-same false true e = sym e
+differ-same false false e = refl
+
 module _ (h : History) (q r : Rel) (a b : ℕ) (j : b < h .count) where
   misfit-breaks : misfit h q r a b ≡ true → Misplaced h q r a b
   misfit-breaks t =

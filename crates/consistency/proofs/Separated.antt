@@ -1,7 +1,7 @@
 -- The eight records of the other side: each is well formed and meets exactly the models of its list, and wherever a model does not follow from another, one of
 -- them meets the one and breaks the other. Tests of whole tables, which the checker computes. Assumes nothing.
 use mathlib.Core.Path.{_≡_, refl, sym, _∙_, subst}
-use mathlib.Core.Bool.{Bool, true, false, not, cond, _||_}
+use mathlib.Core.Bool.{Bool, true, false, not, _||_}
 use Prim.Native.Nat.{ℕ, _+_, _-_, _<_, _≤_}
 use native.Mathlib.Omega.{arith}
 use borrow.Author.Tests.{not-true, not-false, ltb-true, eqb-true}
@@ -10,31 +10,24 @@ use Rattle.rows.specs.Lowest.{searchFrom, lowest, some}
 use Rattle.rows.specs.Relation.{via, reaches}
 use Rattle.rows.proofs.LowestLaws.{some-none, lowest-low}
 use Rattle.rows.proofs.Tests.{tell, or-elim, and-left, and-right}
-use Rattle.record.specs.History.{History, vis}
+use Rattle.record.specs.History.{vis}
 use Rattle.record.specs.Questions.{wrongPosition}
 use Rattle.record.specs.Listed.{member, historyOfEvents}
 use Rattle.record.proofs.ListedLaws.{listedRight}
 use Rattle.consistency.specs.FirstPair.{firstLeft, first}
 use Rattle.consistency.specs.Relations.{ss, ob, rb, so, ar, step, hb, through}
 use Rattle.consistency.specs.Reads.{candidate, lastBelow, lastWrite, expected, wrongRead, wrong}
-use Rattle.consistency.specs.Predicates.{rule, breaks, verdict, numbered}
+use Rattle.consistency.specs.Predicates.{rule, differ, breaks, verdict, numbered}
 use Rattle.consistency.specs.Models.{listOf, firstBroken}
 use Rattle.consistency.specs.Lattice.{listed, follows}
-use Rattle.consistency.specs.Separating.{numberedRecord, tells, separator}
+use Rattle.consistency.specs.Separating.{numberedRecord, separatingHistory, tells, separator}
 use Rattle.consistency.specs.declared.Outcome.{Outcome}
 use Rattle.consistency.specs.declared.Outcome.the-variants.{AllMet, BrokenAt}
-
--- what record k says
-abbrev pub historyIn : ℕ → History
-historyIn k = historyOfEvents (numberedRecord k .events)
+use Rattle.consistency.proofs.BrokenIff.{differ-same}
 
 abbrev pub isMet : Outcome → Bool
 isMet AllMet = true
 isMet (BrokenAt p a b) = false
-
--- two tests have one answer
-abbrev alike : Bool → Bool → Bool
-alike x y = cond x y (not y)
 
 -- a test of the first n numbers from 1 on
 abbrev every : ℕ → (ℕ → Bool) → Bool
@@ -42,7 +35,7 @@ every n f = not (some n (λ k. not (f (k + 1))))
 
 -- record k meets model m exactly if its list has it
 abbrev asListed : ℕ → ℕ → Bool
-asListed k m = alike (isMet (firstBroken (listOf m) (historyIn k))) (member (numberedRecord k .meets) m)
+asListed k m = not (differ (isMet (firstBroken (listOf m) (separatingHistory k))) (member (numberedRecord k .meets) m))
 
 -- one model, or a record tells them apart, or the second follows from the first
 abbrev tested : ℕ → ℕ → Bool
@@ -70,25 +63,23 @@ every-at n f e k l m =
     let on : k - 1 + 1 ≡ k = omega arith in
     subst (λ (x : ℕ). f x ≡ true) on (not-false (f (k - 1 + 1)) (some-none n off (not-true (some n off) e) (k - 1) (omega arith)))
 
-alike-same : (x y : Bool) → alike x y ≡ true → x ≡ y
-alike-same true y e = sym e
-alike-same false y e = sym (not-true y e)
-
 pub record-right : (k : ℕ) → 1 ≤ k → k ≤ 8 → listedRight 2 (numberedRecord k .events) ≡ true
 record-right = every-at 8 (λ k. listedRight 2 (numberedRecord k .events)) all-right
 
 -- record k meets exactly the models of its list
-pub meets-listed : (k m : ℕ) → 1 ≤ k → k ≤ 8 → 1 ≤ m → m ≤ 13 → isMet (firstBroken (listOf m) (historyIn k)) ≡ member (numberedRecord k .meets) m
+pub meets-listed : (k m : ℕ) → 1 ≤ k → k ≤ 8 → 1 ≤ m → m ≤ 13 → isMet (firstBroken (listOf m) (separatingHistory k)) ≡ member (numberedRecord k .meets) m
 meets-listed k m i j l o =
-    alike-same (isMet (firstBroken (listOf m) (historyIn k))) (member (numberedRecord k .meets) m)
-    (every-at 13 (asListed k) (every-at 8 (λ k. every 13 (asListed k)) all-meet k i j) m l o)
+    let met : Bool = isMet (firstBroken (listOf m) (separatingHistory k)) in
+    let said : Bool = member (numberedRecord k .meets) m in
+    differ-same met said
+    (not-true (differ met said) (every-at 13 (asListed k) (every-at 8 (λ k. every 13 (asListed k)) all-meet k i j) m l o))
 
 -- record k meets model i and breaks model j
 pub record Apart (k i j : ℕ) : Type 0 where
   pub least : 1 ≤ k
   pub most : k ≤ 8
-  pub meets : isMet (firstBroken (listOf i) (historyIn k)) ≡ true
-  pub breaks : isMet (firstBroken (listOf j) (historyIn k)) ≡ false
+  pub meets : isMet (firstBroken (listOf i) (separatingHistory k)) ≡ true
+  pub breaks : isMet (firstBroken (listOf j) (separatingHistory k)) ≡ false
 
 module _ (i j : ℕ) (l : 1 ≤ i) (m : i ≤ 13) (o : 1 ≤ j) (p : j ≤ 13) where
   told-apart : separator i j < 9 → Apart (separator i j) i j

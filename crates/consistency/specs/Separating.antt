@@ -8,6 +8,7 @@ use Rattle.rows.specs.Lowest.{lowest}
 use Rattle.rows.specs.Relation.{Rel}
 use Rattle.record.specs.Layout.{gcr2}
 use Rattle.record.specs.Terms.{none, value}
+use Rattle.record.specs.History.{History}
 use Rattle.record.specs.Encode.{recordBytes}
 use Rattle.record.specs.Listed.{Noted, event, aRead, aWrite, returned, pending, member, historyOfEvents}
 use Rattle.consistency.specs.Lattice.{linearizable, regular, sequential, causal, realTimeCausal, processor, perObjectSequential, pram, monotonicReads, readYourWrites, monotonicWrites, writesFollowReads, slowMemory}
@@ -112,9 +113,12 @@ separating =
 unfoldable pub numberedRecord : ℕ → Separating
 numberedRecord k = getD separating (k - 1) behindTheClock
 
--- its bytes, as a record of two sites
+-- what it says, and its bytes, as a `GCR2` of two sites
+abbrev pub separatingHistory : ℕ → History
+separatingHistory k = historyOfEvents (numberedRecord k .events)
+
 unfoldable pub separatingBytes : ℕ → List ℕ
-separatingBytes k = recordBytes gcr2 2 (historyOfEvents (numberedRecord k .events))
+separatingBytes k = recordBytes gcr2 2 (separatingHistory k)
 
 -- by the table record k meets model i, and breaks model j
 abbrev pub tells : ℕ → Rel

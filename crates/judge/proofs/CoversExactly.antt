@@ -18,12 +18,12 @@ use Rattle.record.proofs.EncodedPasses.{Encoded, gcr2-encoded, gcr2-back}
 use Rattle.record.proofs.ListedLaws.{listed-well-formed}
 use Rattle.consistency.specs.Models.{listOf, firstBroken}
 use Rattle.consistency.specs.Lattice.{follows}
-use Rattle.consistency.specs.Separating.{numberedRecord, separatingBytes, separator}
+use Rattle.consistency.specs.Separating.{numberedRecord, separatingHistory, separatingBytes, separator}
 use Rattle.consistency.specs.declared.Outcome.{Outcome}
 use Rattle.consistency.specs.declared.Outcome.the-variants.{AllMet, BrokenAt}
 use Rattle.consistency.proofs.SameVerdict.{firstBroken-same}
 use Rattle.consistency.proofs.ModelsGive.{follows-gives, follows-models}
-use Rattle.consistency.proofs.Separated.{historyIn, isMet, record-right, Apart, separated}
+use Rattle.consistency.proofs.Separated.{isMet, record-right, Apart, separated}
 use Rattle.judge.specs.Judgments.{isNumber, modelJudgment}
 use Rattle.judge.specs.Covers.{IsBroken, broken-at, answer, Covers, Separates, TellsOthers}
 use Rattle.judge.specs.declared.Judgment.{Judgment}
@@ -70,17 +70,17 @@ covers-following i j f s = met-too 1024 s i j f
 
 module _ (k : ℕ) (least : 1 ≤ k) (most : k ≤ 8) where
   abbrev bytes : List ℕ
-  bytes = recordBytes gcr2 2 (historyIn k)
+  bytes = recordBytes gcr2 2 (separatingHistory k)
 
   -- the answer about record k's bytes is that about its history
-  answer-is : (m : ℕ) → isNumber m ≡ true → answer (separatingBytes k) m ≡ Judged (firstBroken (listOf m) (historyIn k))
+  answer-is : (m : ℕ) → isNumber m ≡ true → answer (separatingBytes k) m ≡ Judged (firstBroken (listOf m) (separatingHistory k))
   unfolding separatingBytes modelJudgment
   answer-is m e =
       let well = listed-well-formed 2 (numberedRecord k .events) (record-right k least most) in
-      let written : Encoded gcr2 2 (historyIn k) = gcr2-encoded 2 (historyIn k) well in
-      ap (λ (L : Layout). modelJudgment L 1024 m bytes) (gcr2-back 2 (historyIn k) well)
+      let written : Encoded gcr2 2 (separatingHistory k) = gcr2-encoded 2 (separatingHistory k) well in
+      ap (λ (L : Layout). modelJudgment L 1024 m bytes) (gcr2-back 2 (separatingHistory k) well)
       ∙ to-outcome gcr2 1024 m (listOf m) bytes (record { work = omega arith; inRange = e }) (answer-of gcr2 bytes Passed (written .passes))
-      ∙ ap Judged (sym (firstBroken-same (historyIn k) (historyOf gcr2 bytes) (written .agrees) (listOf m)))
+      ∙ ap Judged (sym (firstBroken-same (separatingHistory k) (historyOf gcr2 bytes) (written .agrees) (listOf m)))
 
 outcome-met : (o : Outcome) → isMet o ≡ true → o ≡ AllMet
 outcome-met AllMet e = refl
@@ -98,8 +98,8 @@ module _ (i j : ℕ) (first : isNumber i ≡ true) (second : isNumber j ≡ true
       (leb-true 1 j (and-left (leb 1 j) (leb j 13) second)) (leb-true j 13 (and-right (leb 1 j) (leb j 13) second)) other free in
       let k : ℕ = separator i j in
       record {
-        meets = answer-is k (at .least) (at .most) i first ∙ ap Judged (outcome-met (firstBroken (listOf i) (historyIn k)) (at .meets));
-        breaks = subst IsBroken (sym (answer-is k (at .least) (at .most) j second)) (outcome-broken (firstBroken (listOf j) (historyIn k)) (at .breaks));
+        meets = answer-is k (at .least) (at .most) i first ∙ ap Judged (outcome-met (firstBroken (listOf i) (separatingHistory k)) (at .meets));
+        breaks = subst IsBroken (sym (answer-is k (at .least) (at .most) j second)) (outcome-broken (firstBroken (listOf j) (separatingHistory k)) (at .breaks));
       }
 
   -- a record that separates them shows that the second is not covered

@@ -1,0 +1,3 @@
+-- Laws that functions' proofs cite.
+pub mod TableLaws
+pub mod RecordLaws
