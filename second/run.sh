@@ -24,7 +24,7 @@ esac
 # The file that a comparer needs, and the feature that links it where it is a library.
 needs() {
     case $1 in
-    inspect | verdict | rehearse) echo "$bin/$1" ;;
+    inspect | verdict | rehearse | lattice) echo "$bin/$1" ;;
     reader) echo "$folder/libgcr_reader.a" ;;
     models | rehearsal) echo "$folder/libgcr.a" ;;
     esac
@@ -57,7 +57,7 @@ compare() {
 }
 
 named=$#
-[ $# -gt 0 ] || set -- inspect reader verdict models rehearse rehearsal
+[ $# -gt 0 ] || set -- inspect reader verdict models rehearse rehearsal lattice
 for comparer in "$@"; do
     if [ -e "$(needs "$comparer")" ]; then
         compare "$comparer" || status=1

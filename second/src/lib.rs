@@ -4,6 +4,7 @@
 pub mod baseline;
 pub mod compare;
 pub mod generate;
+pub mod lattice;
 pub mod lines;
 pub mod models;
 pub mod openings;

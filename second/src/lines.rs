@@ -1,12 +1,17 @@
 //! What the programs write for an input.
 
-use crate::models::{answers, Answers};
+use crate::lattice::{by, gives, keeps_apart, pairs};
+use crate::models::{answers, broken_by, Answers, NAMES};
 use crate::openings::OPENINGS_BYTES;
 use crate::predicates::{Answer, PREDICATES};
 use crate::questions::{ask, Refusal};
 use crate::record::MOST_BYTES;
+use crate::samples::separating;
 use crate::store::rehearse;
 use std::io::{self, Read, Write};
+
+/// How a line of `lattice` begins for which no record was found.
+pub const NOT_SHOWN: &str = "NOT SHOWN";
 
 fn refused_line(refusal: Refusal) -> String {
     format!("refused {} {}\n", refusal.number, refusal.place)
@@ -36,6 +41,44 @@ fn predicate_line(number: u32, answer: Answer) -> String {
         Answer::Met => format!("{number} met\n"),
         Answer::Broken(a, b) => format!("{number} broken {a} {b}\n"),
     }
+}
+
+/// A model's number and name.
+pub fn named(model: u32) -> String {
+    format!("{model} {}", NAMES[model as usize - 1])
+}
+
+/// `lattice`: of each ordered pair of different models whether the first covers the second, and by which other, or
+/// which of these records, counted from 1, is the first to keep them apart.
+pub fn lattice(records: &[Answers]) -> String {
+    pairs().map(|(i, j)| lattice_line(i, j, records)).collect()
+}
+
+/// The same of the repository's files.
+pub fn lattice_of_files() -> String {
+    let judged: Vec<Answers> = separating().map(|sample| answers(&sample.bytes)).collect();
+    lattice(&judged)
+}
+
+fn lattice_line(i: u32, j: u32, records: &[Answers]) -> String {
+    let (first, second) = (named(i), named(j));
+    if gives(i, j) {
+        format!("{first} covers {second}\n")
+    } else if let Some(middle) = by(i, j) {
+        format!("{first} covers {second}, by {}\n", named(middle))
+    } else if let Some((k, line)) = first_apart(i, j, records) {
+        format!("{first} does not cover {second}: record {k}, {line}")
+    } else {
+        format!("{NOT_SHOWN}: no record meets {first} and breaks {second}\n")
+    }
+}
+
+/// The record's number, and what breaks the second model there. A refused record meets and breaks nothing.
+fn first_apart(i: u32, j: u32, records: &[Answers]) -> Option<(usize, String)> {
+    let mut judged = (1..).zip(records).filter_map(|(k, answers)| Some((k, answers.as_ref().ok()?)));
+    let (k, answers) = judged.find(|(_, answers)| keeps_apart(answers, i, j))?;
+    let predicate = broken_by(j, answers)?;
+    Some((k, predicate_line(predicate, answers[predicate as usize - 1])))
 }
 
 /// What `rehearse` reads: a byte of sites, the openings, then the script.

@@ -3,7 +3,23 @@
 use crate::predicates::{Answer, Judged, PREDICATES};
 use crate::questions::{ask, Refusal};
 
-/// Model k's predicates stand at k - 1.
+/// Model k's name stands at k - 1, and so do its predicates below.
+pub const NAMES: [&str; 13] = [
+    "linearizable",
+    "regular",
+    "sequential",
+    "causal",
+    "real-time causal",
+    "processor",
+    "per-object sequential",
+    "Pram",
+    "monotonic reads",
+    "read your writes",
+    "monotonic writes",
+    "writes follow reads",
+    "slow memory",
+];
+
 pub const MODELS: [&[u32]; 13] = [
     &[2, 3, 1],
     &[2, 4, 1],
@@ -46,10 +62,15 @@ pub fn first_broken(list: &[u32], answers: &[Answer]) -> Option<usize> {
     list.iter().position(|&predicate| answers[predicate as usize - 1] != Answer::Met)
 }
 
-/// The first broken predicate of a model's list gives the answer.
-pub fn answer_of(model: u32, answers: &[Answer]) -> Answer {
+/// The number of the first broken predicate of a model's list.
+pub fn broken_by(model: u32, answers: &[Answer]) -> Option<u32> {
     let list = MODELS[model as usize - 1];
-    first_broken(list, answers).map_or(Answer::Met, |at| answers[list[at] as usize - 1])
+    first_broken(list, answers).map(|at| list[at])
+}
+
+/// It gives the answer.
+pub fn answer_of(model: u32, answers: &[Answer]) -> Answer {
+    broken_by(model, answers).map_or(Answer::Met, |predicate| answers[predicate as usize - 1])
 }
 
 /// What the thirteen predicates say of a record, in order, or what refuses it.

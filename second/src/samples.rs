@@ -3,6 +3,8 @@
 use crate::openings::{Openings, OPENINGS_BYTES};
 use crate::record::*;
 use crate::store::{run_script, Call};
+use std::fs;
+use std::path::Path;
 
 pub struct Sample {
     pub name: String,
@@ -27,9 +29,19 @@ pub fn samples() -> Vec<Sample> {
     all
 }
 
-/// The samples that are records.
+/// The samples that are records, and the files that keep models apart.
 pub fn records() -> impl Iterator<Item = Sample> {
-    samples().into_iter().filter(|sample| sample.name.ends_with(".gcr"))
+    samples().into_iter().filter(|sample| sample.name.ends_with(".gcr")).chain(separating())
+}
+
+/// The eight records of the repository by which `lattice` keeps models apart, record 1 first.
+pub fn separating() -> impl Iterator<Item = Sample> {
+    let folder = Path::new(env!("CARGO_MANIFEST_DIR")).join("../records");
+    (1..=8).map(move |k| {
+        let name = format!("separating-{k}.gcr");
+        let bytes = fs::read(folder.join(&name)).unwrap_or_else(|error| panic!("records/{name}: {error}"));
+        Sample { name, bytes }
+    })
 }
 
 impl Sample {

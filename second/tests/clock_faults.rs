@@ -54,9 +54,12 @@ fn wrong_rules_are_found() {
     assert!(tally.failed > 0);
 }
 
+/// What is taken for a difference.
+type Misreading = fn(u32) -> u32;
+
 #[test]
 fn misread_differences_are_found() {
-    let misreadings: [(&str, fn(u32) -> u32); 7] = [
+    let misreadings: [(&str, Misreading); 7] = [
         ("one byte", |difference| difference & 0xff),
         ("two bytes", |difference| difference & 0xffff),
         ("31 bits", |difference| difference & (u32::MAX >> 1)),

@@ -5,8 +5,8 @@ use second::compare::occurrences::Row;
 use second::compare::tally::Tally;
 use second::compare::{answered, models, must_occur, programs, rehearsal, Seeds};
 use second::generate::random::Random;
-use second::generate::{meeting, record, scripts};
-use second::models::{answers, MODELS};
+use second::generate::{apart, meeting, record, scripts};
+use second::models::{answers, judge_model, MET, MODELS};
 use second::predicates::Answer::{Broken, Met};
 use second::predicates::{Judged, PREDICATES};
 use second::questions::ask;
@@ -71,6 +71,18 @@ fn records_meet_what_they_are_made_for() {
     }
 }
 
+#[test]
+fn records_apart_meet_their_model() {
+    for model in apart::MODELS {
+        for seed in 0..500 {
+            let mut random = Random::new(seed);
+            let n = random.index(12);
+            let bytes = apart::record(&mut random, n, model).to_bytes();
+            assert_eq!(judge_model(model, &bytes), MET, "model {model} by seed {seed}");
+        }
+    }
+}
+
 /// Over the seeds of a CI run every listed answer occurs twenty times and more, and no other answer does.
 fn assert_all_occur(lists: &[&[Row]], seeds: u64, count: impl FnMut(u64, &mut Tally)) {
     let mut tally = Tally::counting();
@@ -85,7 +97,7 @@ fn assert_all_occur(lists: &[&[Row]], seeds: u64, count: impl FnMut(u64, &mut Ta
 
 #[test]
 fn every_answer_of_records() {
-    let of_models = [must_occur::MODELS, must_occur::MODEL_CLOCKS];
+    let of_models = [must_occur::MODELS, must_occur::MODEL_CLOCKS, must_occur::MODELS_APART];
     let of_records = [must_occur::EDITIONS, must_occur::READS, must_occur::CLOCKS, must_occur::RETURNS];
     let lists = [&of_models[..], &of_records].concat();
     assert_all_occur(&lists, 5_000, |seed, tally| {

@@ -21,6 +21,7 @@ const LISTS: [&[&[Row]]; 6] = [
         must_occur::CLOCKS,
         must_occur::RETURNS,
         must_occur::MODEL_CLOCKS,
+        must_occur::MODELS_APART,
     ],
     &[must_occur::REHEARSE, must_occur::STORE_OPENINGS, must_occur::CALLS],
     &[must_occur::REHEARSAL, must_occur::STORE_OPENINGS, must_occur::CALLS],

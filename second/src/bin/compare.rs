@@ -7,8 +7,8 @@ use std::path::{Path, PathBuf};
 use std::process::ExitCode;
 
 const USAGE: &str = "compare WHAT [--seeds N] [--from K] [--seconds T] [--keep FOLDER]
-  programs:  inspect | verdict | rehearse   [--bin FOLDER, by default ../target/bin]
-  libraries: reader | models | rehearsal    [--against linked | baseline | itself]
+  programs:  inspect | verdict | rehearse | lattice   [--bin FOLDER, by default ../target/bin]
+  libraries: reader | models | rehearsal              [--against linked | baseline | itself]
   --few      for some seeds by hand: an answer that never occurred is no failure
   linked needs a build with --features linked";
 
@@ -37,7 +37,10 @@ fn main() -> ExitCode {
 
 /// Compares, and shows how often each answer occurred.
 fn run(what: &str, options: &Options) -> Result<Tally, String> {
-    println!("{what}: {} seeds from {}", options.seeds.count, options.seeds.from);
+    match what {
+        "lattice" => println!("lattice: no seeds, as it takes no input"),
+        _ => println!("{what}: {} seeds from {}", options.seeds.count, options.seeds.from),
+    }
     let mut tally = Tally::keeping(options.keep.clone());
     compare(what, options, &mut tally)?;
     print!("{}", tally.occurrences.table());
@@ -96,6 +99,7 @@ fn compare(what: &str, options: &Options, tally: &mut Tally) -> Result<(), Strin
         "inspect" => programs::inspect(&program, seeds, tally),
         "verdict" => programs::verdict(&program, seeds, tally),
         "rehearse" => programs::rehearse(&program, seeds, tally),
+        "lattice" => programs::lattice(&program, tally),
         "reader" => reader::compare(&*reading(against)?, seeds, tally),
         "models" => models::compare(&*judging(against)?, seeds, tally),
         "rehearsal" => rehearsal::compare(&*rehearsing(against)?, seeds, tally),

@@ -2,7 +2,7 @@
 
 use super::copies::{calls_answered, Copies};
 use super::tally::Tally;
-use super::{clocks, opened, returned, states};
+use super::{clocks, covers, opened, returned, states};
 use crate::models::{first_broken, Answers, MODELS};
 use crate::predicates::{Answer, PREDICATES};
 use crate::questions::Refusal;
@@ -97,6 +97,7 @@ pub fn predicates(answers: &[Answer], tally: &mut Tally) {
 
 pub fn models(record: &Record, answers: &[Answer], tally: &mut Tally) {
     clocks::models(record, answers, tally);
+    covers::kept_apart(answers, tally);
     for (model, list) in (1..).zip(MODELS) {
         let sort = first_broken(list, answers).map_or(MODEL_MET, |at| MODEL_BROKEN[at]);
         tally.occurred(sort, model);

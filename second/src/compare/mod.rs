@@ -3,6 +3,7 @@
 pub mod answered;
 pub mod clocks;
 pub mod copies;
+pub mod covers;
 #[cfg(feature = "linked")]
 pub mod linked;
 pub mod metamorphic;

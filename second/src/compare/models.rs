@@ -2,13 +2,16 @@
 
 use super::subject::Judge;
 use super::tally::{Case, Tally};
-use super::{answered, metamorphic, must_occur, Seeds};
+use super::{answered, covers, metamorphic, must_occur, Seeds};
 use crate::generate::{self, sweeps, Sample};
 use crate::models::{answers, packed, packed_all, packed_predicate, Answers};
 use crate::record::Record;
 use crate::samples;
 
 const NUMBERS: [u32; 17] = [0, 1, 2, 3, 4, 5, 6, 7, 8, 9, 10, 11, 12, 13, 14, 256, u32::MAX];
+
+/// Where those stand that are models.
+const MODELS_TOLD: std::ops::RangeInclusive<usize> = 1..=13;
 
 /// Buffers for all thirteen: none, too short, and longer than they are.
 const OUT_LENGTHS: [usize; 3] = [0, 5, 15];
@@ -23,6 +26,7 @@ pub fn compare(subject: &dyn Judge, seeds: &Seeds, tally: &mut Tally) {
     tally.occurrences.must(must_occur::CLOCKS);
     tally.occurrences.must(must_occur::RETURNS);
     tally.occurrences.must(must_occur::MODEL_CLOCKS);
+    tally.occurrences.must(must_occur::MODELS_APART);
     one_record(subject, &named("empty".to_string(), &[]), tally);
     for sample in samples::records() {
         one_record(subject, &named(sample.name, &sample.bytes), tally);
@@ -63,11 +67,15 @@ fn one_record(subject: &dyn Judge, case: &Case, tally: &mut Tally) -> bool {
     let given = case.input.to_vec();
     let answers = answers(&given);
     count(&given, &answers, tally);
-    for number in NUMBERS {
+    let told = NUMBERS.map(|number| subject.judge_model(number, &given));
+    for (number, told) in NUMBERS.into_iter().zip(told) {
         let (model, predicate) = (packed(number, &answers), packed_predicate(number, &answers));
         answered::number_given(number, tally);
-        tally.equal(case, &format!("model {number}"), &model, &subject.judge_model(number, &given));
+        tally.equal(case, &format!("model {number}"), &model, &told);
         tally.equal(case, &format!("predicate {number}"), &predicate, &subject.judge_predicate(number, &given));
+    }
+    if answers.is_ok() {
+        covers::held(&told[MODELS_TOLD], case, tally);
     }
     for words in OUT_LENGTHS {
         let (mut due, mut out) = (vec![LENT_WORD; words], vec![LENT_WORD; words]);

@@ -2,6 +2,7 @@
 
 use super::answered::*;
 use super::clocks::*;
+use super::covers::APART;
 use super::occurrences::Row;
 use super::opened::*;
 use super::returned::TOLD;
@@ -83,6 +84,22 @@ pub const RETURNS: &[Row] = &TOLD;
 
 /// The models that have one of these two in their lists.
 pub const MODEL_CLOCKS: &[Row] = &[(MODEL_MET_BY_IT, &[1, 2, 5])];
+
+/// Of each model, those that it does not cover: 113 pairs. Linearizable covers all others.
+pub const MODELS_APART: &[Row] = &[
+    (APART[1], &[1, 3, 4, 5, 6, 7, 8, 9, 12, 13]),
+    (APART[2], &[1, 2, 5]),
+    (APART[3], &[1, 2, 3, 5, 6, 7]),
+    (APART[4], &[1, 2, 3, 6, 7]),
+    (APART[5], &[1, 2, 3, 4, 5, 9, 11, 12]),
+    (APART[6], &[1, 2, 3, 4, 5, 6, 8, 9, 10, 11, 12]),
+    (APART[7], &[1, 2, 3, 4, 5, 6, 7, 9, 11, 12]),
+    (APART[8], &[1, 2, 3, 4, 5, 6, 7, 8, 10, 11, 12, 13]),
+    (APART[9], &[1, 2, 3, 4, 5, 6, 7, 8, 9, 11, 12, 13]),
+    (APART[10], &[1, 2, 3, 4, 5, 6, 7, 8, 9, 10, 12, 13]),
+    (APART[11], &[1, 2, 3, 4, 5, 6, 7, 8, 9, 10, 11, 13]),
+    (APART[12], &[1, 2, 3, 4, 5, 6, 7, 8, 9, 10, 11, 12]),
+];
 
 /// The program lends its own work slice, and nobody gives it a number.
 pub const INSPECT: &[Row] = &[(PASSED, &[0]), (AT_PLACE_0, QUESTIONS), (ABOVE_PLACE_0, PLACED)];

@@ -3,7 +3,7 @@
 use super::tally::{Case, Tally};
 use super::{answered, must_occur, opened, Seeds};
 use crate::generate::{self, scripts, sweeps, Sample};
-use crate::lines::RehearsalInput;
+use crate::lines::{RehearsalInput, NOT_SHOWN};
 use crate::models::answers;
 use crate::questions::ask;
 use crate::record::Record;
@@ -54,6 +54,15 @@ pub fn rehearse(program: &Path, seeds: &Seeds, tally: &mut Tally) {
     seeds.each(tally, |seed, tally| {
         one(program, rehearse_due, seed.to_string(), &scripts::program_input(seed), tally);
     });
+}
+
+/// The program takes no input. No line may say that nothing keeps two models apart.
+pub fn lattice(program: &Path, tally: &mut Tally) {
+    let due = lines::lattice_of_files();
+    let case = Case { name: "lattice".to_string(), input: &[] };
+    let not_shown = due.lines().find(|line| line.starts_with(NOT_SHOWN));
+    tally.check(&case, not_shown.is_none(), || format!("second checker {not_shown:?}"));
+    writes(program, &case, due.as_bytes(), tally);
 }
 
 fn inspect_due(bytes: &[u8], tally: &mut Tally) -> Vec<u8> {
@@ -110,17 +119,30 @@ fn one(program: &Path, due: Due, name: String, input: &[u8], tally: &mut Tally) 
     let stem = program.file_stem().unwrap_or_default().to_string_lossy();
     let case = Case { name: format!("{stem}-{name}"), input };
     let due = due(input, tally);
-    match run(program, input) {
-        Err(error) => tally.check(&case, false, || format!("did not run to its end: {error}")),
-        Ok(written) => tally
-            .check(&case, written == due, || format!("second checker {:?}, other {:?}", shown(&due), shown(&written))),
+    writes(program, &case, &due, tally);
+}
+
+/// Compares what the program writes for the case's input with what it should.
+fn writes(program: &Path, case: &Case, due: &[u8], tally: &mut Tally) {
+    match run(program, case.input) {
+        Err(error) => tally.check(case, false, || format!("did not run to its end: {error}")),
+        Ok(written) => tally.check(case, written == due, || {
+            let from = differing_line(due, &written);
+            format!("second checker {:?}, other {:?}", shown(due, from), shown(&written, from))
+        }),
     }
 }
 
-/// Text as it is; of a record only the beginning.
-fn shown(output: &[u8]) -> String {
-    let start = &output[..output.len().min(300)];
-    format!("{} ({} bytes)", String::from_utf8_lossy(start), output.len())
+/// Where the line begins in which two outputs first differ.
+fn differing_line(due: &[u8], written: &[u8]) -> usize {
+    let same = due.iter().zip(written).take_while(|(a, b)| a == b).count();
+    due[..same].iter().rposition(|&byte| byte == b'\n').map_or(0, |end| end + 1)
+}
+
+/// Text as it is; no more of it than helps.
+fn shown(output: &[u8], from: usize) -> String {
+    let part = &output[from..output.len().min(from + 300)];
+    format!("{} ({} bytes)", String::from_utf8_lossy(part), output.len())
 }
 
 /// The exit status is not compared, but an end by a signal is a failure.

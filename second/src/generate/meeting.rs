@@ -115,7 +115,7 @@ fn see_what_it_sees(record: &mut Record, b: usize, c: usize) {
 }
 
 /// The same record with its events numbered at random.
-fn renumbered(random: &mut Random, record: &Record) -> Record {
+pub fn renumbered(random: &mut Random, record: &Record) -> Record {
     let old_of = random.order(record.events.len());
     let events = old_of.iter().map(|&old| {
         let mut event = record.events[old].clone();

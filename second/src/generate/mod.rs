@@ -1,5 +1,6 @@
 //! Inputs by seed: the same seed always gives the same input.
 
+pub mod apart;
 pub mod change;
 pub mod clocks;
 pub mod damage;
@@ -25,10 +26,11 @@ pub struct Sample {
 type Family = fn(&mut Random) -> Vec<u8>;
 
 /// Each family with its share of a hundred seeds.
-const FAMILIES: [(u64, &str, Family); 9] = [
+const FAMILIES: [(u64, &str, Family); 10] = [
     (6, "small", small),
     (10, "returns", at_returns),
-    (21, "edge", edge),
+    (14, "edge", edge),
+    (7, "apart", models_apart),
     (30, "damaged", damaged),
     (18, "block-0", block_0),
     (3, "bit", one_bit),
@@ -93,6 +95,12 @@ fn edge_of(random: &mut Random, n: usize) -> Vec<u8> {
         change::one_field(random, &mut record);
     }
     record.to_bytes()
+}
+
+fn models_apart(random: &mut Random) -> Vec<u8> {
+    let n = 3 + random.below(6) as usize;
+    let model = random.pick(&apart::MODELS);
+    apart::record(random, n, model).to_bytes()
 }
 
 fn damaged(random: &mut Random) -> Vec<u8> {
