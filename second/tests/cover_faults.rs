@@ -72,22 +72,23 @@ fn sequential_without_causal_is_told_twice() {
     }
 }
 
-/// How many comparisons fail of the right program with its lines changed.
-fn failures(folder: &Path, change: &str) -> u64 {
+/// How many comparisons fail of the right program with its lines changed, or its records.
+fn failures(folder: &Path, lines: &str, records: &str) -> u64 {
     let script = folder.join("lattice");
-    let text = format!("#!/bin/sh\n'{}' | {change}\n", env!("CARGO_BIN_EXE_lattice"));
+    let right = env!("CARGO_BIN_EXE_lattice");
+    let text = format!("#!/bin/sh\n[ $# -eq 0 ] || exec '{right}' {records}\n'{right}' | {lines}\n");
     fs::write(&script, text).expect("can be written");
     fs::set_permissions(&script, fs::Permissions::from_mode(0o755)).expect("can be set");
     let mut tally = Tally::counting();
     programs::lattice(&script, &mut tally);
-    assert_eq!(tally.passed + tally.failed, 2);
+    assert_eq!(tally.passed + tally.failed, 10);
     tally.failed
 }
 
 #[test]
 fn wrong_lines_are_found() {
     let folder = made("lines");
-    assert_eq!(failures(&folder, "cat"), 0);
+    assert_eq!(failures(&folder, "cat", "$1"), 0);
     let changes = [
         "sed '$d'",
         "sed '$p'",
@@ -103,9 +104,17 @@ fn wrong_lines_are_found() {
         "cat >/dev/null",
     ];
     for change in changes {
-        assert_eq!(failures(&folder, change), 1, "{change}");
+        assert_eq!(failures(&folder, change, "$1"), 1, "{change}");
     }
     let mut tally = Tally::counting();
     programs::lattice(Path::new("no-such-program"), &mut tally);
-    assert_eq!(tally.failed, 1);
+    assert_eq!(tally.failed, 9);
+}
+
+#[test]
+fn wrong_records_are_found() {
+    let folder = made("records");
+    assert_eq!(failures(&folder, "cat", "3"), 7);
+    assert_eq!(failures(&folder, "cat", ""), 8);
+    assert_eq!(failures(&folder, "cat", "9"), 8);
 }

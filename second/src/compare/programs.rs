@@ -56,13 +56,20 @@ pub fn rehearse(program: &Path, seeds: &Seeds, tally: &mut Tally) {
     });
 }
 
-/// The program takes no input. No line may say that nothing keeps two models apart.
+/// The program takes no input. No line may say that nothing keeps two models apart. With a record's number it writes that
+/// record, which is the file.
 pub fn lattice(program: &Path, tally: &mut Tally) {
     let due = lines::lattice_of_files();
     let case = Case { name: "lattice".to_string(), input: &[] };
     let not_shown = due.lines().find(|line| line.starts_with(NOT_SHOWN));
     tally.check(&case, not_shown.is_none(), || format!("second checker {not_shown:?}"));
-    writes(program, &case, due.as_bytes(), tally);
+    writes(Command::new(program), &case, due.as_bytes(), tally);
+    for (k, sample) in (1..).zip(samples::separating()) {
+        let mut command = Command::new(program);
+        command.arg(k.to_string());
+        let case = Case { name: format!("lattice-{k}"), input: &[] };
+        writes(command, &case, &sample.bytes, tally);
+    }
 }
 
 fn inspect_due(bytes: &[u8], tally: &mut Tally) -> Vec<u8> {
@@ -119,12 +126,12 @@ fn one(program: &Path, due: Due, name: String, input: &[u8], tally: &mut Tally) 
     let stem = program.file_stem().unwrap_or_default().to_string_lossy();
     let case = Case { name: format!("{stem}-{name}"), input };
     let due = due(input, tally);
-    writes(program, &case, &due, tally);
+    writes(Command::new(program), &case, &due, tally);
 }
 
 /// Compares what the program writes for the case's input with what it should.
-fn writes(program: &Path, case: &Case, due: &[u8], tally: &mut Tally) {
-    match run(program, case.input) {
+fn writes(command: Command, case: &Case, due: &[u8], tally: &mut Tally) {
+    match run(command, case.input) {
         Err(error) => tally.check(case, false, || format!("did not run to its end: {error}")),
         Ok(written) => tally.check(case, written == due, || {
             let from = differing_line(due, &written);
@@ -146,8 +153,8 @@ fn shown(output: &[u8], from: usize) -> String {
 }
 
 /// The exit status is not compared, but an end by a signal is a failure.
-fn run(program: &Path, input: &[u8]) -> io::Result<Vec<u8>> {
-    let mut child = Command::new(program).stdin(Stdio::piped()).stdout(Stdio::piped()).spawn()?;
+fn run(mut command: Command, input: &[u8]) -> io::Result<Vec<u8>> {
+    let mut child = command.stdin(Stdio::piped()).stdout(Stdio::piped()).spawn()?;
     let streams = (child.stdin.take().expect("piped"), child.stdout.take().expect("piped"));
     let output = talk(streams, input.to_vec()).recv_timeout(PATIENCE);
     if output.is_err() {
