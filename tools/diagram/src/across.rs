@@ -2,14 +2,13 @@
 
 use crate::columns::{Columns, Gaps};
 use crate::event::Event;
+use crate::page::LEAST_WIDTH;
 use crate::record::Record;
 use crate::scale::Scale;
 
 /// Room left of the first time, for the sites' names, and right of the last.
 pub const LEFT: f64 = 96.0;
 const RIGHT: f64 = 40.0;
-/// The legend and the captions have room in this.
-const LEAST_WIDTH: f64 = 880.0;
 /// Few events are not spread further than this.
 const WIDEST_GAP: f64 = 150.0;
 

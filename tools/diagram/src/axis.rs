@@ -1,7 +1,7 @@
 //! The times, below the sites.
 
 use crate::across::Across;
-use crate::picture::MARGIN;
+use crate::page::MARGIN;
 use crate::scale::text_width;
 use crate::svg::{at, Svg};
 

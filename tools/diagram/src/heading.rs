@@ -2,7 +2,7 @@
 
 use crate::asked::Finding;
 use crate::breach::Breach;
-use crate::picture::MARGIN;
+use crate::page::MARGIN;
 use crate::record::Record;
 use crate::scale::{bold_width, text_width};
 use crate::svg::{at, Svg};

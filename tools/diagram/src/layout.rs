@@ -5,7 +5,7 @@ use crate::arrow::Arrow;
 use crate::combs::{combs, Teeth};
 use crate::frame::Frame;
 use crate::gaps::{self, Gap};
-use crate::picture::MARGIN;
+use crate::page::MARGIN;
 use crate::ports::Ports;
 use crate::record::Record;
 use crate::routes::{Ground, Route};

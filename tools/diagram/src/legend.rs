@@ -2,7 +2,7 @@
 
 use crate::arrow::Says;
 use crate::lines::strokes;
-use crate::picture::MARGIN;
+use crate::page::MARGIN;
 use crate::scale::{text_width, Scale};
 use crate::signs::cross;
 use crate::strokes::straight;

@@ -9,7 +9,6 @@ mod chain;
 mod columns;
 mod combs;
 mod event;
-mod frame;
 mod gaps;
 mod heading;
 mod lanes;
@@ -23,24 +22,21 @@ mod ports;
 mod record;
 mod routes;
 mod rows;
-mod scale;
 mod sight;
 mod signs;
 mod source;
-mod strokes;
-mod style;
-mod svg;
 mod tracks;
 mod uprights;
 mod web;
-mod wrap;
 
 use asked::Asked;
+// The files here take these from the crate too, as they do their own.
+use diagram::{badge, ending, frame, page, scale, strokes, style, svg, wrap};
+use ending::{failed, written};
 use gcr::Refusal;
 use record::Record;
 use source::Source;
 use std::ffi::OsString;
-use std::io::{self, Write};
 use std::process::ExitCode;
 
 const USAGE: &str = "usage: diagram [--predicate K | --model K] [RECORD] > picture.svg";
@@ -66,16 +62,4 @@ fn drawn(name: &str, bytes: &[u8], asked: Asked) -> Result<String, Refusal> {
     let record = Record::read(bytes)?;
     let finding = asked.judge(bytes)?;
     Ok(picture::draw(name, &record, finding.as_ref()))
-}
-
-fn failed(why: &str) -> ExitCode {
-    eprintln!("{why}");
-    ExitCode::from(1)
-}
-
-fn written(picture: &str) -> ExitCode {
-    match io::stdout().write_all(picture.as_bytes()) {
-        Ok(()) => ExitCode::SUCCESS,
-        Err(error) => failed(&format!("cannot write the picture: {error}")),
-    }
 }

@@ -1,10 +1,11 @@
 //! The marks of events.
 
+use crate::badge::badge;
 use crate::event::Event;
 use crate::frame::Frame;
 use crate::layout::Mark;
 use crate::scale::Scale;
-use crate::svg::{at, steps, Svg};
+use crate::svg::{at, Svg};
 
 /// What is drawn at a mark.
 pub struct Shown<'a> {
@@ -65,21 +66,6 @@ fn labelled(svg: &mut Svg, shown: &Shown, frame: &Frame, scale: &Scale) {
     svg.centred("label", at(centre, frame.middle() - scale.font * 0.07), scale.font, &shown.event.label());
     let place = at(centre, frame.middle() + scale.font * 0.86);
     svg.centred("place", place, scale.font * 0.76, &format!("ar {}", shown.event.position));
-}
-
-/// The part of a mark behind the number: like the mark on the left, straight on the right.
-fn badge(frame: &Frame, round: f64, width: f64) -> String {
-    let (left, top, bottom) = (frame.left, frame.top, frame.bottom);
-    let edge = left + width;
-    let line = steps(&[
-        ("M", &[at(edge, top)]),
-        ("L", &[at(left + round, top)]),
-        ("Q", &[at(left, top), at(left, top + round)]),
-        ("L", &[at(left, bottom - round)]),
-        ("Q", &[at(left, bottom), at(left + round, bottom)]),
-        ("L", &[at(edge, bottom)]),
-    ]);
-    line + "Z"
 }
 
 /// Without room for a label there is only the number.

@@ -8,13 +8,13 @@ use crate::heading::{Heading, Told};
 use crate::layout::Layout;
 use crate::legend::{self, Legend, Sign};
 use crate::marks::{self, Shown};
+use crate::page::MARGIN;
 use crate::record::Record;
 use crate::scale::Scale;
+use crate::strokes::rounded;
 use crate::svg::{at, Svg};
 use crate::web::Web;
 use crate::{axis, lines, signs, style};
-
-pub const MARGIN: f64 = 24.0;
 
 pub fn draw(name: &str, record: &Record, finding: Option<&Finding>) -> String {
     let broken = finding.and_then(|finding| finding.broken);
@@ -78,7 +78,7 @@ impl Scene<'_> {
     fn visibility(&self, svg: &mut Svg) {
         let arrows = self.web.arrows.iter().zip(&self.layout.routes);
         for (arrow, route) in arrows.filter(|(arrow, _)| !arrow.says.is_of_break()) {
-            svg.between(arrow.says.class(), (arrow.from, arrow.to), &route.stroke(), &arrow.words());
+            svg.between(arrow.says.class(), (arrow.from, arrow.to), &rounded(&route.points), &arrow.words());
         }
     }
 
@@ -95,7 +95,7 @@ impl Scene<'_> {
         let arrows = self.web.arrows.iter().zip(&self.layout.routes);
         let breaking: Vec<_> = arrows.filter(|(arrow, _)| arrow.says.is_of_break()).collect();
         for (arrow, route) in &breaking {
-            svg.between(arrow.says.class(), (arrow.from, arrow.to), &route.stroke(), &arrow.words());
+            svg.between(arrow.says.class(), (arrow.from, arrow.to), &rounded(&route.points), &arrow.words());
         }
         breaking.first().iter().for_each(|(arrow, route)| signs::draw(svg, self.layout, arrow, route, &breach.note));
     }

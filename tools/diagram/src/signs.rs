@@ -4,7 +4,7 @@ use crate::across::LEFT;
 use crate::arrow::Arrow;
 use crate::frame::Frame;
 use crate::layout::{level_of_note, Layout};
-use crate::picture::MARGIN;
+use crate::page::MARGIN;
 use crate::routes::Route;
 use crate::scale::bold_width;
 use crate::svg::{at, steps, Point, Svg};

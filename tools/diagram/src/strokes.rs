@@ -1,25 +1,21 @@
-//! The lines of arrows.
+//! Lines from point to point.
 
-use crate::routes::Route;
 use crate::svg::{at, steps, Point};
 
-/// How round an arrow turns.
+/// How round a line turns.
 const ROUND: f64 = 6.0;
 
-impl Route {
-    /// With round turns, by which a turn can be told from a crossing.
-    pub fn stroke(&self) -> String {
-        let points = &self.points;
-        let mut parts = vec![("M", vec![points[0]])];
-        for turn in points.windows(3) {
-            let round = ROUND.min(distance(turn[0], turn[1]) / 2.0).min(distance(turn[1], turn[2]) / 2.0);
-            parts.push(("L", vec![toward(turn[1], turn[0], round)]));
-            parts.push(("Q", vec![turn[1], toward(turn[1], turn[2], round)]));
-        }
-        parts.push(("L", vec![points[points.len() - 1]]));
-        let parts: Vec<(&str, &[Point])> = parts.iter().map(|(letter, points)| (*letter, &points[..])).collect();
-        steps(&parts)
+/// Through these points, with round turns, by which a turn can be told from a crossing.
+pub fn rounded(points: &[Point]) -> String {
+    let mut parts = vec![("M", vec![points[0]])];
+    for turn in points.windows(3) {
+        let round = ROUND.min(distance(turn[0], turn[1]) / 2.0).min(distance(turn[1], turn[2]) / 2.0);
+        parts.push(("L", vec![toward(turn[1], turn[0], round)]));
+        parts.push(("Q", vec![turn[1], toward(turn[1], turn[2], round)]));
     }
+    parts.push(("L", vec![points[points.len() - 1]]));
+    let parts: Vec<(&str, &[Point])> = parts.iter().map(|(letter, points)| (*letter, &points[..])).collect();
+    steps(&parts)
 }
 
 pub fn straight(from: Point, to: Point) -> String {

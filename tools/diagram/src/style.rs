@@ -4,7 +4,8 @@
 use crate::scale::Scale;
 use crate::svg::{short, Svg};
 
-const RULES: &str = "\
+/// Of every picture: words, and what is behind all.
+pub const PAGE: &str = "\
 text { font-family: Inter, 'Helvetica Neue', Arial, 'Liberation Sans', 'DejaVu Sans', sans-serif; fill: #1b2733; }
 .title { font-weight: 600; }
 .met { font-weight: 600; fill: #00578a; }
@@ -15,6 +16,10 @@ text { font-family: Inter, 'Helvetica Neue', Arial, 'Liberation Sans', 'DejaVu S
 .tick { fill: #5c6975; }
 .paper { fill: #ffffff; }
 .band { fill: #f3f6f9; }
+";
+
+/// Of events.
+const RULES: &str = "\
 .time { stroke: #cdd6de; stroke-width: 1.5; }
 .grid { stroke: #c9d2da; stroke-width: 1; }
 .write .body { fill: #0072b2; stroke: #0072b2; stroke-width: 1.5; }
@@ -48,7 +53,7 @@ const OPEN: &str = "M0.8,1 L9,5 L0.8,9 Z";
 
 pub fn write(svg: &mut Svg, scale: &Scale) {
     let line = short(scale.head / 7.0);
-    svg.raw(&format!("<style>\n.seen {{ stroke-width: {line}; }}\n{RULES}</style>"));
+    svg.raw(&format!("<style>\n.seen {{ stroke-width: {line}; }}\n{PAGE}{RULES}</style>"));
     svg.raw("<defs>");
     head(svg, "all", scale.head, &format!("fill=\"#566573\" d=\"{FILLED}\""));
     let open = "fill=\"#ffffff\" stroke=\"#566573\" stroke-width=\"1.3\"";

@@ -33,13 +33,27 @@ impl Svg {
         self.text.push('\n');
     }
 
+    /// What a screen reader may read after the title; before all that is drawn.
+    pub fn describe(&mut self, words: &str) {
+        self.raw(&format!("<desc>{}</desc>", escaped(words)));
+    }
+
     pub fn open(&mut self, class: &str) {
         self.raw(&format!("<g class=\"{class}\">"));
     }
 
     /// A group that tells which event it shows, and all of it for a viewer to show on pointing at it.
     pub fn open_event(&mut self, class: &str, event: usize, title: &str) {
-        self.raw(&format!("<g class=\"{class}\" data-event=\"{event}\"><title>{}</title>", escaped(title)));
+        self.open_of("event", class, event, title);
+    }
+
+    /// The same of a model.
+    pub fn open_model(&mut self, class: &str, model: usize, title: &str) {
+        self.open_of("model", class, model, title);
+    }
+
+    fn open_of(&mut self, kind: &str, class: &str, number: usize, title: &str) {
+        self.raw(&format!("<g class=\"{class}\" data-{kind}=\"{number}\"><title>{}</title>", escaped(title)));
     }
 
     pub fn close(&mut self) {
@@ -63,8 +77,8 @@ impl Svg {
         self.raw(&format!("<path class=\"{class}\" d=\"{steps}\"/>"));
     }
 
-    /// A path that tells between which events it runs, for whoever reads the picture by a program, and what it says,
-    /// for a viewer to show on pointing at it.
+    /// A path that tells between which events or models it runs, for whoever reads the picture by a program, and what it
+    /// says, for a viewer to show on pointing at it.
     pub fn between(&mut self, class: &str, (from, to): (usize, usize), steps: &str, title: &str) {
         let path = format!("<path class=\"{class}\" data-from=\"{from}\" data-to=\"{to}\" d=\"{steps}\">");
         self.raw(&format!("{path}<title>{}</title></path>", escaped(title)));

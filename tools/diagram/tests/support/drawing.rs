@@ -9,7 +9,7 @@ pub struct Element {
     pub name: String,
     pub attributes: HashMap<String, String>,
     pub text: String,
-    /// The event in whose mark it stands.
+    /// The event in whose mark it stands, or the model in whose box.
     pub event: Option<usize>,
 }
 
@@ -24,7 +24,8 @@ impl Drawing {
             let (tag, text) = piece.split_once('>').expect("a tag ends");
             let attributes = attributes(tag);
             if tag == "/g" || tag.starts_with("g ") {
-                event = attributes.get("data-event").map(|number| number.parse().expect("a number"));
+                let number = attributes.get("data-event").or(attributes.get("data-model"));
+                event = number.map(|number| number.parse().expect("a number"));
             }
             let name = tag.split([' ', '/']).next().expect("a tag has a name").to_string();
             elements.push(Element { name, attributes, text: unescaped(text.trim_end()), event });

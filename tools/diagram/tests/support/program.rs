@@ -6,7 +6,16 @@ use std::io::Write;
 use std::process::{Command, Output, Stdio};
 
 pub fn run(words: &[&str], input: &[u8]) -> Output {
-    let mut command = Command::new(env!("CARGO_BIN_EXE_diagram"));
+    run_program(env!("CARGO_BIN_EXE_diagram"), words, input)
+}
+
+/// The same of the program that draws which model covers which.
+pub fn run_lattice(words: &[&str], lines: &str) -> Output {
+    run_program(env!("CARGO_BIN_EXE_lattice"), words, lines.as_bytes())
+}
+
+fn run_program(program: &str, words: &[&str], input: &[u8]) -> Output {
+    let mut command = Command::new(program);
     command.args(words).stdin(Stdio::piped()).stdout(Stdio::piped()).stderr(Stdio::piped());
     let mut child = command.spawn().expect("the program starts");
     // A program that does not read its input has closed it.
@@ -15,7 +24,11 @@ pub fn run(words: &[&str], input: &[u8]) -> Output {
 }
 
 pub fn drawn(words: &[&str], input: &[u8]) -> String {
-    let output = run(words, input);
+    picture(run(words, input))
+}
+
+/// What a program drew.
+pub fn picture(output: Output) -> String {
     assert!(output.status.success(), "{}", String::from_utf8_lossy(&output.stderr));
     String::from_utf8(output.stdout).expect("a picture is text")
 }
