@@ -47,7 +47,9 @@ extern "C" {
  * of a break', says which event is which); 2,097,152 + 1,024 * number + place refused.
  * Predicates 3 and 4, and so models 1, 2 and 5, go by the record's gcr_difference. A pending event returned before
  * nothing. One that returned did so before an event of its own site started where return < start, and before one of
- * another site where return + difference < start; the sum does not wrap. No other predicate goes by the difference. */
+ * another site where return + difference < start; the sum does not wrap. No other predicate goes by the difference.
+ * Where a model is met, so is every model that it covers, and where it is broken, so is every model that covers it:
+ * README.md, 'Which model covers which', has the 43 pairs. */
 uint64_t gcr_judge_model(uint32_t model, const uint8_t *record, size_t len);
 
 /* The same of one predicate, 1 to 13. */

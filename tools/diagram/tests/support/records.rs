@@ -81,5 +81,6 @@ pub fn shipped() -> Vec<Record> {
     let clocks = include_bytes!("../../../../records/clocks.gcr");
     let early_read = include_bytes!("../../../../records/early-read.gcr");
     let all = [&listing[..], stale_read, stale_value, empty, opening, stale_opening, clocks, early_read];
-    all.map(Record::from_bytes).to_vec()
+    let separating = second::samples::separating().map(|sample| Record::from_bytes(&sample.bytes));
+    all.into_iter().map(Record::from_bytes).chain(separating).collect()
 }
