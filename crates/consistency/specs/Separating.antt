@@ -11,7 +11,7 @@ use Rattle.record.specs.Terms.{none, value}
 use Rattle.record.specs.History.{History}
 use Rattle.record.specs.Encode.{recordBytes}
 use Rattle.record.specs.Listed.{Noted, event, aRead, aWrite, returned, pending, member, historyOfEvents}
-use Rattle.consistency.specs.Lattice.{linearizable, regular, sequential, causal, realTimeCausal, processor, perObjectSequential, pram, monotonicReads, readYourWrites, monotonicWrites, writesFollowReads, slowMemory}
+use Rattle.consistency.specs.Lattice.{regular, sequential, causal, realTimeCausal, processor, perObjectSequential, pram, monotonicReads, readYourWrites, monotonicWrites, writesFollowReads, slowMemory}
 
 pub record Separating : Type 0 where
   -- an event: kind, site, object, value or none, position, times, what it sees

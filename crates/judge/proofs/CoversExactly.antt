@@ -2,7 +2,7 @@
 -- and where a model does not follow, one of the eight records meets the one and breaks the other. Assumes nothing.
 use mathlib.Core.Path.{_≡_, refl, sym, ap, _∙_, subst}
 use mathlib.Core.Logic.{_↔_}
-use mathlib.Core.Bool.{Bool, true, false}
+use mathlib.Core.Bool.{true, false}
 use mathlib.Core.List.{List}
 use Prim.Native.Nat.{ℕ, _≤_}
 use native.Mathlib.Omega.{arith}
@@ -10,7 +10,7 @@ use borrow.Author.Tests.{leb-true}
 use lib.Dec.{leb}
 use Rattle.rows.proofs.Tests.{split, tell, and-left, and-right}
 use Rattle.record.specs.Layout.{Layout, gcr2, editionOf}
-use Rattle.record.specs.History.{History, historyOf}
+use Rattle.record.specs.History.{historyOf}
 use Rattle.record.specs.Encode.{recordBytes}
 use Rattle.record.specs.declared.Reading.the-variants.{Passed}
 use Rattle.record.proofs.QuestionsAnswered.{answer-of}
@@ -23,7 +23,7 @@ use Rattle.consistency.specs.declared.Outcome.{Outcome}
 use Rattle.consistency.specs.declared.Outcome.the-variants.{AllMet, BrokenAt}
 use Rattle.consistency.proofs.SameVerdict.{firstBroken-same}
 use Rattle.consistency.proofs.ModelsGive.{follows-gives, follows-models}
-use Rattle.consistency.proofs.Separated.{isMet, record-right, Apart, separated}
+use Rattle.consistency.proofs.Separated.{isMet, record-right, separated}
 use Rattle.judge.specs.Judgments.{isNumber, modelJudgment}
 use Rattle.judge.specs.Covers.{IsBroken, broken-at, answer, Covers, Separates, TellsOthers}
 use Rattle.judge.specs.declared.Judgment.{Judgment}

@@ -1,12 +1,9 @@
 -- What the host's number of a model's answer tells of other models. Assumes nothing.
 use mathlib.Core.Path.{_≡_, refl, sym, ap, _∙_}
-use mathlib.Core.Bool.{true}
 use mathlib.Core.List.{List}
-use Prim.Native.Nat.{ℕ, _+_, _*_, _/_}
+use Prim.Native.Nat.{ℕ, _/_}
 use native.Mathlib.Omega.{arith}
-use Rattle.record.specs.Questions.{numberOf, placeOf}
 use Rattle.consistency.specs.declared.Outcome.the-variants.{AllMet, BrokenAt}
-use Rattle.consistency.specs.Lattice.{follows}
 use Rattle.judge.specs.Judgments.{packedJudgment}
 use Rattle.judge.specs.Covers.{IsBroken, broken-at, answer, TellsHosts}
 use Rattle.judge.specs.declared.Judgment.{Judgment}

@@ -1,15 +1,15 @@
 -- The table of the eighteen pairs as bit rows, and its closure. Assumes nothing.
-use mathlib.Core.Path.{_≡_, refl, sym, ap, _∙_}
-use mathlib.Core.Bool.{Bool, true, false, _&&_}
+use mathlib.Core.Path.{_≡_, sym, _∙_}
+use mathlib.Core.Bool.{Bool, false, _&&_}
 use mathlib.Core.List.{List}
-use Prim.Native.Nat.{ℕ, _+_, _*_, _^_, _<_, _≤_}
+use Prim.Native.Nat.{ℕ, _<_}
 use native.Mathlib.Omega.{arith}
 use borrow.Author.Tests.{ltb-true, lt-ltb}
 use lib.Dec.{ltb}
 use lib.ListN.{length}
 use Rattle.rows.specs.Lowest.{some}
-use Rattle.rows.specs.Row.{has, rowAt, Row}
-use Rattle.rows.specs.Relation.{Rel, reaches, related, Table, Filled, Graph}
+use Rattle.rows.specs.Row.{has, rowAt}
+use Rattle.rows.specs.Relation.{reaches, related, Table, Filled, Graph}
 use Rattle.rows.proofs.LowestLaws.{some-none}
 use Rattle.rows.proofs.Tests.{and-both, and-left, and-right}
 use Rattle.rows.proofs.RowLaws.{row-of, row-has, row-in, row-same}
