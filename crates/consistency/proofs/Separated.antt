@@ -1,15 +1,17 @@
 -- The eight records of the other side: each is well formed and meets exactly the models of its list, and wherever a model does not follow from another, one of
 -- them meets the one and breaks the other. Tests of whole tables, which the checker computes. Assumes nothing.
-use mathlib.Core.Path.{_≡_, refl, _∙_, subst}
-use mathlib.Core.Bool.{Bool, true, false, not, _||_}
+use mathlib.Core.Path.{_≡_, refl, ap, _∙_, subst}
+use mathlib.Core.Bool.{Bool, true, false, not, cond, _&&_, _||_}
 use Prim.Native.Nat.{ℕ, _+_, _-_, _<_, _≤_}
 use native.Mathlib.Omega.{arith}
-use borrow.Author.Tests.{not-true, not-false, ltb-true, eqb-true}
+use borrow.Author.Tests.{not-true, not-false, eqb-true, eqb-false}
 use lib.Dec.{ltb, eqb}
 use Rattle.rows.specs.Lowest.{searchFrom, lowest, some}
-use Rattle.rows.specs.Relation.{via, reaches}
+use Rattle.rows.specs.Count.{sum, howMany}
+use Rattle.rows.specs.Relation.{Rel, via, reaches}
 use Rattle.rows.proofs.LowestLaws.{some-none, lowest-low}
-use Rattle.rows.proofs.Tests.{tell, or-elim, and-left, and-right}
+use Rattle.rows.proofs.CountLaws.{sum-same}
+use Rattle.rows.proofs.Tests.{split, or-elim, and-left, and-right}
 use Rattle.record.specs.History.{vis}
 use Rattle.record.specs.Questions.{wrongPosition}
 use Rattle.record.specs.Listed.{member, historyOfEvents}
@@ -19,7 +21,7 @@ use Rattle.consistency.specs.Relations.{ss, ob, rb, so, ar, step, hb, th
 use Rattle.consistency.specs.Reads.{candidate, lastBelow, lastWrite, expected, wrongRead, wrong}
 use Rattle.consistency.specs.Predicates.{rule, differ, breaks, verdict, numbered}
 use Rattle.consistency.specs.Models.{listOf, firstBroken}
-use Rattle.consistency.specs.Lattice.{listed, follows}
+use Rattle.consistency.specs.Lattice.{listed, follows, pairsOf}
 use Rattle.consistency.specs.Separating.{numberedRecord, separatingHistory, tells, separator}
 use Rattle.consistency.specs.declared.Outcome.{Outcome}
 use Rattle.consistency.specs.declared.Outcome.the-variants.{AllMet, BrokenAt}
@@ -82,7 +84,7 @@ pub record Apart (k i j : ℕ) : Type 0 where
   pub breaks : isMet (firstBroken (listOf j) (separatingHistory k)) ≡ false
 
 module _ (i j : ℕ) (l : 1 ≤ i) (m : i ≤ 13) (o : 1 ≤ j) (p : j ≤ 13) where
-  told-apart : separator i j < 9 → Apart (separator i j) i j
+  pub told-apart : separator i j < 9 → Apart (separator i j) i j
   unfolding separator
   told-apart q =
       let k : ℕ = lowest 8 (λ k. tells (k + 1) i j) + 1 in
@@ -95,12 +97,31 @@ module _ (i j : ℕ) (l : 1 ≤ i) (m : i ≤ 13) (o : 1 ≤ j) (p : j ≤ 13) w
             ∙ not-true (member (numberedRecord k .meets) j) (and-right (member (numberedRecord k .meets) i) (not (member (numberedRecord k .meets) j)) told);
       }
 
-  -- of different models, where the second does not follow
-  pub separated : (i ≡ j → ⊥) → follows i j ≡ false → Apart (separator i j) i j
-  separated other free =
+  -- of different models: a record tells them apart, or the second follows
+  pub either : {C : Type 0} → (i ≡ j → ⊥) → (ltb (separator i j) 9 ≡ true → C) → (follows i j ≡ true → C) → C
+  either other apart follow =
       or-elim (eqb i j) (ltb (separator i j) 9 || follows i j)
       (every-at 13 (tested i) (every-at 13 (λ i. every 13 (tested i)) all-apart i l m) j o p)
       (λ e. absurd (other (eqb-true i j e)))
-      (λ e. or-elim (ltb (separator i j) 9) (follows i j) e
-      (λ q. told-apart (ltb-true (separator i j) 9 q))
-      (λ q. absurd (tell (follows i j) q free)))
+      (λ e. or-elim (ltb (separator i j) 9) (follows i j) e apart follow)
+
+-- ---- how many
+
+-- relations that agree on different models have as many pairs of them
+pub same-pairs : (r q : Rel) → ((i j : ℕ) → 1 ≤ i → i ≤ 13 → 1 ≤ j → j ≤ 13 → (i ≡ j → ⊥) → r i j ≡ q i j) → pairsOf r ≡ pairsOf q
+unfolding pairsOf
+same-pairs r q same =
+    sum-same 13 (λ i. howMany 13 (λ j. not (eqb i j) && r (i + 1) (j + 1))) (λ i. howMany 13 (λ j. not (eqb i j) && q (i + 1) (j + 1)))
+    (λ i l. sum-same 13 (λ j. cond (not (eqb i j) && r (i + 1) (j + 1)) 1 0) (λ j. cond (not (eqb i j) && q (i + 1) (j + 1)) 1 0)
+    (λ j m. split (eqb i j)
+    (λ e. rw e)
+    (λ e. ap (λ (t : Bool). cond (not (eqb i j) && t) 1 0)
+    (same (i + 1) (j + 1) (omega arith) (omega arith) (omega arith) (omega arith) (λ z. eqb-false i j e (omega arith))))))
+
+pub apart-pairs : pairsOf (λ i j. ltb (separator i j) 9) ≡ 113
+unfolding pairsOf sum searchFrom lowest member numberedRecord separator
+apart-pairs = refl
+
+pub left-pairs : pairsOf (λ i j. not (ltb (separator i j) 9)) ≡ 43
+unfolding pairsOf sum searchFrom lowest member numberedRecord separator
+left-pairs = refl

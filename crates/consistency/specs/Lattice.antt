@@ -1,8 +1,9 @@
 -- 'Which guarantee covers which': the eighteen pairs of models of which the first gives the second, and what follows by chaining them.
-use mathlib.Core.Bool.{false, _&&_, _||_}
+use mathlib.Core.Bool.{false, not, _&&_, _||_}
 use mathlib.Core.List.{List, [], _∷_}
-use Prim.Native.Nat.{ℕ}
+use Prim.Native.Nat.{ℕ, _+_}
 use lib.Dec.{eqb}
+use Rattle.rows.specs.Count.{sum, howMany}
 use Rattle.rows.specs.Relation.{Rel, reaches}
 
 -- the models' numbers, by name
@@ -79,3 +80,7 @@ listed ((m gives n) ∷ l) i j = eqb m i && eqb n j || listed l i j
 -- j follows from i: a chain of one or more of them leads there
 unfoldable pub follows : Rel
 follows = reaches 14 (listed implications)
+
+-- how many ordered pairs of different models a relation has
+unfoldable pub pairsOf : Rel → ℕ
+pairsOf r = sum 13 (λ i. howMany 13 (λ j. not (eqb i j) && r (i + 1) (j + 1)))
