@@ -1,16 +1,10 @@
 -- `lattice::records::count` meets its contract: a test of the whole table, which computes. Assumes nothing.
 use mathlib.Core.Path.{refl}
-use mathlib.Core.List.{List, [], _∷_}
-use Prim.Native.Nat.{ℕ}
 use borrow.Author.Needs.{needs}
 use Rattle.record.specs.Listed.{historyOfEvents}
 use Rattle.lattice.proofs.RecordLaws.{countsOf, count-right}
 use Rattle.lattice.proofs.records.count.Statement.{statement}
 use Rattle.lattice.proofs.records.count.Tie as tie
-
--- the counts as the code has them
-table : List ℕ
-table = 2 ∷ 2 ∷ 3 ∷ 3 ∷ 3 ∷ 3 ∷ 2 ∷ 2 ∷ []
 
 sub-result : tie.Need-sub-result
 sub-result c = search needs
@@ -22,8 +16,8 @@ array-read-result : tie.Need-array-read-result
 array-read-result c = search needs
 
 returns : tie.Need-returns
-unfolding table countsOf historyOfEvents
-returns c = count-right table refl (c .args .k) (c .pre .0) (c .pre .1)
+unfolding countsOf historyOfEvents
+returns c = count-right _ refl (c .args .k) (c .pre .0) (c .pre .1)
 
 pub count-spec : {M : Type 1} → statement M
 count-spec = tie.close (tie.spec sub-result mul-result array-read-result returns)
