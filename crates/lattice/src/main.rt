@@ -1,119 +1,31 @@
 // Which model covers which: a line for each two different models. Where the second does not follow from the first, the line has a record that meets the one and
 // breaks the other: built by the writer, and judged. With an argument k, 1 to 8, record k itself.
+mod judged;
 mod records;
 mod table;
+mod text;
 
-use consistency::Outcome;
-use judge::Judgment;
 use libc::STDERR_FILENO;
-use libc::STDOUT_FILENO;
-ghost use mathlib.Core.Path.{_≡_};
-ghost use Prim.Native.Nat.{_≤_, _<_};
-ghost use Rattle.consistency.specs.Separating.{separatingBytes};
-ghost use Rattle.judge.specs.Covers.{answer};
-
-fn write(text: &[u8]) {
-    io::write_all(STDOUT_FILENO, text);
-}
-
-fn name(m: usize) {
-    match m {
-        1 => write(b"linearizable"),
-        2 => write(b"regular"),
-        3 => write(b"sequential"),
-        4 => write(b"causal"),
-        5 => write(b"real-time causal"),
-        6 => write(b"processor"),
-        7 => write(b"per-object sequential"),
-        8 => write(b"Pram"),
-        9 => write(b"monotonic reads"),
-        10 => write(b"read your writes"),
-        11 => write(b"monotonic writes"),
-        12 => write(b"writes follow reads"),
-        _ => write(b"slow memory"),
-    }
-}
-
-fn model(m: usize) {
-    lines::number(m);
-    write(b" ");
-    name(m);
-}
-
-// The judge's answer about model m of record k.
-fn judged(k: usize, m: usize) -> Judgment
-    requires { ⌜ (1 ≤ k) × (k ≤ 8) ⌝ }
-    ensures { λ r. ⌜ r ≡ answer (separatingBytes k) m ⌝ }
-{
-    let mut rec = [0u8; 1024];
-    records::write(k, &mut rec);
-    let mut work = [0u64; 1024];
-    judge::judge_model(m, &rec, &mut work)
-}
-
-fn is_met(answer: Judgment) -> bool {
-    match answer {
-        Judgment::Judged(outcome) => match outcome {
-            Outcome::AllMet => true,
-            _ => false,
-        },
-        _ => false,
-    }
-}
-
-// The first broken predicate, as in a line of `verdict`.
-fn broken(answer: Judgment) {
-    if let Judgment::Judged(outcome) = answer {
-        if let Outcome::BrokenAt(p, a, b) = outcome {
-            lines::number(p);
-            write(b" broken ");
-            lines::number(a);
-            write(b" ");
-            lines::number(b);
-        }
-    }
-}
-
-fn is_broken(answer: Judgment) -> bool {
-    match answer {
-        Judgment::Judged(outcome) => match outcome {
-            Outcome::AllMet => false,
-            _ => true,
-        },
-        _ => false,
-    }
-}
-
-// The first record that meets model i and breaks model j, or 0.
-fn record_for(i: usize, j: usize) -> usize
-    ensures { λ r. ⌜ r ≤ 8 ⌝ }
-{
-    for k in 1..9 {
-        if is_met(judged(k, i)) && is_broken(judged(k, j)) {
-            return k;
-        }
-    }
-    0
-}
+ghost use Prim.Native.Nat.{_<_};
 
 fn not_covered(i: usize, j: usize) {
-    let k = record_for(i, j);
+    let k = judged::record_for(i, j);
     if k == 0 {
-        write(b"NOT SHOWN: no record meets ");
-        model(i);
-        write(b" and breaks ");
-        model(j);
-        write(b"\n");
+        text::write(b"NOT SHOWN: no record meets ");
+        text::model(i);
+        text::write(b" and breaks ");
+        text::model(j);
+        text::write(b"\n");
         return;
     }
-    model(i);
-    write(b" does not cover ");
-    model(j);
-    write(b": record ");
+    text::model(i);
+    text::write(b" does not cover ");
+    text::model(j);
+    text::write(b": record ");
     lines::number(k);
-    write(b", ");
-    broken(judged(k, j));
-    write(b"\n");
+    text::write(b", ");
+    text::broken(judged::of_record(k, j));
+    text::write(b"\n");
 }
 
 // The first model that i gives and from which j follows, or 0.
@@ -131,14 +43,14 @@ fn between(given: [u64; 14], following: [u64; 14], i: usize, j: usize) -> usize
 fn covered(given: [u64; 14], following: [u64; 14], i: usize, j: usize)
     requires { ⌜ (i < 14) × (j < 14) ⌝ }
 {
-    model(i);
-    write(b" covers ");
-    model(j);
+    text::model(i);
+    text::write(b" covers ");
+    text::model(j);
     if !table::has(given, i, j) {
-        write(b", by ");
-        model(between(given, following, i, j));
+        text::write(b", by ");
+        text::model(between(given, following, i, j));
     }
-    write(b"\n");
+    text::write(b"\n");
 }
 
 fn pairs() {
@@ -182,7 +94,7 @@ fn one_record(argument: &[u8]) {
     }
     let mut rec = [0u8; 1024];
     records::write((digit - b'0') as usize, &mut rec);
-    write(&rec);
+    text::write(&rec);
 }
 
 fn main() {

@@ -1,8 +1,8 @@
--- `lattice::record_for` ends, asks for records that there are, and answers one of them or 0. Assumes nothing.
+-- `lattice::judged::record_for` ends, asks for records that there are, and answers one of them or 0. Assumes nothing.
 use Prim.Native.Nat.{_-_, _≤_}
 use native.Mathlib.Omega.{arith}
-use Rattle.lattice.proofs.record_for.Statement.{statement}
-use Rattle.lattice.proofs.record_for.Tie as tie
+use Rattle.lattice.proofs.judged.record_for.Statement.{statement}
+use Rattle.lattice.proofs.judged.record_for.Tie as tie
 
 abbrev Inv-loop : tie.InvT-loop
 Inv-loop i j k₀ k = (1 ≤ k) × (k ≤ 9)
@@ -13,14 +13,14 @@ abbrev μ-loop : tie.MeasureT-loop
 loop-holds : tie.Need-loop-holds Inv-loop μ-loop
 loop-holds c = omega arith
 
-judged-requires : tie.Need-judged-requires Inv-loop μ-loop
-judged-requires c κs = omega arith
+of-record-requires : tie.Need-of-record-requires Inv-loop μ-loop
+of-record-requires c κs = omega arith
 
 is-met-requires : tie.Need-is-met-requires Inv-loop μ-loop
 is-met-requires c κs = tt
 
-judged-requires-2 : tie.Need-judged-requires-2 Inv-loop μ-loop
-judged-requires-2 c κs = omega arith
+of-record-requires-2 : tie.Need-of-record-requires-2 Inv-loop μ-loop
+of-record-requires-2 c κs = omega arith
 
 is-broken-requires : tie.Need-is-broken-requires Inv-loop μ-loop
 is-broken-requires c κs = tt
@@ -47,9 +47,9 @@ record-for-spec =
     Inv-loop
     μ-loop
     loop-holds
-    judged-requires
+    of-record-requires
     is-met-requires
-    judged-requires-2
+    of-record-requires-2
     is-broken-requires
     returns
     add-k

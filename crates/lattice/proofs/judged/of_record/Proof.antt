@@ -1,11 +1,11 @@
--- `lattice::judged` meets its contract: the judge is asked about the record's bytes. Assumes nothing.
+-- `lattice::judged::of_record` meets its contract: the judge is asked about the record's bytes. Assumes nothing.
 use mathlib.Core.Path.{ap, _∙_}
 use mathlib.Core.List.{List}
 use Prim.Native.Nat.{ℕ}
 use Rattle.judge.specs.Covers.{answer}
 use borrow.Author.Needs.{needs}
-use Rattle.lattice.proofs.judged.Statement.{statement}
-use Rattle.lattice.proofs.judged.Tie as tie
+use Rattle.lattice.proofs.judged.of_record.Statement.{statement}
+use Rattle.lattice.proofs.judged.of_record.Tie as tie
 
 slice-aggregate-write : tie.Need-slice-aggregate-write
 slice-aggregate-write c = search needs
@@ -28,8 +28,8 @@ returns c =
     let write = judge .before .before .before .before in
     judge .judge-model .ensures .0 ∙ ap (λ (s : List ℕ). answer s (write .before .before .args .m)) (write .write .ensures)
 
-pub judged-spec : {M : Type 1} → statement M
-judged-spec =
+pub of-record-spec : {M : Type 1} → statement M
+of-record-spec =
     tie.close
     (tie.spec
     slice-aggregate-write
