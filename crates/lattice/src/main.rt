@@ -3,29 +3,72 @@
 mod judged;
 mod records;
 mod table;
-mod text;
 
+use consistency::Outcome;
+use judge::Judgment;
 use libc::STDERR_FILENO;
+use libc::STDOUT_FILENO;
 ghost use Prim.Native.Nat.{_<_};
+
+fn write(text: &[u8]) {
+    io::write_all(STDOUT_FILENO, text);
+}
+
+fn name(m: usize) {
+    match m {
+        1 => write(b"linearizable"),
+        2 => write(b"regular"),
+        3 => write(b"sequential"),
+        4 => write(b"causal"),
+        5 => write(b"real-time causal"),
+        6 => write(b"processor"),
+        7 => write(b"per-object sequential"),
+        8 => write(b"Pram"),
+        9 => write(b"monotonic reads"),
+        10 => write(b"read your writes"),
+        11 => write(b"monotonic writes"),
+        12 => write(b"writes follow reads"),
+        _ => write(b"slow memory"),
+    }
+}
+
+fn model(m: usize) {
+    lines::number(m);
+    write(b" ");
+    name(m);
+}
+
+// The first broken predicate, as in a line of `verdict`.
+fn broken(answer: Judgment) {
+    if let Judgment::Judged(outcome) = answer {
+        if let Outcome::BrokenAt(p, a, b) = outcome {
+            lines::number(p);
+            write(b" broken ");
+            lines::number(a);
+            write(b" ");
+            lines::number(b);
+        }
+    }
+}
 
 fn not_covered(i: usize, j: usize) {
     let k = judged::record_for(i, j);
     if k == 0 {
-        text::write(b"NOT SHOWN: no record meets ");
-        text::model(i);
-        text::write(b" and breaks ");
-        text::model(j);
-        text::write(b"\n");
+        write(b"NOT SHOWN: no record meets ");
+        model(i);
+        write(b" and breaks ");
+        model(j);
+        write(b"\n");
         return;
     }
-    text::model(i);
-    text::write(b" does not cover ");
-    text::model(j);
-    text::write(b": record ");
+    model(i);
+    write(b" does not cover ");
+    model(j);
+    write(b": record ");
     lines::number(k);
-    text::write(b", ");
-    text::broken(judged::of_record(k, j));
-    text::write(b"\n");
+    write(b", ");
+    broken(judged::of_record(k, j));
+    write(b"\n");
 }
 
 // The first model that i gives and from which j follows, or 0.
@@ -43,14 +86,14 @@ fn between(given: [u64; 14], following: [u64; 14], i: usize, j: usize) -> usize
 fn covered(given: [u64; 14], following: [u64; 14], i: usize, j: usize)
     requires { ⌜ (i < 14) × (j < 14) ⌝ }
 {
-    text::model(i);
-    text::write(b" covers ");
-    text::model(j);
+    model(i);
+    write(b" covers ");
+    model(j);
     if !table::has(given, i, j) {
-        text::write(b", by ");
-        text::model(between(given, following, i, j));
+        write(b", by ");
+        model(between(given, following, i, j));
     }
-    text::write(b"\n");
+    write(b"\n");
 }
 
 fn pairs() {
@@ -94,7 +137,7 @@ fn one_record(argument: &[u8]) {
     }
     let mut rec = [0u8; 1024];
     records::write((digit - b'0') as usize, &mut rec);
-    text::write(&rec);
+    write(&rec);
 }
 
 fn main() {
