@@ -81,14 +81,14 @@ fn failures(folder: &Path, lines: &str, records: &str) -> u64 {
     fs::set_permissions(&script, fs::Permissions::from_mode(0o755)).expect("can be set");
     let mut tally = Tally::counting();
     programs::lattice(&script, &mut tally);
-    assert_eq!(tally.passed + tally.failed, 10);
+    assert_eq!(tally.passed + tally.failed, 17);
     tally.failed
 }
 
 #[test]
 fn wrong_lines_are_found() {
     let folder = made("lines");
-    assert_eq!(failures(&folder, "cat", "$1"), 0);
+    assert_eq!(failures(&folder, "cat", "\"$@\""), 0);
     let changes = [
         "sed '$d'",
         "sed '$p'",
@@ -104,17 +104,17 @@ fn wrong_lines_are_found() {
         "cat >/dev/null",
     ];
     for change in changes {
-        assert_eq!(failures(&folder, change, "$1"), 1, "{change}");
+        assert_eq!(failures(&folder, change, "\"$@\""), 1, "{change}");
     }
     let mut tally = Tally::counting();
     programs::lattice(Path::new("no-such-program"), &mut tally);
-    assert_eq!(tally.failed, 9);
+    assert_eq!(tally.failed, 16);
 }
 
 #[test]
 fn wrong_records_are_found() {
     let folder = made("records");
-    assert_eq!(failures(&folder, "cat", "3"), 7);
-    assert_eq!(failures(&folder, "cat", ""), 8);
+    assert_eq!(failures(&folder, "cat", "3"), 14);
+    assert_eq!(failures(&folder, "cat", ""), 15);
     assert_eq!(failures(&folder, "cat", "9"), 8);
 }

@@ -1,5 +1,5 @@
 // Which model covers which: a line for each two different models. Where the second does not follow from the first, the line has a record that meets the one and
-// breaks the other: built by the writer, and judged. With an argument k, 1 to 8, record k itself.
+// breaks the other: built by the writer, and judged. With an argument K, 1 to 8, record K itself.
 mod judged;
 mod records;
 mod table;
@@ -141,8 +141,13 @@ fn one_record(argument: &[u8]) {
 }
 
 fn main() {
-    if os::arg_count() < 2 {
+    let count = os::arg_count();
+    if count < 2 {
         pairs();
+        return;
+    }
+    if 2 < count {
+        usage();
         return;
     }
     let mut argument = io::buffer();

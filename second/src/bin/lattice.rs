@@ -4,12 +4,17 @@ use second::{lines, samples};
 use std::io::{self, Write};
 
 fn main() -> io::Result<()> {
-    let Some(k) = std::env::args().nth(1) else {
-        return io::stdout().write_all(lines::lattice_of_files().as_bytes());
+    let arguments: Vec<String> = std::env::args().skip(1).collect();
+    let output = match &arguments[..] {
+        [] => lines::lattice_of_files().into_bytes(),
+        [k] => record(k),
+        _ => Vec::new(),
     };
+    io::stdout().write_all(&output)
+}
+
+/// Nothing where there is no such record.
+fn record(k: &str) -> Vec<u8> {
     let name = format!("separating-{k}.gcr");
-    match samples::separating().find(|sample| sample.name == name) {
-        Some(sample) => io::stdout().write_all(&sample.bytes),
-        None => Ok(()),
-    }
+    samples::separating().find(|sample| sample.name == name).map_or_else(Vec::new, |sample| sample.bytes)
 }

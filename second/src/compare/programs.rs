@@ -56,6 +56,9 @@ pub fn rehearse(program: &Path, seeds: &Seeds, tally: &mut Tally) {
     });
 }
 
+/// What `lattice` takes for no record's number; then it writes nothing.
+const NO_RECORDS: [&[&str]; 7] = [&["0"], &["9"], &[""], &["12"], &["x"], &["01"], &["1", "2"]];
+
 /// The program takes no input. No line may say that nothing keeps two models apart. With a record's number it writes that
 /// record, which is the file.
 pub fn lattice(program: &Path, tally: &mut Tally) {
@@ -65,11 +68,18 @@ pub fn lattice(program: &Path, tally: &mut Tally) {
     tally.check(&case, not_shown.is_none(), || format!("second checker {not_shown:?}"));
     writes(Command::new(program), &case, due.as_bytes(), tally);
     for (k, sample) in (1..).zip(samples::separating()) {
-        let mut command = Command::new(program);
-        command.arg(k.to_string());
-        let case = Case { name: format!("lattice-{k}"), input: &[] };
-        writes(command, &case, &sample.bytes, tally);
+        lattice_of(program, &[&k.to_string()], &sample.bytes, tally);
     }
+    for arguments in NO_RECORDS {
+        lattice_of(program, arguments, &[], tally);
+    }
+}
+
+fn lattice_of(program: &Path, arguments: &[&str], due: &[u8], tally: &mut Tally) {
+    let mut command = Command::new(program);
+    command.args(arguments).stderr(Stdio::null());
+    let case = Case { name: format!("lattice-{}", arguments.join("-")), input: &[] };
+    writes(command, &case, due, tally);
 }
 
 fn inspect_due(bytes: &[u8], tally: &mut Tally) -> Vec<u8> {

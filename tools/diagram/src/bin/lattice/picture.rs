@@ -10,7 +10,7 @@ use diagram::style::PAGE;
 use diagram::svg::{at, Svg};
 
 const TITLE: &str = "Which model covers which";
-const CAPTION: &str = "A model covers those that lines lead down to from it, and no other: proved.";
+const CAPTION: &str = "A model covers those that lines lead down to from it, and no other.";
 
 const RULES: &str = "\
 .model .body { fill: #ffffff; stroke: #0072b2; stroke-width: 1.5; }
