@@ -12,4 +12,5 @@ pub mod BrokenIff
 pub mod ReadLaws
 pub mod PredicatesGive
 pub mod ModelsGive
+pub mod ChainLaws
 pub mod Separated

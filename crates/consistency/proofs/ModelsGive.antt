@@ -159,14 +159,14 @@ follows-gives i j e = chained i j (reaches-sound 14 (listed implications) i j e)
 
 -- ---- what follows and what it follows from are models' numbers
 
-abbrev isModel : ℕ → Bool
+abbrev pub isModel : ℕ → Bool
 isModel m = leb 1 m && leb m 13
 
 abbrev onlyModels : List Implication → Bool
 onlyModels [] = true
 onlyModels ((m gives n) ∷ l) = (isModel m && isModel n) && onlyModels l
 
-listed-models : (l : List Implication) → onlyModels l ≡ true → (i j : ℕ) → listed l i j ≡ true → (isModel i ≡ true) × (isModel j ≡ true)
+pub listed-models : (l : List Implication) → onlyModels l ≡ true → (i j : ℕ) → listed l i j ≡ true → (isModel i ≡ true) × (isModel j ≡ true)
 unfolding listed
 listed-models [] t i j e = absurd (tell false e refl)
 listed-models ((m gives n) ∷ l) t i j e =
@@ -178,7 +178,7 @@ listed-models ((m gives n) ∷ l) t i j e =
     ))
     (listed-models l (and-right (isModel m && isModel n) (onlyModels l) t) i j)
 
-chained-models : (i j : ℕ) → Steps 14 (listed implications) i j → (isModel i ≡ true) × (isModel j ≡ true)
+pub chained-models : (i j : ℕ) → Steps 14 (listed implications) i j → (isModel i ≡ true) × (isModel j ≡ true)
 chained-models i j (one e) = listed-models implications refl i j e
 chained-models i j (more {b = m} e k s) = (listed-models implications refl i m e .0, chained-models m j s .1)
 

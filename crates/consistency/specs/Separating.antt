@@ -109,9 +109,12 @@ abbrev pub separating : List Separating
 separating =
     behindTheClock ∷ unawareWrites ∷ forgottenWrite ∷ secondWriteFirst ∷ newThenOld ∷ pendingWriteFirst ∷ unseenOwnWrite ∷ unseenAndFirst ∷ []
 
--- record k, counted from 1
+-- record k, counted from 1; past the last there is none, which meets nothing
+abbrev pub noRecord : Separating
+noRecord = record { events = []; meets = [] }
+
 unfoldable pub numberedRecord : ℕ → Separating
-numberedRecord k = getD separating (k - 1) behindTheClock
+numberedRecord k = getD separating (k - 1) noRecord
 
 -- what it says, and its bytes, as a `GCR2` of two sites
 abbrev pub separatingHistory : ℕ → History

@@ -2,13 +2,11 @@
 -- and where a model does not follow, one of the eight records meets the one and breaks the other. Assumes nothing.
 use mathlib.Core.Path.{_≡_, refl, sym, ap, _∙_, subst}
 use mathlib.Core.Logic.{_↔_}
-use mathlib.Core.Bool.{Bool, true, false, not}
+use mathlib.Core.Bool.{true, false}
 use mathlib.Core.List.{List}
-use Prim.Native.Nat.{ℕ, _<_, _≤_}
+use Prim.Native.Nat.{ℕ, _≤_}
 use native.Mathlib.Omega.{arith}
-use borrow.Author.Tests.{leb-true, le-leb, ltb-true, not-true}
-use lib.Dec.{leb, ltb}
-use Rattle.rows.proofs.Tests.{split, tell, same-test, never, and-both, and-left, and-right, not-of}
+use Rattle.rows.proofs.Tests.{split, tell}
 use Rattle.record.specs.Layout.{Layout, gcr2, editionOf}
 use Rattle.record.specs.History.{historyOf}
 use Rattle.record.specs.Encode.{recordBytes}
@@ -17,13 +15,14 @@ use Rattle.record.proofs.QuestionsAnswered.{answer-of}
 use Rattle.record.proofs.EncodedPasses.{Encoded, gcr2-encoded, gcr2-back}
 use Rattle.record.proofs.ListedLaws.{listed-well-formed}
 use Rattle.consistency.specs.Models.{listOf, firstBroken}
-use Rattle.consistency.specs.Lattice.{follows, pairsOf}
+use Rattle.consistency.specs.Lattice.{follows}
 use Rattle.consistency.specs.Separating.{numberedRecord, separatingHistory, separatingBytes, separator}
 use Rattle.consistency.specs.declared.Outcome.{Outcome}
 use Rattle.consistency.specs.declared.Outcome.the-variants.{AllMet, BrokenAt}
 use Rattle.consistency.proofs.SameVerdict.{firstBroken-same}
 use Rattle.consistency.proofs.ModelsGive.{follows-gives, follows-models}
-use Rattle.consistency.proofs.Separated.{isMet, record-right, told-apart, either, same-pairs, apart-pairs, left-pairs}
+use Rattle.consistency.proofs.ChainLaws.{model-small}
+use Rattle.consistency.proofs.Separated.{isMet, record-right, separated}
 use Rattle.judge.specs.Judgments.{isNumber, modelJudgment}
 use Rattle.judge.specs.Covers.{IsBroken, broken-at, answer, Covers, Separates, TellsOthers}
 use Rattle.judge.specs.declared.Judgment.{Judgment}
@@ -97,60 +96,25 @@ not-covered i j s t c = go (answer s j) (t .breaks) (c s (t .meets))
     go : (told : Judgment) → IsBroken told → told ≡ Judged AllMet → ⊥
     go (Judged o) broken-at e = let z : _≡_ {A = ℕ} 0 1 = cc in omega arith
 
-number-range : (m : ℕ) → isNumber m ≡ true → (1 ≤ m) × (m ≤ 13)
-number-range m e = (leb-true 1 m (and-left (leb 1 m) (leb m 13) e), leb-true m 13 (and-right (leb 1 m) (leb m 13) e))
+module _ (i j : ℕ) (first : isNumber i ≡ true) (second : isNumber j ≡ true) (other : i ≡ j → ⊥) where
+  -- which of the eight records separates two models of which the second does not follow from the first
+  pub separates : follows i j ≡ false → (1 ≤ separator i j) × (separator i j ≤ 8) × Separates (separatingBytes (separator i j)) i j
+  separates free =
+      let in-range = model-small i first in
+      let in-range′ = model-small j second in
+      let at = separated i j (in-range .0) (in-range .1) (in-range′ .0) (in-range′ .1) other free in
+      let k : ℕ = separator i j in (
+        at .least,
+        at .most,
+        record {
+          meets = answer-is k (at .least) (at .most) i first ∙ ap Judged (outcome-met (firstBroken (listOf i) (separatingHistory k)) (at .meets));
+          breaks = subst IsBroken (sym (answer-is k (at .least) (at .most) j second)) (outcome-broken (firstBroken (listOf j) (separatingHistory k)) (at .breaks));
+        },
+      )
 
-module _ (i j : ℕ) (first : isNumber i ≡ true) (second : isNumber j ≡ true) where
-  told-separates : separator i j < 9 → Separates (separatingBytes (separator i j)) i j
-  told-separates few =
-      let range = number-range i first in
-      let range′ = number-range j second in
-      let at = told-apart i j (range .0) (range .1) (range′ .0) (range′ .1) few in
-      let k : ℕ = separator i j in
-      record {
-        meets = answer-is k (at .least) (at .most) i first ∙ ap Judged (outcome-met (firstBroken (listOf i) (separatingHistory k)) (at .meets));
-        breaks = subst IsBroken (sym (answer-is k (at .least) (at .most) j second)) (outcome-broken (firstBroken (listOf j) (separatingHistory k)) (at .breaks));
-      }
-
-  module _ (other : i ≡ j → ⊥) where
-    -- which record separates two models of which the second does not follow from the first
-    pub separates : follows i j ≡ false → Separates (separatingBytes (separator i j)) i j
-    separates free =
-        let range = number-range i first in
-        let range′ = number-range j second in
-        either i j (range .0) (range .1) (range′ .0) (range′ .1) other
-        (λ e. told-separates (ltb-true (separator i j) 9 e))
-        (λ e. absurd (tell (follows i j) e free))
-
-    -- the lattice: model i covers model j exactly if j follows from i
-    pub covers-exactly : Covers i j ↔ (follows i j ≡ true)
-    covers-exactly = (
-      λ c. split (follows i j) (λ e. e) (λ e. absurd (not-covered i j (separatingBytes (separator i j)) (separates e) c)),
-      covers-following i j,
-    )
-
--- ---- how many pairs follow, and how many do not
-
-number-in : (m : ℕ) → 1 ≤ m → m ≤ 13 → isNumber m ≡ true
-number-in m l k = and-both (leb 1 m) (leb m 13) (le-leb 1 m l) (le-leb m 13 k)
-
-module _ (i j : ℕ) (l : 1 ≤ i) (m : i ≤ 13) (o : 1 ≤ j) (p : j ≤ 13) (other : i ≡ j → ⊥) where
-  apart-unless : ltb (separator i j) 9 ≡ not (follows i j)
-  apart-unless =
-      same-test (ltb (separator i j) 9) (not (follows i j))
-      (λ e. not-of (follows i j) (never (follows i j) (λ f.
-      not-covered i j (separatingBytes (separator i j)) (told-separates i j (number-in i l m) (number-in j o p) (ltb-true (separator i j) 9 e)) (covers-following i j f))))
-      (λ e. either i j l m o p other (λ q. q) (λ q. absurd (tell (follows i j) q (not-true (follows i j) e))))
-
-  follows-unless : not (ltb (separator i j) 9) ≡ follows i j
-  follows-unless = ap not apart-unless ∙ twice (follows i j)
-    where
-      twice : (t : Bool) → not (not t) ≡ t
-      twice true = refl
-      twice false = refl
-
-pub forty-three : pairsOf follows ≡ 43
-forty-three = sym (same-pairs (λ i j. not (ltb (separator i j) 9)) follows follows-unless) ∙ left-pairs
-
-pub the-others : pairsOf (λ i j. not (follows i j)) ≡ 113
-the-others = sym (same-pairs (λ i j. ltb (separator i j) 9) (λ i j. not (follows i j)) apart-unless) ∙ apart-pairs
+  -- the lattice: model i covers model j exactly if j follows from i
+  pub covers-exactly : Covers i j ↔ (follows i j ≡ true)
+  covers-exactly = (
+    λ c. split (follows i j) (λ e. e) (λ e. absurd (not-covered i j (separatingBytes (separator i j)) (separates e .2) c)),
+    covers-following i j,
+  )

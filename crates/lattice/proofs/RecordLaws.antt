@@ -22,7 +22,7 @@ use Rattle.record.specs.Terms.{bare, openingIn, openingsRight}
 use Rattle.record.specs.Encode.{littleBytes, bit, bits, setBytes, figureBytes, openingBytes, termsBytes, blocksFor, headerBytes, withTerms, withSlots, sealed, recordBytes, SlotOf}
 use Rattle.record.specs.Listed.{member, historyOfEvents}
 use Rattle.consistency.specs.Predicates.{differ}
-use Rattle.consistency.specs.Separating.{Separating, behindTheClock, separating, numberedRecord, separatingHistory, separatingBytes}
+use Rattle.consistency.specs.Separating.{Separating, noRecord, separating, numberedRecord, separatingHistory, separatingBytes}
 use Rattle.consistency.proofs.BrokenIff.{differ-same}
 use Rattle.lattice.specs.Numbers.{numbers}
 
@@ -33,7 +33,7 @@ rowsOf [] = []
 rowsOf (r ∷ rs) =
     numbers (historyOfEvents (r .events)) 0 ∷ numbers (historyOfEvents (r .events)) 1 ∷ numbers (historyOfEvents (r .events)) 2 ∷ rowsOf rs
 
-rows-at : (rs : List Separating) (k e : ℕ) → k < length rs → e < 3 → getD (rowsOf rs) (3 * k + e) [] ≡ numbers (historyOfEvents (getD rs k behindTheClock .events)) e
+rows-at : (rs : List Separating) (k e : ℕ) → k < length rs → e < 3 → getD (rowsOf rs) (3 * k + e) [] ≡ numbers (historyOfEvents (getD rs k noRecord .events)) e
 unfolding rowsOf
 rows-at [] k e i j = absurd (omega arith)
 rows-at (r ∷ rs) zero zero i j = refl
@@ -74,7 +74,7 @@ unfoldable pub countsOf : List Separating → List ℕ
 countsOf [] = []
 countsOf (r ∷ rs) = historyOfEvents (r .events) .count ∷ countsOf rs
 
-count-at : (rs : List Separating) (k : ℕ) → k < length rs → getD (countsOf rs) k 0 ≡ historyOfEvents (getD rs k behindTheClock .events) .count
+count-at : (rs : List Separating) (k : ℕ) → k < length rs → getD (countsOf rs) k 0 ≡ historyOfEvents (getD rs k noRecord .events) .count
 unfolding countsOf
 count-at [] k i = absurd (omega arith)
 count-at (r ∷ rs) zero i = refl
