@@ -72,7 +72,7 @@ module _ (k : ℕ) (least : 1 ≤ k) (most : k ≤ 8) where
   bytes = recordBytes gcr2 2 (separatingHistory k)
 
   -- the answer about record k's bytes is that about its history
-  answer-is : (m : ℕ) → isNumber m ≡ true → answer (separatingBytes k) m ≡ Judged (firstBroken (listOf m) (separatingHistory k))
+  pub answer-is : (m : ℕ) → isNumber m ≡ true → answer (separatingBytes k) m ≡ Judged (firstBroken (listOf m) (separatingHistory k))
   unfolding separatingBytes modelJudgment
   answer-is m e =
       let well = listed-well-formed 2 (numberedRecord k .events) (record-right k least most) in

@@ -1,3 +1,4 @@
 -- Laws that functions' proofs cite.
 pub mod TableLaws
 pub mod RecordLaws
+pub mod AnswerLaws

@@ -4,8 +4,9 @@ use consistency::Outcome;
 use judge::Judgment;
 ghost use mathlib.Core.Path.{_≡_};
 ghost use Prim.Native.Nat.{_≤_};
-ghost use Rattle.consistency.specs.Separating.{separatingBytes};
+ghost use Rattle.consistency.specs.Separating.{separatingBytes, tells, separator};
 ghost use Rattle.judge.specs.Covers.{answer};
+ghost use Rattle.lattice.specs.Answers.{metBy, brokenBy, Models};
 
 // The judge's answer about model m of record k.
 pub fn of_record(k: usize, m: usize) -> Judgment
@@ -18,34 +19,52 @@ pub fn of_record(k: usize, m: usize) -> Judgment
     judge::judge_model(m, &rec, &mut work)
 }
 
-fn is_met(answer: Judgment) -> bool {
+fn is_met(answer: Judgment) -> bool
+    ensures { λ r. ⌜ r ≡ metBy answer ⌝ }
+{
     match answer {
         Judgment::Judged(outcome) => match outcome {
             Outcome::AllMet => true,
-            _ => false,
+            Outcome::BrokenAt(_, _, _) => false,
         },
-        _ => false,
+        Judgment::NoSuchNumber => false,
+        Judgment::Refused(_) => false,
     }
 }
 
-fn is_broken(answer: Judgment) -> bool {
+fn is_broken(answer: Judgment) -> bool
+    ensures { λ r. ⌜ r ≡ brokenBy answer ⌝ }
+{
     match answer {
         Judgment::Judged(outcome) => match outcome {
             Outcome::AllMet => false,
-            _ => true,
+            Outcome::BrokenAt(_, _, _) => true,
         },
-        _ => false,
+        Judgment::NoSuchNumber => false,
+        Judgment::Refused(_) => false,
     }
 }
 
-// The first record that meets model i and breaks model j, or 0.
+// Record k meets model i and breaks model j.
+fn tells_apart(k: usize, i: usize, j: usize) -> bool
+    requires { ⌜ (1 ≤ k) × (k ≤ 8) × Models i j ⌝ }
+    ensures { λ r. ⌜ r ≡ tells k i j ⌝ }
+{
+    if is_met(of_record(k, i)) {
+        return is_broken(of_record(k, j));
+    }
+    false
+}
+
+// The first record that does, or 9.
 pub fn record_for(i: usize, j: usize) -> usize
-    ensures { λ r. ⌜ r ≤ 8 ⌝ }
+    requires { ⌜ Models i j ⌝ }
+    ensures { λ r. ⌜ (r ≡ separator i j) × (1 ≤ r) ⌝ }
 {
     for k in 1..9 {
-        if is_met(of_record(k, i)) && is_broken(of_record(k, j)) {
+        if tells_apart(k, i, j) {
             return k;
         }
     }
-    0
+    9
 }

@@ -1,17 +1,17 @@
--- `lattice::pairs` ends, and asks within its tables. Assumes nothing.
+-- `lattice::pairs` ends, and asks within its tables and of models. Assumes nothing.
 use Prim.Native.Nat.{_-_, _≤_}
 use native.Mathlib.Omega.{arith}
 use Rattle.lattice.proofs.pairs.Statement.{statement}
 use Rattle.lattice.proofs.pairs.Tie as tie
 
 abbrev Inv-loop2 : tie.InvT-loop2
-Inv-loop2 given following i j₀ j = j ≤ 14
+Inv-loop2 given following i j₀ j = (1 ≤ j) × (j ≤ 14)
 
 abbrev μ-loop2 : tie.MeasureT-loop2
 μ-loop2 given following i j₀ j = 14 - j
 
 abbrev Inv-loop : tie.InvT-loop
-Inv-loop given following i₀ i = i ≤ 14
+Inv-loop given following i₀ i = (1 ≤ i) × (i ≤ 14)
 
 abbrev μ-loop : tie.MeasureT-loop
 μ-loop given following i₀ i = 14 - i
@@ -44,7 +44,7 @@ covered-requires : tie.Need-covered-requires Inv-loop2 μ-loop2 Inv-loop μ-loop
 covered-requires c κs = omega arith
 
 not-covered-requires : tie.Need-not-covered-requires Inv-loop2 μ-loop2 Inv-loop μ-loop
-not-covered-requires c κs = tt
+not-covered-requires c κs = record { least = omega arith; most = omega arith; least′ = omega arith; most′ = omega arith }
 
 add-j-2 : tie.Need-add-j-2 Inv-loop2 μ-loop2 Inv-loop μ-loop
 add-j-2 c = omega arith
