@@ -1,4 +1,4 @@
--- Chains of the table's pairs that compute: none needs more than four pairs; and how many pairs of models they lead over. Assumes nothing.
+-- Chains of the table's pairs that compute: none needs more than four pairs; and how many pairs of models they join. Assumes nothing.
 use mathlib.Core.Path.{_≡_, refl, ap, fun-ext}
 use mathlib.Core.Bool.{Bool, true, false, not, _&&_, _||_}
 use Prim.Native.Nat.{ℕ, zero, suc, _<_, _≤_}
@@ -30,7 +30,7 @@ chain-steps (suc k) i j e =
     let m : ℕ = lowest 14 f in
     more (and-left (listed implications i m) (chain k m j) (at .1)) (at .0) (chain-steps k m j (and-right (listed implications i m) (chain k m j) (at .1))))
 
--- a pair before a chain of four is one
+-- a pair before a chain of at most four that is no chain of at most four; there is none
 abbrev longer : ℕ → ℕ → ℕ → Bool
 longer i m j = (listed implications i m && chain 3 m j) && not (chain 3 i j)
 

@@ -1,4 +1,4 @@
--- What follows. What users should know: MetIffHolds, BrokenIff, HappensBefore, ReturnsBefore, SameVerdict, OtherClocks, AsBefore, ModelsGive.
+-- What follows. What users should know: MetIffHolds, BrokenIff, HappensBefore, ReturnsBefore, SameVerdict, OtherClocks, AsBefore, ModelsGive, ChainLaws.
 pub mod FirstPairLaws
 pub mod LastWriteLaws
 pub mod MetIffHolds

@@ -45,7 +45,7 @@ module _ (h : History) where
       lt-ltb (h .position a) (h .position c) (omega (arith, ltb-true (h .position a) (h .position b) e, ltb-true (h .position b) (h .position c) f))
 
   module _ (single : Fits h (vis h) (ar h)) where
-    -- a chain that ends in vis begins in it
+    -- vis is transitive: who sees an event sees what that one sees
     vis-join : (a b c : ℕ) → a < n → b < n → c < n → vis h a b ≡ true → vis h b c ≡ true → vis h a c ≡ true
     vis-join a b c i j k e f =
         let kept : not (single .set a) ≡ true = and-right (ar h a b) (not (single .set a)) (sym (single .pairs a b i j) ∙ e) in

@@ -1,5 +1,5 @@
--- The eight records of the other side: each is well formed and meets exactly the models of its list, and wherever a model does not follow from another, one of
--- them meets the one and breaks the other. Tests of whole tables, which the checker computes. Assumes nothing.
+-- The eight records of the other side: each is well formed and meets exactly the models of its list, and wherever a second model does not follow from a first,
+-- one of them meets the first and breaks the second. Tests of whole tables, which the checker computes. Assumes nothing.
 use mathlib.Core.Path.{_≡_, refl, sym, ap, _∙_, subst}
 use mathlib.Core.Bool.{Bool, true, false, not, _||_}
 use Prim.Native.Nat.{ℕ, _+_, _-_, _<_, _≤_}

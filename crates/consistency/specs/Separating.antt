@@ -1,5 +1,5 @@
--- The other side of the lattice: eight small records, each with the models that it meets. Wherever a model does not follow from another, one of these meets the
--- one and breaks the other.
+-- The other side of the lattice: eight small records, each with the models that it meets. Wherever a second model does not follow from a first, one of these meets
+-- the first and breaks the second.
 use mathlib.Core.Bool.{not, _&&_}
 use mathlib.Core.List.{List, [], _∷_}
 use Prim.Native.Nat.{ℕ, _+_, _-_}
@@ -19,7 +19,7 @@ pub record Separating : Type 0 where
   -- the models that they meet; they break the others
   pub meets : List ℕ
 
--- 1: site 1 reads after a write at site 0 returned, and is before it in the order
+-- 1: a read at site 1 starts after a write at site 0 returned, and is before it in the order
 abbrev pub behindTheClock : Separating
 behindTheClock = record {
   events =
@@ -74,7 +74,7 @@ newThenOld = record {
   meets = regular ∷ readYourWrites ∷ monotonicWrites ∷ writesFollowReads ∷ [];
 }
 
--- 6: site 1 reads what site 0 is writing; then it writes, which never returned, and that comes first in the order
+-- 6: site 1 reads what site 0 is writing; its next write never returned, and comes first in the order
 abbrev pub pendingWriteFirst : Separating
 pendingWriteFirst = record {
   events =
@@ -109,10 +109,11 @@ abbrev pub separating : List Separating
 separating =
     behindTheClock ∷ unawareWrites ∷ forgottenWrite ∷ secondWriteFirst ∷ newThenOld ∷ pendingWriteFirst ∷ unseenOwnWrite ∷ unseenAndFirst ∷ []
 
--- record k, counted from 1; past the last there is none, which meets nothing
+-- past the last: no events, and no model in the list, so that by the table it tells nothing apart
 abbrev pub noRecord : Separating
 noRecord = record { events = []; meets = [] }
 
+-- record k, counted from 1
 unfoldable pub numberedRecord : ℕ → Separating
 numberedRecord k = getD separating (k - 1) noRecord
 

@@ -1,5 +1,5 @@
 -- 'Which guarantee covers which': a model covers another exactly if that follows from it. What follows is covered for every record that passes, of every edition,
--- and where a model does not follow, one of the eight records meets the one and breaks the other. Assumes nothing.
+-- and where a second model does not follow from a first, one of the eight records meets the first and breaks the second. Assumes nothing.
 use mathlib.Core.Path.{_≡_, refl, sym, ap, _∙_, subst}
 use mathlib.Core.Logic.{_↔_}
 use mathlib.Core.Bool.{true, false}

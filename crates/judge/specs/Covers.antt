@@ -34,7 +34,7 @@ pub record TellsOthers (words m : ℕ) (s : List ℕ) (told : Judgment) : Type 0
   -- broken: so is every model from which m follows
   pub broken : IsBroken told → (i : ℕ) → follows i m ≡ true → IsBroken (modelJudgment (editionOf s) words i s)
 
--- the same of the host's numbers: 0 is met, and of a break's number 1,048,576 goes once into it
+-- the same of the host's numbers: 0 is met, and a break's number divided by 1,048,576 is 1
 pub record TellsHosts (m : ℕ) (s : List ℕ) (number : ℕ) : Type 0 where
   pub met : number ≡ 0 → (j : ℕ) → follows m j ≡ true → packedJudgment (answer s j) ≡ 0
   pub broken : number / 1048576 ≡ 1 → (i : ℕ) → follows i m ≡ true → packedJudgment (answer s i) / 1048576 ≡ 1

@@ -1,4 +1,4 @@
--- A history written event by event, on no terms, is well formed where tests that compute say so: its record then passes every check. Assumes nothing.
+-- A history written event by event, without openings and with difference 0, is well formed where tests that compute say so: its record then passes every check. Assumes nothing.
 use mathlib.Core.Path.{_≡_, refl}
 use mathlib.Core.Bool.{Bool, true, false, not, _&&_, _||_}
 use mathlib.Core.List.{List, [], _∷_}
