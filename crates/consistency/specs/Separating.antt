@@ -74,7 +74,7 @@ newThenOld = record {
   meets = regular ∷ readYourWrites ∷ monotonicWrites ∷ writesFollowReads ∷ [];
 }
 
--- 6: site 1 reads what site 0 is writing; its next write never returned, and comes first in the order
+-- 6: site 1 reads what site 0 is writing, and then writes; that write never returned, and comes first in the order
 abbrev pub pendingWriteFirst : Separating
 pendingWriteFirst = record {
   events =
