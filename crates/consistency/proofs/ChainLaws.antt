@@ -9,7 +9,7 @@ use Rattle.rows.specs.Lowest.{searchFrom, lowest, some}
 use Rattle.rows.specs.Count.{sum}
 use Rattle.rows.specs.Relation.{Rel, Steps, one, more}
 use Rattle.rows.proofs.LowestLaws.{some-none, some-at}
-use Rattle.rows.proofs.ReachLaws.{reaches-sound, reaches-complete}
+use Rattle.rows.proofs.ReachLaws.{reaches-sound, reaches-complete, reaches-step}
 use Rattle.rows.proofs.Tests.{tell, never, same-test, or-elim, or-left, and-both, and-left, and-right}
 use Rattle.consistency.specs.Lattice.{implications, listed, follows, pairsOf}
 use Rattle.consistency.proofs.ModelsGive.{isModel, listed-models, chained-models}
@@ -61,6 +61,11 @@ follows-chain i j =
     same-test (follows i j) (chain 3 i j)
     (λ e. steps-chain i j (reaches-sound 14 (listed implications) i j e))
     (λ e. reaches-complete 14 (listed implications) (chain-steps 3 i j e))
+
+-- a pair of the table follows
+pub listed-follows : (i j : ℕ) → listed implications i j ≡ true → follows i j ≡ true
+unfolding follows
+listed-follows = reaches-step 14 (listed implications)
 
 -- ---- how many pairs of different models: in the table, that follow, and the others
 

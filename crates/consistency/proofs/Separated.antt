@@ -31,7 +31,7 @@ isMet AllMet = true
 isMet (BrokenAt p a b) = false
 
 -- a test of the first n numbers from 1 on
-abbrev every : ℕ → (ℕ → Bool) → Bool
+abbrev pub every : ℕ → (ℕ → Bool) → Bool
 every n f = not (some n (λ k. not (f (k + 1))))
 
 -- record k meets model m exactly if its list has it
@@ -58,7 +58,7 @@ all-apart = refl
 
 -- ---- each entry
 
-every-at : (n : ℕ) (f : ℕ → Bool) → every n f ≡ true → (k : ℕ) → 1 ≤ k → k ≤ n → f k ≡ true
+pub every-at : (n : ℕ) (f : ℕ → Bool) → every n f ≡ true → (k : ℕ) → 1 ≤ k → k ≤ n → f k ≡ true
 every-at n f e k l m =
     let off : ℕ → Bool = λ j. not (f (j + 1)) in
     let on : k - 1 + 1 ≡ k = omega arith in

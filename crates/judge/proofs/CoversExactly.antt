@@ -15,13 +15,13 @@ use Rattle.record.proofs.QuestionsAnswered.{answer-of}
 use Rattle.record.proofs.EncodedPasses.{Encoded, gcr2-encoded, gcr2-back}
 use Rattle.record.proofs.ListedLaws.{listed-well-formed}
 use Rattle.consistency.specs.Models.{listOf, firstBroken}
-use Rattle.consistency.specs.Lattice.{follows}
+use Rattle.consistency.specs.Lattice.{implications, listed, follows}
 use Rattle.consistency.specs.Separating.{numberedRecord, separatingHistory, separatingBytes, separator}
 use Rattle.consistency.specs.declared.Outcome.{Outcome}
 use Rattle.consistency.specs.declared.Outcome.the-variants.{AllMet, BrokenAt}
 use Rattle.consistency.proofs.SameVerdict.{firstBroken-same}
 use Rattle.consistency.proofs.ModelsGive.{follows-gives, follows-models}
-use Rattle.consistency.proofs.ChainLaws.{model-small}
+use Rattle.consistency.proofs.ChainLaws.{model-small, listed-follows}
 use Rattle.consistency.proofs.Separated.{isMet, record-right, separated}
 use Rattle.judge.specs.Judgments.{isNumber, modelJudgment}
 use Rattle.judge.specs.Covers.{IsBroken, broken-at, answer, Covers, Separates, TellsOthers}
@@ -64,6 +64,10 @@ tells-others words m s {told} e = record {
 
 pub covers-following : (i j : ℕ) → follows i j ≡ true → Covers i j
 covers-following i j f s = met-too 1024 s i j f
+
+-- each of the eighteen
+pub covers-listed : (i j : ℕ) → listed implications i j ≡ true → Covers i j
+covers-listed i j e = covers-following i j (listed-follows i j e)
 
 -- ---- what does not
 

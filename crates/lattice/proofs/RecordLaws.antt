@@ -1,10 +1,10 @@
 -- The eight records as rows of numbers, and as slots. Assumes nothing.
-use mathlib.Core.Path.{_≡_, refl, sym, ap, _∙_, subst}
+use mathlib.Core.Path.{_≡_, refl, sym, ap, _∙_}
 use mathlib.Core.Bool.{Bool, true, false, not, _&&_}
 use mathlib.Core.List.{List, [], _∷_, _++_, append-nil}
 use Prim.Native.Nat.{ℕ, zero, suc, _+_, _*_, _-_, _<_, _≤_}
 use native.Mathlib.Omega.{arith}
-use borrow.Author.Tests.{not-false, leb-true}
+use borrow.Author.Tests.{not-true, leb-true}
 use lib.Dec.{eqb, leb}
 use lib.ListN.{length, getD, drop, replicate, drop-of-length-le}
 use lib.Seq.{sets}
@@ -24,6 +24,7 @@ use Rattle.record.specs.Listed.{member, historyOfEvents}
 use Rattle.consistency.specs.Predicates.{differ}
 use Rattle.consistency.specs.Separating.{Separating, noRecord, separating, numberedRecord, separatingHistory, separatingBytes}
 use Rattle.consistency.proofs.BrokenIff.{differ-same}
+use Rattle.consistency.proofs.Separated.{every, every-at}
 use Rattle.lattice.specs.Numbers.{numbers}
 
 -- ---- three rows a record
@@ -55,15 +56,12 @@ row-right table q k e i j l = ap (λ (t : List (List ℕ)). getD t (3 * (k - 1) 
 abbrev isFew : ℕ → Bool
 isFew n = leb 1 n && leb n 3
 
-all-few : some 8 (λ k. not (isFew (separatingHistory (k + 1) .count))) ≡ false
+all-few : every 8 (λ k. isFew (separatingHistory k .count)) ≡ true
 unfolding searchFrom lowest some historyOfEvents numberedRecord
 all-few = refl
 
 few : (k : ℕ) → 1 ≤ k → k ≤ 8 → isFew (separatingHistory k .count) ≡ true
-few k i j =
-    let on : k - 1 + 1 ≡ k = omega arith in
-    subst (λ (k : ℕ). isFew (separatingHistory k .count) ≡ true) on
-    (not-false (isFew (separatingHistory (k - 1 + 1) .count)) (some-none 8 (λ k. not (isFew (separatingHistory (k + 1) .count))) all-few (k - 1) (omega arith)))
+few = every-at 8 (λ k. isFew (separatingHistory k .count)) all-few
 
 few-events : (k : ℕ) → 1 ≤ k → k ≤ 8 → (1 ≤ separatingHistory k .count) × (separatingHistory k .count ≤ 3)
 few-events k i j =
@@ -90,22 +88,20 @@ count-right table q k i j =
 -- ---- what an event sees, as a row of four words
 
 abbrev seen : ℕ → ℕ → ℕ → Bool
-seen k e b = has (bits 3 (separatingHistory (k + 1) .sees e) ∷ 0 ∷ 0 ∷ 0 ∷ []) b
+seen k e b = has (bits 3 (separatingHistory k .sees e) ∷ 0 ∷ 0 ∷ 0 ∷ []) b
 
 abbrev wrongSight : ℕ → ℕ → Bool
-wrongSight k e = some 256 (λ b. differ (separatingHistory (k + 1) .sees e b) (seen k e b))
+wrongSight k e = some 256 (λ b. differ (separatingHistory k .sees e b) (seen k e b))
 
-all-seen : some 8 (λ k. some 3 (wrongSight k)) ≡ false
+all-seen : every 8 (λ k. not (some 3 (wrongSight k))) ≡ true
 unfolding searchFrom lowest some digit bitOf has bits member historyOfEvents numberedRecord
 all-seen = refl
 
-sight-right : (k e b : ℕ) → 1 ≤ k → k ≤ 8 → e < 3 → b < 256 → separatingHistory k .sees e b ≡ has (bits 3 (separatingHistory k .sees e) ∷ 0 ∷ 0 ∷ 0 ∷ []) b
+sight-right : (k e b : ℕ) → 1 ≤ k → k ≤ 8 → e < 3 → b < 256 → separatingHistory k .sees e b ≡ seen k e b
 sight-right k e b i j l m =
-    let on : k - 1 + 1 ≡ k = omega arith in
-    subst (λ (k : ℕ). separatingHistory k .sees e b ≡ has (bits 3 (separatingHistory k .sees e) ∷ 0 ∷ 0 ∷ 0 ∷ []) b) on
-    (differ-same (separatingHistory (k - 1 + 1) .sees e b) (seen (k - 1) e b)
-    (some-none 256 (λ b. differ (separatingHistory (k - 1 + 1) .sees e b) (seen (k - 1) e b))
-    (some-none 3 (wrongSight (k - 1)) (some-none 8 (λ k. some 3 (wrongSight k)) all-seen (k - 1) (omega arith)) e l) b m))
+    let none : some 3 (wrongSight k) ≡ false = not-true (some 3 (wrongSight k)) (every-at 8 (λ k. not (some 3 (wrongSight k))) all-seen k i j) in
+    differ-same (separatingHistory k .sees e b) (seen k e b)
+    (some-none 256 (λ b. differ (separatingHistory k .sees e b) (seen k e b)) (some-none 3 (wrongSight k) none e l) b m)
 
 -- ---- a slot of such numbers
 

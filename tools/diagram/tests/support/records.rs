@@ -80,7 +80,8 @@ pub fn shipped() -> Vec<Record> {
     let stale_opening = include_bytes!("../../../../records/stale-opening.gcr");
     let clocks = include_bytes!("../../../../records/clocks.gcr");
     let early_read = include_bytes!("../../../../records/early-read.gcr");
-    let all = [&listing[..], stale_read, stale_value, empty, opening, stale_opening, clocks, early_read];
+    let never_returned = include_bytes!("../../../../records/never-returned.gcr");
+    let all = [&listing[..], stale_read, stale_value, empty, opening, stale_opening, clocks, early_read, never_returned];
     let separating = second::samples::separating().map(|sample| Record::from_bytes(&sample.bytes));
     all.into_iter().map(Record::from_bytes).chain(separating).collect()
 }
