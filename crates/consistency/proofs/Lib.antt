@@ -1,4 +1,5 @@
--- What follows. What users should know: MetIffHolds, BrokenIff, HappensBefore, ReturnsBefore, SameVerdict, OtherClocks, AsBefore, ModelsGive, ChainLaws.
+-- What follows. What users should know: MetIffHolds, BrokenIff, HappensBefore, ReturnsBefore, SameVerdict, OtherClocks, AsBefore, ModelsGive, ChainLaws,
+-- ExplainedLaws.
 pub mod FirstPairLaws
 pub mod LastWriteLaws
 pub mod MetIffHolds
@@ -14,3 +15,4 @@ pub mod PredicatesGive
 pub mod ModelsGive
 pub mod ChainLaws
 pub mod Separated
+pub mod ExplainedLaws

@@ -120,7 +120,7 @@ module _ (h k : History) (s : SameEvents h k) where
       (λ p. ap₂ (λ (t : Bool) (r : ℕ). cond t (ltb r (h .start b)) (ltb (r + h .terms .difference) (h .start b))) (ss-same a b i j) (s .return a i p)
       ∙ ap₂ (λ (x d : ℕ). cond (ss k a b) (ltb (k .return a) x) (ltb (k .return a + d) x)) (s .start b j) e)
 
-  vis-same : Same (vis h) (vis k)
+  pub vis-same : Same (vis h) (vis k)
   unfolding vis
   vis-same a b i j = s .sees b a j i
 
@@ -128,7 +128,7 @@ module _ (h k : History) (s : SameEvents h k) where
   unfolding ar
   ar-same a b i j = ap₂ ltb (s .position a i) (s .position b j)
 
-  step-same : Same (step h) (step k)
+  pub step-same : Same (step h) (step k)
   unfolding step
   step-same a b i j = ap₂ _||_ (so-same a b i j) (vis-same a b i j)
 
@@ -136,7 +136,7 @@ module _ (h k : History) (s : SameEvents h k) where
   unfolding hb
   hb-same a b i j = reaches-same (h .count) (step h) (step k) step-same a b i j ∙ ap (λ (n : ℕ). reaches n (step k) a b) (s .count)
 
-  read-same : SameSet (read h) (read k)
+  pub read-same : SameSet (read h) (read k)
   read-same e i = ap not (s .isWrite e i)
 
   -- a test of any event, which reads the events of its own history

@@ -7,5 +7,6 @@ pub mod Predicates
 pub mod Holds
 pub mod Breaks
 pub mod Models
+pub mod Explained
 pub mod Lattice
 pub mod Separating

@@ -34,3 +34,10 @@ pub enum Outcome {
     AllMet,
     BrokenAt(usize, usize, usize),
 }
+
+// How the break of a predicate is told: by a chain of events, by the one in the middle, or by its pair alone.
+pub enum Telling {
+    ByChain,
+    ByMiddle,
+    ByPair,
+}

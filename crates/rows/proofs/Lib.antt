@@ -11,3 +11,4 @@ pub mod TableLaws
 pub mod SliceLaws
 pub mod ByteLaws
 pub mod ReachLaws
+pub mod ShortestLaws

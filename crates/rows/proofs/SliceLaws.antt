@@ -1,5 +1,5 @@
 -- Row b of a table as code cuts it out, from word b * w up to b * w + w. Assumes nothing.
-use mathlib.Core.Path.{_≡_, ap, _∙_}
+use mathlib.Core.Path.{_≡_, ap, ap₂, _∙_}
 use mathlib.Core.List.{List, _++_, append-nil}
 use Prim.Native.Nat.{ℕ, _+_, _-_, _*_, _≤_}
 use native.Mathlib.Omega.{arith}
@@ -25,15 +25,24 @@ copy-over m l e = let h : length l ≤ length m = omega arith in ap (λ (t : Lis
 abbrev pub giveBack : List ℕ → ℕ → ℕ → List ℕ → List ℕ
 giveBack g w b m = take (b * w) g ++ (m ++ drop (b * w + w - b * w) (drop (b * w) g))
 
--- row s of h is copied over row c of g
-pub row-put : (w c : ℕ) (g h : List ℕ) (s : ℕ) (m : List ℕ) → c * w + w ≤ length g → s * w + w ≤ length h → m ≡ sliceAt h w s ++ drop (length (sliceAt h w s)) (sliceAt g w c)
-    → RowPut w c (rowAt h w s) g (giveBack g w c m)
-row-put w c g h s m room from e =
-    let q : m ≡ rowAt h w s = row-copied h w s (sliceAt g w c) m (length-slice g w c room) from e in
-    let wide : length m ≡ w = ap length q ∙ length-row h w s from in
+-- row c of g is lent, and m given back for it
+given-back : (w c : ℕ) (g : List ℕ) {m m' : List ℕ} → c * w + w ≤ length g → m ≡ m' → length m' ≡ w → RowPut w c m' g (giveBack g w c m)
+given-back w c g {m} {m'} room q long =
+    let wide : length m ≡ w = ap length q ∙ long in
     let given : giveBack g w c m ≡ putRow g w c m = rw add-sub-cancel-left in
     record {
       size = ap length given ∙ length-put g w c m wide room;
       same = ap (λ (x : List ℕ). rowAt x w c) given ∙ row-put-same g w c m wide room ∙ q;
       other = λ d ne. ap (λ (x : List ℕ). rowAt x w d) given ∙ row-put-other g w c m wide room d ne;
     }
+
+-- row s of h is copied over it
+pub row-put : (w c : ℕ) (g h : List ℕ) (s : ℕ) (m : List ℕ) → c * w + w ≤ length g → s * w + w ≤ length h → m ≡ sliceAt h w s ++ drop (length (sliceAt h w s)) (sliceAt g w c)
+    → RowPut w c (rowAt h w s) g (giveBack g w c m)
+row-put w c g h s m room from e = given-back w c g room (row-copied h w s (sliceAt g w c) m (length-slice g w c room) from e) (length-row h w s from)
+
+-- it is lent with row s of h to an operation on rows
+pub row-changed : (f : List ℕ → List ℕ → List ℕ) → ((x y : List ℕ) → length (f x y) ≡ length x) → (w c : ℕ) (g h : List ℕ) (s : ℕ) (m : List ℕ) → c * w + w ≤ length g
+    → m ≡ f (sliceAt g w c) (sliceAt h w s) → RowPut w c (f (rowAt g w c) (rowAt h w s)) g (giveBack g w c m)
+row-changed f same w c g h s m room e =
+    given-back w c g room (e ∙ ap₂ f (slice-row g w c) (slice-row h w s)) (same (rowAt g w c) (rowAt h w s) ∙ length-row g w c room)

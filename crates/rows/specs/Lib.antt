@@ -4,3 +4,4 @@ pub mod Count
 pub mod Row
 pub mod Octets
 pub mod Relation
+pub mod Shortest

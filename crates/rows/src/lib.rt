@@ -1,5 +1,6 @@
 // Bit rows of any width in lent slices: a row of w words is a set of numbers below 64 * w.
 pub mod octets;
+pub mod table_rows;
 
 ghost use mathlib.Core.Path.{_≡_};
 ghost use mathlib.Core.Bool.{true, not, _&&_, _||_};

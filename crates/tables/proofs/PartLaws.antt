@@ -10,7 +10,6 @@ use lib.ListN.{length, getD, take, drop, length-append, length-take, length-drop
 use lib.Seq.{length-take-le, drop-at, drop-drop, getD-take, getD-drop, ext-getD, take-append-le, drop-append-le}
 use Rattle.rows.specs.Row.{rowAt, RowPut}
 use Rattle.rows.proofs.TableLaws.{row-room, length-row-le, getD-row, putRow, length-put, row-put-same, row-put-other}
-use Rattle.rows.proofs.SliceLaws.{sliceAt, slice-row, length-slice, giveBack}
 use Rattle.tables.specs.Tables.{part}
 
 -- ---- table k of tables of n rows
@@ -79,19 +78,6 @@ places-apart n k j b c p q ne e = elim (decLt k j) [
 ]
 
 -- ---- a row that is changed where it stands
-
--- row c of g is lent with row s of h to an operation on rows
-pub row-changed : (f : List ℕ → List ℕ → List ℕ) → ((x y : List ℕ) → length (f x y) ≡ length x) → (w c : ℕ) (g h : List ℕ) (s : ℕ) (m : List ℕ) → c * w + w ≤ length g
-    → m ≡ f (sliceAt g w c) (sliceAt h w s) → RowPut w c (f (rowAt g w c) (rowAt h w s)) g (giveBack g w c m)
-row-changed f same w c g h s m room e =
-    let q : m ≡ f (rowAt g w c) (rowAt h w s) = e ∙ ap₂ f (slice-row g w c) (slice-row h w s) in
-    let wide : length m ≡ w = ap length e ∙ same (sliceAt g w c) (sliceAt h w s) ∙ length-slice g w c room in
-    let given : giveBack g w c m ≡ putRow g w c m = rw add-sub-cancel-left in
-    record {
-      size = ap length given ∙ length-put g w c m wide room;
-      same = ap (λ (x : List ℕ). rowAt x w c) given ∙ row-put-same g w c m wide room ∙ q;
-      other = λ d ne. ap (λ (x : List ℕ). rowAt x w d) given ∙ row-put-other g w c m wide room d ne;
-    }
 
 -- it is changed once more
 pub put-again : (w c : ℕ) (m m' g g' g'' : List ℕ) → RowPut w c m g g' → RowPut w c m' g' g'' → RowPut w c m' g g''

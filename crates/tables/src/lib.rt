@@ -3,4 +3,3 @@ pub mod arbitration;
 pub mod groups;
 pub mod real_time;
 pub mod sweep;
-pub mod table_rows;

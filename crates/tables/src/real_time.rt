@@ -1,5 +1,5 @@
 // The table of rb where clocks differ: so, which goes by one site's own, and who returned by more than the difference before an event starts.
-use super::table_rows;
+use rows::table_rows;
 ghost use mathlib.Core.Path.{_≡_};
 ghost use mathlib.Core.Bool.{true, false, _||_};
 ghost use Prim.Native.Nat.{ℕ, _+_, _-_, _*_, _<_, _≤_};

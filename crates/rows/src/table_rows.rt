@@ -10,7 +10,7 @@ pub fn put_row(to: &mut [u64], w: usize, c: usize, from: &[u64], s: usize)
 {
     let at = c * w;
     let row = s * w;
-    rows::copy(&mut to[at..at + w], &from[row..row + w]);
+    super::copy(&mut to[at..at + w], &from[row..row + w]);
 }
 
 // Of row c of `to` only what row s of `from` has too stays.
@@ -20,7 +20,7 @@ pub fn cut_row(to: &mut [u64], w: usize, c: usize, from: &[u64], s: usize)
 {
     let at = c * w;
     let row = s * w;
-    rows::intersect(&mut to[at..at + w], &from[row..row + w]);
+    super::intersect(&mut to[at..at + w], &from[row..row + w]);
 }
 
 // Row s of `from` joins row c of `to`.
@@ -30,5 +30,5 @@ pub fn join_row(to: &mut [u64], w: usize, c: usize, from: &[u64], s: usize)
 {
     let at = c * w;
     let row = s * w;
-    rows::union(&mut to[at..at + w], &from[row..row + w]);
+    super::union(&mut to[at..at + w], &from[row..row + w]);
 }

@@ -1,0 +1,6 @@
+-- What belongs to no one function.
+pub mod JoiningLaws
+pub mod NearLaws
+pub mod FillingLaws
+pub mod TryingLaws
+pub mod WritingLaws
