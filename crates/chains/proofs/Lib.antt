@@ -1,4 +1,6 @@
 -- What belongs to no one function.
+pub mod RoomLaws
+pub mod FreshLaws
 pub mod JoiningLaws
 pub mod NearLaws
 pub mod FillingLaws

@@ -2,7 +2,7 @@
 use mathlib.Core.Path.{_≡_, refl, sym, ap, _∙_, subst}
 use mathlib.Core.Bool.{true, false, _&&_}
 use mathlib.Core.List.{List, [], _∷_, _++_}
-use Prim.Native.Nat.{ℕ, zero, suc, _+_, _-_, _*_, _<_, _≤_}
+use Prim.Native.Nat.{ℕ, suc, _+_, _-_, _<_, _≤_}
 use native.Mathlib.Omega.{arith}
 use lib.ListN.{length, getD, set, take, drop, length-set}
 use lib.Seq.{take-all, length-take-le, getD-drop, drop-drop}
@@ -18,57 +18,57 @@ use Rattle.rows.proofs.ShortestLaws.{leads-before, nextOf, from-one, from-more,
 use Rattle.chains.specs.Near.{within, Near}
 use Rattle.chains.proofs.NearLaws.{next-on}
 
-pub record Writing (n : ℕ) (r : Rel) (b last : ℕ) (l out₀ out : List ℕ) (e i : ℕ) : Type 0 where
+pub record Writing (n : ℕ) (r : Rel) (a b last : ℕ) (out₀ out : List ℕ) (e i : ℕ) : Type 0 where
   pub upto : i ≤ last
   pub here : e < n
   pub left : leads n r (last - i) e b ≡ true
   pub fewer : (j : ℕ) → j < last - i → leads n r j e b ≡ false
-  pub rest : drop i l ≡ stepsFrom n r b (last - i) e
-  pub front : out ≡ take i l ++ drop i out₀
+  pub rest : drop i (shortestChain n r a b) ≡ stepsFrom n r b (last - i) e
+  pub front : out ≡ take i (shortestChain n r a b) ++ drop i out₀
   pub long : length out ≡ length out₀
 
-module _ (n : ℕ) (r : Rel) (a b : ℕ) (right : b < n) where
+pub writing-begin : {n : ℕ} {r : Rel} {a b last : ℕ} → last ≡ distance n r a b → a < n → b < n → reaches n r a b ≡ true → (out : List ℕ)
+    → Writing n r a b last out out a 0
+unfolding shortestChain
+writing-begin {n} {r} {a} {b} {last} q h right e out =
+    let near = reached-near n r b right a e in
+    let all : last - 0 ≡ distance n r a b = omega arith in
+    record {
+      upto = omega arith;
+      here = h;
+      left = rw all (at-distance n r b right a near);
+      fewer = λ j l. none-nearer n r b right a j (omega arith);
+      rest = rw all refl;
+      front = refl;
+      long = refl;
+    }
+
+module _ {n : ℕ} {r : Rel} {a b last : ℕ} {out₀ out : List ℕ} {e i : ℕ} (w : Writing n r a b last out₀ out e i) where
   abbrev chain : List ℕ
   chain = shortestChain n r a b
 
-  chain-length : length chain ≡ suc (distance n r a b)
-  unfolding shortestChain
-  chain-length = from-length n r b (distance n r a b) a
+  module _ (q : last ≡ distance n r a b) (room : last < length out₀) where
+    chain-length : length chain ≡ suc last
+    unfolding shortestChain
+    chain-length = from-length n r b (distance n r a b) a ∙ ap suc (sym q)
 
-  pub writing-begin : (last : ℕ) → last ≡ distance n r a b → a < n → reaches n r a b ≡ true → (out : List ℕ) → Writing n r b last chain out out a 0
-  unfolding shortestChain
-  writing-begin last q h e out =
-      let near = reached-near n r b right a e in
-      let z : last - 0 ≡ distance n r a b = omega arith in
-      record {
-        upto = omega arith;
-        here = h;
-        left = rw z (at-distance n r b right a near);
-        fewer = λ j l. none-nearer n r b right a j (omega arith);
-        rest = rw z refl;
-        front = refl;
-        long = refl;
-      }
+    -- entry x is written, and the entries m are left
+    module _ (x : ℕ) (m : List ℕ) (s : drop i chain ≡ x ∷ m) where
+      after : drop (i + 1) chain ≡ m
+      after = sym (drop-drop 1 i chain) ∙ ap (drop 1) s
 
-  module _ {last : ℕ} {out₀ out : List ℕ} {e i : ℕ} (w : Writing n r b last chain out₀ out e i) (q : last ≡ distance n r a b) (room : n ≤ length out₀) (reached : last < n) where
-    first : (x : ℕ) (m : List ℕ) → drop i chain ≡ x ∷ m → i < length chain → getD chain i 0 ≡ x
-    first x m s h =
-        let z : i + 0 ≡ i = omega arith in
-        sym (rw z at (getD-drop i chain 0 0)) ∙ ap (λ (t : List ℕ). getD t 0 0) s
-
-    after : (x : ℕ) (m : List ℕ) → drop i chain ≡ x ∷ m → drop (i + 1) chain ≡ m
-    after x m s = sym (drop-drop 1 i chain) ∙ ap (drop 1) s
-
-    written : (x : ℕ) (m : List ℕ) → drop i chain ≡ x ∷ m → set out i x ≡ take (i + 1) chain ++ drop (i + 1) out₀
-    written x m s =
-        let long = chain-length in
-        let h : i < length chain = omega (arith, w .upto) in
-        front-more (take i chain) out₀ i x (w .front) (take-more chain i h ∙ ap (λ (y : ℕ). take i chain ++ (y ∷ [])) (first x m s h))
-        (length-take-le i chain (omega (arith, w .upto))) (omega (arith, w .upto))
+      written : set out i x ≡ take (i + 1) chain ++ drop (i + 1) out₀
+      written =
+          let long = chain-length in
+          let first : getD chain (i + 0) 0 ≡ x = sym (getD-drop i chain 0 0) ∙ ap (λ (t : List ℕ). getD t 0 0) s in
+          let same : i + 0 ≡ i = omega arith in
+          front-more (take i chain) out₀ i x (w .front)
+          (take-more chain i (omega (arith, w .upto)) ∙ ap (λ (y : ℕ). take i chain ++ (y ∷ [])) (rw same at first))
+          (length-take-le i chain (omega (arith, w .upto))) (omega (arith, w .upto))
 
     -- a turn: the next event
     module _ (h : i < last) where
-      abbrev pub k : ℕ
+      abbrev k : ℕ
       k = last - 1 - i
 
       more : last - i ≡ suc k
@@ -83,18 +83,19 @@ module _ (n : ℕ) (r : Rel) (a b : ℕ) (right : b < n) where
       pub next-far : within n r b (suc k) e ≡ false
       next-far = none-some (suc k) (λ j. leads n r j e b) (λ j l. w .fewer j (omega (arith, more)))
 
-      pub writing-more : (x : ℕ) → x ≡ nextOf n r b k e → Writing n r b last chain out₀ (set out i x) x (i + 1)
-      writing-more x s =
+      pub writing-more : {x : ℕ} → x ≡ nextOf n r b k e → Writing n r a b last out₀ (set out i x) x (i + 1)
+      writing-more s =
+          let m : ℕ = nextOf n r b k e in
           let less : last - (i + 1) ≡ k = omega arith in
           rw s (record {
             upto = omega arith;
             here = onward .below;
             left = rw less (onward .left);
-            fewer = λ j l. never (leads n r j (nextOf n r b k e) b) (λ t.
-                tell (leads n r (suc j) e b) (leads-before n r j e (nextOf n r b k e) b (onward .below) (onward .step) t) (w .fewer (suc j) (omega (arith, more))));
-            rest = rw less (after (nextOf n r b k e) (stepsFrom n r b k (nextOf n r b k e)) next-rest);
-            front = written (nextOf n r b k e) (stepsFrom n r b k (nextOf n r b k e)) next-rest;
-            long = length-set out i (nextOf n r b k e) ∙ w .long;
+            fewer = λ j l. never (leads n r j m b) (λ t.
+                tell (leads n r (suc j) e b) (leads-before n r j e m b (onward .below) (onward .step) t) (w .fewer (suc j) (omega (arith, more))));
+            rest = rw less (after m (stepsFrom n r b k m) next-rest);
+            front = written m (stepsFrom n r b k m) next-rest;
+            long = length-set out i m ∙ w .long;
           })
 
     -- the end: b
@@ -109,17 +110,16 @@ module _ (n : ℕ) (r : Rel) (a b : ℕ) (right : b < n) where
               ∙ ap (λ (t : List ℕ). t ++ drop (last + 1) out₀) (take-all (last + 1) chain (omega (arith, long))),
         )
 
--- ---- the next event as code finds it
+-- ---- the next event as code finds it, in rows k and k + 1 of near events
 
-module _ {g : List ℕ} {n w : ℕ} (graph : Graph g n w) (b : ℕ) (right : b < n) {last : ℕ} (near : List ℕ) (rows : Near g n w b last near) (k : ℕ) (h : k + 1 ≤ last) where
-  pub row-below : {v : ℕ} → v ≡ w → (x : ℕ) → has (rowAt near v (k + 1)) x ≡ true → x < n
-  row-below q x t = row-in n (within n (related g w) b (k + 1)) (rowAt near w (k + 1)) (rows (k + 1) h) x (rw q at t) .0
+module _ {g : List ℕ} {n w b : ℕ} (graph : Graph g n w) (right : b < n) {last : ℕ} (near : List ℕ) (rows : Near g n w b last near) (k : ℕ) (h : k + 1 ≤ last) where
+  pub row-below : (x : ℕ) → has (rowAt near w (k + 1)) x ≡ true → x < n
+  row-below x t = row-in n (within n (related g w) b (k + 1)) (rowAt near w (k + 1)) (rows (k + 1) h) x t .0
 
-  pub next-is : (e : ℕ) → within n (related g w) b (suc k) e ≡ false → {v x : ℕ} → v ≡ w
-      → x ≡ lowest n (λ m. onlyFirst (rowAt near v (k + 1)) (rowAt near v k) m && related g v e m) → x ≡ nextOf n (related g w) b k e
-  next-is e far {v} q found =
+  pub next-is : (e : ℕ) {x : ℕ} → within n (related g w) b (suc k) e ≡ false
+      → x ≡ lowest n (λ m. onlyFirst (rowAt near w (k + 1)) (rowAt near w k) m && related g w e m) → x ≡ nextOf n (related g w) b k e
+  next-is e far found =
       let one : k + 1 ≡ suc k = omega arith in
-      found
-      ∙ ap (λ (v : ℕ). lowest n (λ m. onlyFirst (rowAt near v (k + 1)) (rowAt near v k) m && related g v e m)) q
-      ∙ next-on graph b right k e (rowAt near w (k + 1)) (rowAt near w k)
-      (subst (λ (j : ℕ). Row n (within n (related g w) b j) (rowAt near w (k + 1))) one (rows (k + 1) h)) (rows k (omega arith)) far
+      let after : Row n (within n (related g w) b (suc k)) (rowAt near w (k + 1)) =
+      subst (λ (j : ℕ). Row n (within n (related g w) b j) (rowAt near w (k + 1))) one (rows (k + 1) h) in
+      found ∙ next-on graph b right k (rowAt near w (k + 1)) (rowAt near w k) after (rows k (omega arith)) e far
