@@ -16,16 +16,16 @@ use Rattle.rows.proofs.LowestLaws.{lowest-hit, lowest-none}
 use Rattle.rows.proofs.RowLaws.{has-within, length-insert, only-some, only-below}
 use Rattle.chains.proofs.FreshLaws.{Fresh, fresh-first, has-fresh}
 
-pub record Trying (g : List ℕ) (n w e : ℕ) (near tried₀ tried : List ℕ) : Type 0 where
+pub record Trying (g : List ℕ) (w e : ℕ) (near tried₀ tried : List ℕ) : Type 0 where
   pub long : length near ≡ w
   pub deep : length tried ≡ w
   pub still : (x : ℕ) → has tried₀ x ≡ true → has tried x ≡ true
   pub passed : (x : ℕ) → has tried x ≡ true → has tried₀ x || not (related g w e x) ≡ true
 
-pub trying-begin : (g : List ℕ) {n w : ℕ} (e : ℕ) {near : List ℕ} (tried : List ℕ) → length near ≡ w → length tried ≡ w → Trying g n w e near tried tried
+pub trying-begin : (g : List ℕ) {w : ℕ} (e : ℕ) {near : List ℕ} (tried : List ℕ) → length near ≡ w → length tried ≡ w → Trying g w e near tried tried
 trying-begin g {w} e tried k h = record { long = k; deep = h; still = λ x t. t; passed = λ x t. or-left (has tried x) (not (related g w e x)) t }
 
-module _ {g : List ℕ} {n w e : ℕ} {near tried₀ tried : List ℕ} (i : Trying g n w e near tried₀ tried) where
+module _ {g : List ℕ} {w e : ℕ} {near tried₀ tried : List ℕ} (i : Trying g w e near tried₀ tried) where
   -- what is looked for
   abbrev wanted : ℕ → Bool
   wanted x = onlyFirst near tried₀ x && related g w e x
@@ -44,16 +44,16 @@ module _ {g : List ℕ} {n w e : ℕ} {near tried₀ tried : List ℕ} (i : Tryi
     none-below x h = never (wanted x) (λ t. let o = untried x t in tell (has tried x) (only-below near tried (64 * length near) m q x h (o .0)) (o .1))
 
     -- there is none
-    pub tried-all : 64 * w ≤ m → n ≡ lowest n wanted
-    tried-all h = sym (lowest-none n wanted (λ x l. never (wanted x) (λ t.
+    pub tried-all : {n : ℕ} → 64 * w ≤ m → n ≡ lowest n wanted
+    tried-all {n} h = sym (lowest-none n wanted (λ x l. never (wanted x) (λ t.
         tell (wanted x) t (none-below x (omega (arith, i .long, has-within near x (untried x t .0)))))))
 
     -- it is the one of this turn
-    pub tried-hit : Fresh n near tried m → related g w e m ≡ true → m ≡ lowest n wanted
-    tried-hit p s = sym (lowest-hit n wanted m (p .below) none-below (and-both (onlyFirst near tried₀ m) (related g w e m) (fresh-first p tried₀ (i .still)) s))
+    pub tried-hit : {n : ℕ} → Fresh n near tried m → related g w e m ≡ true → m ≡ lowest n wanted
+    tried-hit {n} p s = sym (lowest-hit n wanted m (p .below) none-below (and-both (onlyFirst near tried₀ m) (related g w e m) (fresh-first p tried₀ (i .still)) s))
 
   -- it is not
-  pub trying-more : {m : ℕ} {tried' : List ℕ} → Fresh n near tried m → related g w e m ≡ false → tried' ≡ insert tried m → Trying g n w e near tried₀ tried'
+  pub trying-more : {n m : ℕ} {tried' : List ℕ} → Fresh n near tried m → related g w e m ≡ false → tried' ≡ insert tried m → Trying g w e near tried₀ tried'
   trying-more {m} p s q = rw q (record {
     long = i .long;
     deep = length-insert tried m ∙ i .deep;

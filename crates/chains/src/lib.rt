@@ -12,7 +12,7 @@ ghost use Rattle.rows.specs.Relation.{reaches, related, Graph};
 ghost use Rattle.rows.specs.Shortest.{leads, distance, shortestChain};
 ghost use Rattle.chains.specs.Near.{within, Near};
 
-// The rows of those members of `near` that `done` lacks join `next`, and they join `done`.
+// Those members of `near` that `done` lacks join it, and their rows join `next`.
 fn join_rows(table: &[u64], n: usize, near: &[u64], done: &mut [u64], next: &mut [u64])
     requires { ⌜ Graph (now table) n (length (now next)) ⌝ }
     requires { ⌜ (length (now near) ≡ length (now next)) × (length (now done) ≡ length (now next)) ⌝ }
@@ -32,7 +32,7 @@ fn join_rows(table: &[u64], n: usize, near: &[u64], done: &mut [u64], next: &mut
     }
 }
 
-// Row k of `near` comes to have the events from which at most k steps lead to b, for each k up to one less than a needs, which is answered.
+// Row k of `near` comes to have the events from which at most k steps lead to b, for each k up to the answer, which is one less than the steps that a needs.
 fn fill_near(
     table: &[u64],
     n: usize,
@@ -66,7 +66,7 @@ fn fill_near(
     n
 }
 
-// `lowest_after`, where `tried` comes to have also what no step leads to.
+// `lowest_after`, with `tried` for `without`: what is tried in vain joins it.
 fn lowest_untried(table: &[u64], n: usize, e: usize, near: &[u64], tried: &mut [u64]) -> usize
     requires { ⌜ Graph (now table) n (length (now near)) ⌝ }
     requires { ⌜ (length (now tried) ≡ length (now near)) × (e < n) ⌝ }
@@ -117,7 +117,7 @@ fn next_event(table: &[u64], n: usize, w: usize, k: usize, e: usize, near: &[u64
     lowest_after(table, n, e, &near[at..end], &near[fewer..upto])
 }
 
-// The events after a, b last, of a shortest chain of steps from a to b, each next one the lowest possible; how many they are.
+// Writes to the front of `out` the events after a, b last, of a shortest chain of steps from a to b, each next one the lowest possible; how many they are.
 pub fn shortest(table: &[u64], n: usize, w: usize, a: usize, b: usize, out: &mut [u16]) -> usize
     requires { ⌜ Graph (now table) n w × (w ≤ 8) × (n * w + w ≤ 1028) ⌝ }
     requires { ⌜ (a < n) × (b < n) × (n ≤ length (now out)) ⌝ }

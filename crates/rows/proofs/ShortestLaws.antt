@@ -1,20 +1,20 @@
 -- Laws of shortest chains. Assumes nothing.
 use mathlib.Core.Path.{_≡_, refl, sym, ap, ap₂, _∙_}
-use mathlib.Core.Bool.{Bool, true, false, not, cond, _&&_, _||_}
+use mathlib.Core.Bool.{Bool, true, false, cond, _&&_, _||_}
 use mathlib.Core.List.{List, [], _∷_}
 use Prim.Native.Nat.{ℕ, zero, suc, _+_, _-_, _<_, _≤_}
 use native.Mathlib.Omega.{arith}
-use lib.Dec.{ltb, leb, eqb}
+use borrow.Author.Tests.{ltb-true, ltb-false, eqb-true, eq-eqb, ne-eqb}
+use lib.Dec.{ltb, eqb}
 use lib.ListN.{length, getD}
-use borrow.Author.Tests.{ltb-true, ltb-false, eqb-true, eqb-false, eq-eqb, ne-eqb}
 use Rattle.rows.specs.Lowest.{lowest, some}
-use Rattle.rows.specs.Count.{sum, howMany}
+use Rattle.rows.specs.Count.{howMany}
 use Rattle.rows.specs.Relation.{Rel, reaches, Steps, one, more}
 use Rattle.rows.specs.Shortest.{leads, distance, stepsFrom, shortestChain, Entries, last, next, NotLater, same, lower, then, Shortest}
-use Rattle.rows.proofs.Tests.{split, tell, never, same-test, or-elim, or-left, or-right, and-both, and-left, and-right}
+use Rattle.rows.proofs.Tests.{split, tell, never, or-elim, and-both, and-left, and-right}
 use Rattle.rows.proofs.LowestLaws.{lowest-low, same-lowest, some-of, some-at, same-some}
 use Rattle.rows.proofs.CountLaws.{many-most, sum-other, sum-each}
-use Rattle.rows.proofs.ReachLaws.{reaches-sound, reaches-complete}
+use Rattle.rows.proofs.ReachLaws.{reaches-sound}
 
 module _ (n : ℕ) (r : Rel) where
   -- ---- k + 1 steps
@@ -23,7 +23,7 @@ module _ (n : ℕ) (r : Rel) where
   unfolding leads
   leads-one a b = refl
 
-  pub leads-more : (k a b : ℕ) → leads n r (suc k) a b ≡ some n (λ m. r a m && leads n r k m b)
+  leads-more : (k a b : ℕ) → leads n r (suc k) a b ≡ some n (λ m. r a m && leads n r k m b)
   unfolding leads
   leads-more k a b = refl
 
@@ -31,38 +31,46 @@ module _ (n : ℕ) (r : Rel) where
   pub leads-before : (k a m b : ℕ) → m < n → r a m ≡ true → leads n r k m b ≡ true → leads n r (suc k) a b ≡ true
   leads-before k a m b l s e = leads-more k a b ∙ some-of n (λ m. r a m && leads n r k m b) m l (and-both (r a m) (leads n r k m b) s e)
 
-  -- i + 1 steps to m, and k + 1 from there
-  leads-join : (i k a m b : ℕ) → m < n → leads n r i a m ≡ true → leads n r k m b ≡ true → leads n r (suc (i + k)) a b ≡ true
-  leads-join zero k a m b l e f = let z : 0 + k ≡ k = omega arith in rw z (leads-before k a m b l (sym (leads-one a m) ∙ e) f)
-  leads-join (suc i) k a m b l e f =
-      let g : ℕ → Bool = λ x. r a x && leads n r i x m in
-      let at = some-at n g (sym (leads-more i a m) ∙ e) in
-      let x : ℕ = lowest n g in
-      let z : suc i + k ≡ suc (i + k) = omega arith in
-      rw z
-      (leads-before (suc (i + k)) a x b (at .0) (and-left (r a x) (leads n r i x m) (at .1))
-      (leads-join i k x m b l (and-right (r a x) (leads n r i x m) (at .1)) f))
-
-  -- ---- chains and steps
-
-  entries-lead : {a b : ℕ} {l : List ℕ} → Entries n r a b l → (k : ℕ) → length l ≡ suc k → leads n r k a b ≡ true
-  entries-lead (last {a} {b} s) zero e = leads-one a b ∙ s
-  entries-lead (last {a} {b} s) (suc k) e = absurd (omega arith)
-  entries-lead (next {a} {m} {b} {l} s i c) zero e = absurd (none c (omega arith))
-    where
-      none : {a b : ℕ} {l : List ℕ} → Entries n r a b l → length l ≡ 0 → ⊥
-      none (last s) e = omega arith
-      none (next s i c) e = omega arith
-  entries-lead (next {a} {m} {b} {l} s i c) (suc k) e = leads-before k a m b i s (entries-lead c k (omega arith))
-
-  -- ---- the chain of k + 1 steps, each next event the lowest possible
-
-  -- the first of them, where k + 2 steps lead from a to b
-  abbrev pub onward : ℕ → ℕ → ℕ → ℕ → Bool
+  -- where k + 2 steps lead from a to b: the lowest event to which the first of them leads
+  abbrev onward : ℕ → ℕ → ℕ → ℕ → Bool
   onward b k a m = r a m && leads n r k m b
 
   abbrev pub nextOf : ℕ → ℕ → ℕ → ℕ
   nextOf b k a = lowest n (onward b k a)
+
+  pub record Onward (b k a : ℕ) : Type 0 where
+    pub below : nextOf b k a < n
+    pub step : r a (nextOf b k a) ≡ true
+    pub left : leads n r k (nextOf b k a) b ≡ true
+
+  pub go-on : (b k a : ℕ) → leads n r (suc k) a b ≡ true → Onward b k a
+  go-on b k a e =
+      let at = some-at n (onward b k a) (sym (leads-more k a b) ∙ e) in
+      let m : ℕ = nextOf b k a in
+      record { below = at .0; step = and-left (r a m) (leads n r k m b) (at .1); left = and-right (r a m) (leads n r k m b) (at .1) }
+
+  -- i + 1 steps to m, and k + 1 from there
+  leads-join : (i k a m b : ℕ) → m < n → leads n r i a m ≡ true → leads n r k m b ≡ true → leads n r (suc (i + k)) a b ≡ true
+  leads-join zero k a m b l e f = let z : 0 + k ≡ k = omega arith in rw z (leads-before k a m b l (sym (leads-one a m) ∙ e) f)
+  leads-join (suc i) k a m b l e f =
+      let o = go-on m i a e in
+      let x : ℕ = nextOf m i a in
+      let z : suc i + k ≡ suc (i + k) = omega arith in
+      rw z (leads-before (suc (i + k)) a x b (o .below) (o .step) (leads-join i k x m b l (o .left) f))
+
+  -- ---- chains and steps
+
+  entries-some : {a b : ℕ} {l : List ℕ} → Entries n r a b l → 1 ≤ length l
+  entries-some (last s) = omega arith
+  entries-some (next s i c) = omega arith
+
+  entries-lead : {a b : ℕ} {l : List ℕ} → Entries n r a b l → (k : ℕ) → length l ≡ suc k → leads n r k a b ≡ true
+  entries-lead (last {a} {b} s) zero e = leads-one a b ∙ s
+  entries-lead (last {a} {b} s) (suc k) e = absurd (omega arith)
+  entries-lead (next {a} {m} {b} {l} s i c) zero e = absurd (omega (arith, entries-some c))
+  entries-lead (next {a} {m} {b} {l} s i c) (suc k) e = leads-before k a m b i s (entries-lead c k (omega arith))
+
+  -- ---- the chain of k + 1 steps, each next event the lowest possible
 
   pub from-one : (b a : ℕ) → stepsFrom n r b 0 a ≡ b ∷ []
   unfolding stepsFrom
@@ -77,27 +85,15 @@ module _ (n : ℕ) (r : Rel) where
   from-length b (suc k) a = rw (from-more b k a) (ap suc (from-length b k (nextOf b k a)))
 
   module _ (b : ℕ) where
-    pub record Onward (k a : ℕ) : Type 0 where
-      pub below : nextOf b k a < n
-      pub step : r a (nextOf b k a) ≡ true
-      pub left : leads n r k (nextOf b k a) b ≡ true
-
-    pub go-on : (k a : ℕ) → leads n r (suc k) a b ≡ true → Onward k a
-    go-on k a e =
-        let at = some-at n (onward b k a) (sym (leads-more k a b) ∙ e) in
-        let m : ℕ = nextOf b k a in
-        record { below = at .0; step = and-left (r a m) (leads n r k m b) (at .1); left = and-right (r a m) (leads n r k m b) (at .1) }
-
     from-entries : (k a : ℕ) → leads n r k a b ≡ true → Entries n r a b (stepsFrom n r b k a)
     from-entries zero a e = rw (from-one b a) (last (sym (leads-one a b) ∙ e))
     from-entries (suc k) a e =
-        let o = go-on k a e in
+        let o = go-on b k a e in
         rw (from-more b k a) (next (o .step) (o .below) (from-entries k (nextOf b k a) (o .left)))
 
     from-first : (k a : ℕ) {m : List ℕ} → Entries n r a b m → length m ≡ suc k → NotLater (stepsFrom n r b k a) m
     from-first zero a (last s) e = rw (from-one b a) same
-    from-first zero a (next s i (last t)) e = absurd (omega arith)
-    from-first zero a (next s i (next t j c)) e = absurd (omega arith)
+    from-first zero a (next s i c) e = absurd (omega (arith, entries-some c))
     from-first (suc k) a (last s) e = absurd (omega arith)
     from-first (suc k) a (next {m = x} {l = l} s i c) e =
         let y : ℕ = nextOf b k a in
@@ -113,7 +109,7 @@ module _ (n : ℕ) (r : Rel) where
 
     -- ---- its entries
 
-    -- entry i: i + 1 steps lead to it from a; it is below n but for the last, from which nothing is left; and of the others k - i steps lead to b
+    -- entry i is m: i + 1 steps lead to it from a; the last is b, and each other is below n, with k - i steps from it to b
     record Entry (k a i m : ℕ) : Type 0 where
       to : leads n r i a m ≡ true
       below : i < k → m < n
@@ -124,7 +120,7 @@ module _ (n : ℕ) (r : Rel) where
     entry zero a e zero h = rw (from-one b a) (record { to = e; below = λ l. absurd (omega arith); left = λ j q. absurd (omega arith); end = λ q. refl })
     entry zero a e (suc i) h = absurd (omega arith)
     entry (suc k) a e zero h =
-        let o = go-on k a e in
+        let o = go-on b k a e in
         rw (from-more b k a)
         (record {
           to = leads-one a (nextOf b k a) ∙ o .step;
@@ -133,7 +129,7 @@ module _ (n : ℕ) (r : Rel) where
           end = λ q. absurd (omega arith);
         })
     entry (suc k) a e (suc i) h =
-        let o = go-on k a e in
+        let o = go-on b k a e in
         let m : ℕ = nextOf b k a in
         let t = entry k m (o .left) i (omega arith) in
         let x : ℕ = getD (stepsFrom n r b k m) i 0 in
@@ -145,7 +141,7 @@ module _ (n : ℕ) (r : Rel) where
           end = λ q. t .end (omega arith);
         })
 
-    -- no event stands twice where no fewer steps lead there
+    -- where no fewer steps lead to b, no event stands twice: what stands between would be left out
     from-once : (k a : ℕ) → leads n r k a b ≡ true → ((j : ℕ) → j < k → leads n r j a b ≡ false)
         → (i j : ℕ) → i < j → j ≤ k → getD (stepsFrom n r b k a) i 0 ≡ getD (stepsFrom n r b k a) j 0 → ⊥
     from-once k a e fewer i j h l q =
@@ -170,30 +166,28 @@ abbrev among : List ℕ → ℕ → Bool
 among [] x = false
 among (y ∷ l) x = eqb x y || among l x
 
-among-at : (l : List ℕ) (x : ℕ) → among l x ≡ true → (i : ℕ) → ((j : ℕ) → j < length l → getD l j 0 ≡ x → ⊥) → ⊥
-among-at [] x e i never-so = tell false e refl
-among-at (y ∷ l) x e i never-so =
+among-at : (l : List ℕ) (x : ℕ) → among l x ≡ true → ((j : ℕ) → j < length l → getD l j 0 ≡ x → ⊥) → ⊥
+among-at [] x e never-so = tell false e refl
+among-at (y ∷ l) x e never-so =
     or-elim (eqb x y) (among l x) e
     (λ t. never-so 0 (omega arith) (sym (eqb-true x y t)))
-    (λ t. among-at l x t i (λ j h q. never-so (suc j) (omega arith) q))
+    (λ t. among-at l x t (λ j h q. never-so (suc j) (omega arith) q))
 
-few : (n : ℕ) (l : List ℕ) → ((i : ℕ) → i < length l → getD l i 0 < n) → ((i j : ℕ) → i < j → j < length l → getD l i 0 ≡ getD l j 0 → ⊥)
+among-many : (n : ℕ) (l : List ℕ) → ((i : ℕ) → i < length l → getD l i 0 < n) → ((i j : ℕ) → i < j → j < length l → getD l i 0 ≡ getD l j 0 → ⊥)
     → howMany n (among l) ≡ length l
-few n [] below once = many-none n
-  where
-    many-none : (n : ℕ) → howMany n (among []) ≡ 0
-    many-none n = sum-each n 0 ∙ omega arith
-few n (x ∷ l) below once =
-    let rest : howMany n (among l) ≡ length l = few n l (λ i h. below (suc i) (omega arith)) (λ i j h k q. once (suc i) (suc j) (omega arith) (omega arith) q) in
-    let new : among l x ≡ false = never (among l x) (λ t. among-at l x t 0 (λ j h q. once 0 (suc j) (omega arith) (omega arith) (sym q))) in
+among-many n [] below once = sum-each n 0 ∙ omega arith
+among-many n (x ∷ l) below once =
+    let rest : howMany n (among l) ≡ length l =
+    among-many n l (λ i h. below (suc i) (omega arith)) (λ i j h k q. once (suc i) (suc j) (omega arith) (omega arith) q) in
+    let new : among l x ≡ false = never (among l x) (λ t. among-at l x t (λ j h q. once 0 (suc j) (omega arith) (omega arith) (sym q))) in
     sum-other n (λ y. cond (among (x ∷ l) y) 1 0) (λ y. cond (among l y) 1 0) x 1 (below 0 (omega arith))
     (rw (eq-eqb x x refl, new) refl)
     (λ y h other. rw (ne-eqb y x other) refl)
     ∙ omega (arith, rest)
 
-pub distinct-few : (n : ℕ) (l : List ℕ) → ((i : ℕ) → i < length l → getD l i 0 < n) → ((i j : ℕ) → i < j → j < length l → getD l i 0 ≡ getD l j 0 → ⊥)
+distinct-few : (n : ℕ) (l : List ℕ) → ((i : ℕ) → i < length l → getD l i 0 < n) → ((i j : ℕ) → i < j → j < length l → getD l i 0 ≡ getD l j 0 → ⊥)
     → length l ≤ n
-distinct-few n l below once = omega (arith, few n l below once, many-most n (among l))
+distinct-few n l below once = omega (arith, among-many n l below once, many-most n (among l))
 
 -- ---- the distance
 
@@ -202,43 +196,36 @@ module _ (n : ℕ) (r : Rel) (b : ℕ) (right : b < n) where
   steps-lead (one {a} s) never-so = never-so 0 (leads-one n r a b ∙ s)
   steps-lead (more {a} {b = m} s l c) never-so = steps-lead c (λ k e. never-so (suc k) (leads-before n r k a m b l s e))
 
-  -- a number of steps than which no fewer do is below n
-  least-small : (k a : ℕ) → leads n r k a b ≡ true → ((j : ℕ) → j < k → leads n r j a b ≡ false) → k < n
-  least-small k a e fewer =
-      let l : List ℕ = stepsFrom n r b k a in
+  -- k + 1 steps, where no fewer do, go to k + 1 different events
+  fewest-small : (k a : ℕ) → leads n r k a b ≡ true → ((j : ℕ) → j < k → leads n r j a b ≡ false) → k < n
+  fewest-small k a e fewer =
       let long = from-length n r b k a in
-      omega (
-        arith,
-        long,
-        distinct-few n l
-            (λ i h. inside i h)
-            (λ i j h m. from-once n r b k a e fewer i j h (omega (arith, long))),
-      )
+      omega (arith, long, distinct-few n (stepsFrom n r b k a) inside (λ i j h m. from-once n r b k a e fewer i j h (omega (arith, long))))
     where
       inside : (i : ℕ) → i < length (stepsFrom n r b k a) → getD (stepsFrom n r b k a) i 0 < n
       inside i h =
-          let t = entry n r b k a e i (omega (arith, from-length n r b k a)) in
+          let long = from-length n r b k a in
+          let t = entry n r b k a e i (omega (arith, long)) in
           split (ltb i k)
           (λ u. t .below (ltb-true i k u))
           (λ u.
-          let z : i ≡ k = omega (arith, ltb-false i k u, from-length n r b k a) in
-          let q = t .end z in
-          omega (arith, q))
+          let end : i ≡ k = omega (arith, ltb-false i k u, long) in
+          omega (arith, t .end end))
 
-  -- where steps lead from a to b, fewer than n do, beside the last
-  leads-least : (k a : ℕ) → leads n r k a b ≡ true → distance n r a b < n
+  -- where any number of steps lead from a to b, one below n does
+  lead-near : (k a : ℕ) → leads n r k a b ≡ true → distance n r a b < n
   unfolding distance
-  leads-least k a e =
+  lead-near k a e =
       let f : ℕ → Bool = λ j. leads n r j a b in
       let g = some-at (suc k) f (some-of (suc k) f k (omega arith) e) in
       let d : ℕ = lowest (suc k) f in
-      let small : d < n = least-small d a (g .1) (lowest-low (suc k) f .below) in
+      let small : d < n = fewest-small d a (g .1) (lowest-low (suc k) f .below) in
       some-at n f (some-of n f d small (g .1)) .0
 
   pub reached-near : (a : ℕ) → reaches n r a b ≡ true → distance n r a b < n
   reached-near a e =
       split (ltb (distance n r a b) n) (λ t. ltb-true (distance n r a b) n t)
-      (λ t. absurd (steps-lead (reaches-sound n r a b e) (λ k f. omega (arith, leads-least k a f, ltb-false (distance n r a b) n t))))
+      (λ t. absurd (steps-lead (reaches-sound n r a b e) (λ k f. omega (arith, lead-near k a f, ltb-false (distance n r a b) n t))))
 
   pub at-distance : (a : ℕ) → distance n r a b < n → leads n r (distance n r a b) a b ≡ true
   unfolding distance
@@ -252,14 +239,10 @@ module _ (n : ℕ) (r : Rel) (b : ℕ) (right : b < n) where
   entries-length {a} {m} c =
       split (ltb (distance n r a b) (length m)) (λ t. ltb-true (distance n r a b) (length m) t)
       (λ t.
-      let long = ltb-false (distance n r a b) (length m) t in
+      let far = ltb-false (distance n r a b) (length m) t in
+      let full = entries-some n r c in
       let k : ℕ = length m - 1 in
-      let some : 1 ≤ length m = at-least c in
       absurd (tell (leads n r k a b) (entries-lead n r c k (omega arith)) (none-nearer a k (omega arith))))
-    where
-      at-least : {a : ℕ} {m : List ℕ} → Entries n r a b m → 1 ≤ length m
-      at-least (last s) = omega arith
-      at-least (next s i c) = omega arith
 
   -- ---- the shortest chain
 

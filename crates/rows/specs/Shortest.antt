@@ -14,21 +14,23 @@ unfoldable pub leads : ℕ → Rel → ℕ → Rel
 leads n r zero a b = r a b
 leads n r (suc k) a b = some n (λ m. r a m && leads n r k m b)
 
--- the lowest such k, n where there is none
+-- one less than the fewest steps from a to b: the lowest such k below n, or n
 unfoldable pub distance : ℕ → Rel → ℕ → ℕ → ℕ
 distance n r a b = lowest n (λ k. leads n r k a b)
 
--- the events after a, b last, of k + 1 steps from a to b: each next one the lowest from which the steps that are left lead to b
+-- the events after a, b last, of k + 1 steps from a to b: each next one the lowest to which a step leads and from which as many as are left lead to b
 unfoldable pub stepsFrom : ℕ → Rel → ℕ → ℕ → ℕ → List ℕ
 stepsFrom n r b zero a = b ∷ []
 stepsFrom n r b (suc k) a = lowest n (λ m. r a m && leads n r k m b) ∷ stepsFrom n r b k (lowest n (λ m. r a m && leads n r k m b))
 
+-- of as few steps as there are
 unfoldable pub shortestChain : ℕ → Rel → ℕ → ℕ → List ℕ
 shortestChain n r a b = stepsFrom n r b (distance n r a b) a
 
 -- ---- what it means
 
--- the events after a of a chain of steps from a to b: to the first of them a step leads from a, to each other from the one before, and b is the last
+-- the events after a of a chain of steps from a to b: to the first of them a step leads from a, to each other from the one before; b is the last, and the others are
+-- below n
 pub data Entries (n : ℕ) (r : Rel) : ℕ → ℕ → List ℕ → Type 0 where
   last : {a b : ℕ} → r a b ≡ true → Entries n r a b (b ∷ [])
   next : {a m b : ℕ} {l : List ℕ} → r a m ≡ true → m < n → Entries n r m b l → Entries n r a b (m ∷ l)
@@ -39,8 +41,8 @@ pub data NotLater : List ℕ → List ℕ → Type 0 where
   lower : {x y : ℕ} {l m : List ℕ} → x < y → NotLater (x ∷ l) (y ∷ m)
   then : {x : ℕ} {l m : List ℕ} → NotLater l m → NotLater (x ∷ l) (x ∷ m)
 
--- l has the entries of a chain from a to b; every such chain has at least as many; among those with as many it is the first in the order of their entries; it has
--- no event twice, and so at most n entries
+-- l has the entries of a chain from a to b; every such chain has at least as many; of those with as many it is the first, by the lowest entry where two differ; it has no
+-- event twice, and at most n entries
 pub record Shortest (n : ℕ) (r : Rel) (a b : ℕ) (l : List ℕ) : Type 0 where
   pub chain : Entries n r a b l
   pub fewest : (m : List ℕ) → Entries n r a b m → length l ≤ length m

@@ -27,11 +27,11 @@ start c = c .before .before .before .before .before .before
 abbrev cleared : tie.After-clear2 Inv-loop μ-loop → tie.After-clear Inv-loop μ-loop
 cleared c = c .before .before .before .before
 
-abbrev cleared-both : tie.After-union-at-arg Inv-loop μ-loop → tie.After-clear2 Inv-loop μ-loop
-cleared-both c = c .before .before .before .before .before .before .before .before
-
 abbrev first : tie.After-union-at-arg Inv-loop μ-loop → tie.After-put-row Inv-loop μ-loop
 first c = c .before .before .before
+
+abbrev cleared-both : tie.After-union-at-arg Inv-loop μ-loop → tie.After-clear2 Inv-loop μ-loop
+cleared-both c = first c .before .before .before .before .before
 
 abbrev joining : tie.At-loop Inv-loop μ-loop → tie.After-union-at-arg Inv-loop μ-loop
 joining c = c .before .before .before .before

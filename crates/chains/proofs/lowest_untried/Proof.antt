@@ -14,7 +14,7 @@ use Rattle.chains.proofs.lowest_untried.Statement.{statement}
 use Rattle.chains.proofs.lowest_untried.Tie as tie
 
 abbrev Inv-loop : tie.InvT-loop
-Inv-loop table n e near tried₀ w past tried = Trying table n w e near tried₀ tried
+Inv-loop table n e near tried₀ w past tried = Trying table w e near tried₀ tried
 
 abbrev μ-loop : tie.MeasureT-loop
 μ-loop table n e near tried₀ w past tried = 64 * w - countRow tried

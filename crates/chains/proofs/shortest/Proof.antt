@@ -1,5 +1,4 @@
--- `chains::shortest` meets its contract: of the chain that begins with the lowest next events, the first i entries are written, and e is where they lead.
--- Assumes nothing.
+-- `chains::shortest` meets its contract: the first i entries of the chain are written, and the walk stands at e, from which the others lead on. Assumes nothing.
 use mathlib.Core.Path.{_≡_, refl, sym, _∙_}
 use mathlib.Core.List.{List}
 use Prim.Native.Nat.{ℕ, _+_, _-_, _≤_, _<_}
