@@ -1,5 +1,5 @@
 -- The judge's six tables in their slice, as parts of it are lent and given back: swept, closed, and filled with ar. Assumes nothing.
-use mathlib.Core.Path.{_≡_, sym, ap, _∙_}
+use mathlib.Core.Path.{_≡_, refl, sym, ap, _∙_}
 use mathlib.Core.List.{List, _++_, append-assoc}
 use Prim.Native.Nat.{ℕ, _+_, _-_, _*_, _≤_, _<_}
 use native.Mathlib.Nat.{add-sub-cancel-left}
@@ -8,8 +8,7 @@ use lib.ListN.{length, take, drop, length-append}
 use lib.Seq.{length-take-le, drop-at, drop-drop}
 use Rattle.rows.specs.Row.{rowAt, RowPut}
 use Rattle.rows.specs.Relation.{Table, Graph, Filled, reaches, related}
-use Rattle.rows.proofs.TableLaws.{putRow, length-put, row-put-same, row-put-other}
-use Rattle.rows.proofs.SliceLaws.{sliceAt, slice-row, length-slice, giveBack}
+use Rattle.rows.proofs.SliceLaws.{sliceAt, slice-row, length-slice, giveBack, given-back}
 use Rattle.rows.proofs.ReachLaws.{table-graph}
 use Rattle.reach.proofs.FilledLaws.{table-closed}
 use Rattle.record.specs.Terms.{Terms}
@@ -24,15 +23,8 @@ use Rattle.judge.proofs.PreparedLaws.{fields-ars}
 -- ---- a row of w words that is given back
 
 module _ (w c : ℕ) (g m : List ℕ) (wide : length m ≡ w) (room : c * w + w ≤ length g) where
-  given : giveBack g w c m ≡ putRow g w c m
-  given = rw add-sub-cancel-left
-
   pub row-back : RowPut w c m g (giveBack g w c m)
-  row-back = record {
-    size = ap length given ∙ length-put g w c m wide room;
-    same = ap (λ (x : List ℕ). rowAt x w c) given ∙ row-put-same g w c m wide room;
-    other = λ d ne. ap (λ (x : List ℕ). rowAt x w d) given ∙ row-put-other g w c m wide room d ne;
-  }
+  row-back = given-back w c g room refl wide
 
   -- what stands after it stays
   pub rest-back : (k : ℕ) → c * w + w ≤ k → drop k (giveBack g w c m) ≡ drop k g

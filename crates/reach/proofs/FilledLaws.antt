@@ -4,12 +4,12 @@ use mathlib.Core.List.{List, _++_}
 use Prim.Native.Nat.{ℕ, _+_, _*_, _<_, _≤_}
 use native.Mathlib.Omega.{arith}
 use lib.ListN.{length, take, drop, replicate, length-append, length-drop, length-replicate, take-append-drop}
-use lib.Seq.{length-take-le, take-append-le, drop-append-le, drop-at}
+use lib.Seq.{length-take-le, drop-at}
 use Rattle.rows.specs.Row.{has, rowAt}
 use Rattle.rows.specs.Relation.{Rel, reaches, related, Table, Graph, Rows, Filled}
 use Rattle.reach.specs.Walks.{Closure}
 use Rattle.rows.proofs.RowLaws.{row-of}
-use Rattle.rows.proofs.TableLaws.{row-room}
+use Rattle.rows.proofs.TableLaws.{row-room, row-front}
 use Rattle.rows.proofs.ReachLaws.{reaches-step, between-reaches, table-row}
 use Rattle.rows.proofs.ReachLaws as laws
 
@@ -20,12 +20,6 @@ table-closed n w r g g′ t f b h = table-row n w r g t b (rowAt g′ w b) h (f 
 -- a scratch row of k words is cut to the width
 pub length-cut : (k w : ℕ) → w ≤ k → length (take {A = ℕ} w (replicate k 0)) ≡ w
 length-cut k w h = length-take-le w (replicate k 0) (omega (arith, length-replicate {A = ℕ} k 0))
-
--- a row that ends before l is a row of p
-front-row : (p l : List ℕ) (w b : ℕ) → b * w + w ≤ length p → rowAt (p ++ l) w b ≡ rowAt p w b
-front-row p l w b h =
-    ap (take w) (drop-append-le (b * w) p l (omega arith))
-    ∙ take-append-le w (drop (b * w) p) l (omega (arith, length-drop (b * w) p))
 
 module _ {g : List ℕ} {n w : ℕ} (m : Graph g n w) where
   pub part-long : length (take (n * w) g) ≡ n * w
@@ -38,7 +32,7 @@ module _ {g : List ℕ} {n w : ℕ} (m : Graph g n w) where
   part-related : (a b : ℕ) → b < n → related (take (n * w) g) w a b ≡ related g w a b
   part-related a b h =
       ap (λ (t : List ℕ). has t a)
-      (sym (front-row (take (n * w) g) (drop (n * w) g) w b (row-room n w b (length (take (n * w) g)) h (omega (arith, part-long))))
+      (sym (row-front (take (n * w) g) (drop (n * w) g) w b (row-room n w b (length (take (n * w) g)) h (omega (arith, part-long))))
       ∙ ap (λ (t : List ℕ). rowAt t w b) (take-append-drop (n * w) g))
 
   part-reaches : (a b : ℕ) → b < n → reaches n (related (take (n * w) g) w) a b ≡ reaches n (related g w) a b
@@ -57,7 +51,7 @@ module _ {g : List ℕ} {n w : ℕ} (m : Graph g n w) where
       record {
         size = omega (arith, length-append p (drop (n * w) g), length-drop (n * w) g, long, m .size);
         table = laws.table-closed n w (related g w) g graph-table (p ++ drop (n * w) g) (λ b x h.
-            ap (λ (t : List ℕ). has t x) (front-row p (drop (n * w) g) w b (row-room n w b (length p) h (omega arith)))
+            ap (λ (t : List ℕ). has t x) (row-front p (drop (n * w) g) w b (row-room n w b (length p) h (omega arith)))
             ∙ closed b x h
             ∙ part-reaches x b h);
         rest = drop-at p (drop (n * w) g) (n * w) long;

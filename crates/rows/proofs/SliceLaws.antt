@@ -26,7 +26,7 @@ abbrev pub giveBack : List ℕ → ℕ → ℕ → List ℕ → List ℕ
 giveBack g w b m = take (b * w) g ++ (m ++ drop (b * w + w - b * w) (drop (b * w) g))
 
 -- row c of g is lent, and m given back for it
-given-back : (w c : ℕ) (g : List ℕ) {m m' : List ℕ} → c * w + w ≤ length g → m ≡ m' → length m' ≡ w → RowPut w c m' g (giveBack g w c m)
+pub given-back : (w c : ℕ) (g : List ℕ) {m m' : List ℕ} → c * w + w ≤ length g → m ≡ m' → length m' ≡ w → RowPut w c m' g (giveBack g w c m)
 given-back w c g {m} {m'} room q long =
     let wide : length m ≡ w = ap length q ∙ long in
     let given : giveBack g w c m ≡ putRow g w c m = rw add-sub-cancel-left in

@@ -2,8 +2,8 @@
 use mathlib.Core.Path.{_≡_, refl, sym, ap, ap₂, _∙_}
 use mathlib.Core.Logic.{_≢_}
 use mathlib.Core.Bool.{Bool, true, false, _&&_, _||_, or-comm}
-use mathlib.Core.List.{List, _++_}
-use Prim.Native.Nat.{ℕ, _+_, _-_, _*_, _/_, _%_, _^_, _≤_, _<_}
+use mathlib.Core.List.{List, [], _∷_, _++_}
+use Prim.Native.Nat.{ℕ, zero, suc, _+_, _-_, _*_, _/_, _%_, _^_, _≤_, _<_}
 use native.Mathlib.Nat.{mul-le-mul-right, add-sub-cancel-left}
 use native.Mathlib.Omega.{arith}
 use native.Mathlib.Decide.{ℕ-discrete, decLt}
@@ -11,7 +11,7 @@ use borrow.Author.Tests.{eq-eqb, ne-eqb}
 use lib.Dec.{eqb}
 use lib.Bits.{bitOr}
 use lib.ListN.{length, getD, set, take, drop, replicate, length-take, length-drop, length-append, List·getD-append, List·getD-eq-default}
-use lib.Seq.{length-take-le, getD-take, getD-drop, getD-set-other, getD-append-add, take-set-lt, drop-set-add, take-at, drop-at, ext-getD}
+use lib.Seq.{length-take-le, take-append-le, drop-append-le, getD-take, getD-drop, getD-set-other, getD-append-add, take-set-lt, drop-set-add, take-at, drop-at, ext-getD}
 use Rattle.rows.specs.Row.{bitOf, has, insert, orRow, orPart, rowAt}
 use Rattle.rows.proofs.Tests.{tell, never}
 use Rattle.rows.proofs.FrontLaws.{front-all}
@@ -63,6 +63,32 @@ module _ (g : List ℕ) (w b : ℕ) where
   row-copied l d wide room e =
       let f : d ≡ rowAt g w b ++ drop (length (rowAt g w b)) l = rw add-sub-cancel-left at e in
       front-all (rowAt g w b) l (length (rowAt g w b)) f (omega (arith, length-row room))
+
+-- of two tables one after the other, a row of the first
+pub row-front : (p q : List ℕ) (w b : ℕ) → b * w + w ≤ length p → rowAt (p ++ q) w b ≡ rowAt p w b
+row-front p q w b h =
+    ap (take w) (drop-append-le (b * w) p q (omega arith))
+    ∙ take-append-le w (drop (b * w) p) q (omega (arith, length-drop (b * w) p))
+
+-- of two tables that are joined word by word, a row is the two rows joined
+or-none : (l : List ℕ) → orRow l [] ≡ l
+or-none [] = refl
+or-none (x ∷ l) = refl
+
+take-or : (k : ℕ) (l m : List ℕ) → take k (orRow l m) ≡ orRow (take k l) (take k m)
+take-or zero l m = refl
+take-or (suc k) [] m = refl
+take-or (suc k) (x ∷ l) [] = refl
+take-or (suc k) (x ∷ l) (y ∷ m) = ap (λ (t : List ℕ). bitOr x y ∷ t) (take-or k l m)
+
+drop-or : (k : ℕ) (l m : List ℕ) → drop k (orRow l m) ≡ orRow (drop k l) (drop k m)
+drop-or zero l m = refl
+drop-or (suc k) [] m = refl
+drop-or (suc k) (x ∷ l) [] = sym (or-none (drop k l))
+drop-or (suc k) (x ∷ l) (y ∷ m) = drop-or k l m
+
+pub row-joined : (g h : List ℕ) (w b : ℕ) → rowAt (orRow g h) w b ≡ orRow (rowAt g w b) (rowAt h w b)
+row-joined g h w b = ap (take w) (drop-or (b * w) g h) ∙ take-or w (drop (b * w) g) (drop (b * w) h)
 
 -- two tables with the same words in row b
 pub same-row : (g h : List ℕ) (w b : ℕ) → length g ≡ length h → ((i : ℕ) → i < w → getD g (b * w + i) 0 ≡ getD h (b * w + i) 0) → rowAt g w b ≡ rowAt h w b

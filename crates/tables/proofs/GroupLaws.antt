@@ -12,10 +12,10 @@ use lib.ListN.{length, take, drop, replicate, length-take, length-drop, length-a
 use lib.Seq.{length-take-le, take-at, drop-at, drop-drop}
 use Rattle.rows.specs.Row.{has, insert, rowAt, Row, RowPut}
 use Rattle.rows.proofs.RowLaws.{length-insert, has-cleared, row-of, row-none, row-has, row-in, row-set, row-skip}
-use Rattle.rows.proofs.TableLaws.{row-room, length-row, has-row, row-within, has-row-cleared, row-insert-same, row-insert-other}
+use Rattle.rows.proofs.TableLaws.{row-room, length-row, has-row, row-within, has-row-cleared, row-insert-same, row-insert-other, row-front}
 use Rattle.record.specs.Words.{objectIn, isWriteIn}
 use Rattle.events.specs.Given.{Groups}
-use Rattle.tables.proofs.LentLaws.{row-first, row-front, row-back}
+use Rattle.tables.proofs.LentLaws.{row-first, row-back}
 
 -- ---- a table whose row k has the events with key k, filled event by event
 
