@@ -1,7 +1,7 @@
 -- Events by how near they are to one. Only contracts of inner functions cite this.
 use mathlib.Core.Bool.{Bool}
-use Prim.Native.Nat.{ℕ, _≤_}
 use mathlib.Core.List.{List}
+use Prim.Native.Nat.{ℕ, _≤_}
 use Rattle.rows.specs.Lowest.{some}
 use Rattle.rows.specs.Row.{rowAt, Row}
 use Rattle.rows.specs.Relation.{Rel, related}

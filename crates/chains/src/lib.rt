@@ -4,13 +4,13 @@ use rows::table_rows;
 ghost use mathlib.Core.Path.{_≡_};
 ghost use mathlib.Core.Bool.{true, _&&_, _||_};
 ghost use mathlib.Core.List.{_++_};
-ghost use Prim.Native.Nat.{ℕ, suc, _+_, _*_, _<_, _≤_};
+ghost use Prim.Native.Nat.{ℕ, _+_, _*_, _<_, _≤_};
 ghost use lib.ListN.{length, drop};
 ghost use Rattle.rows.specs.Lowest.{lowest, some};
-ghost use Rattle.rows.specs.Row.{has, onlyFirst, Row, rowAt};
+ghost use Rattle.rows.specs.Row.{has, onlyFirst, rowAt};
 ghost use Rattle.rows.specs.Relation.{reaches, related, Graph};
-ghost use Rattle.rows.specs.Shortest.{leads, distance, shortestChain};
-ghost use Rattle.chains.specs.Near.{within, Near};
+ghost use Rattle.rows.specs.Shortest.{distance, shortestChain};
+ghost use Rattle.chains.specs.Near.{Near};
 
 // Those members of `near` that `done` lacks join it, and their rows join `next`.
 fn join_rows(table: &[u64], n: usize, near: &[u64], done: &mut [u64], next: &mut [u64])
@@ -125,6 +125,7 @@ pub fn shortest(table: &[u64], n: usize, w: usize, a: usize, b: usize, out: &mut
     ensures { λ r. ⌜ r ≡ length (shortestChain n (related (now (table .entry)) w) a b) ⌝ }
     ensures { λ r. ⌜ now (out .exit) ≡ shortestChain n (related (now (table .entry)) w) a b ++ drop r (now (out .entry)) ⌝ }
 {
+    // room for 257 rows of four words, as 256 events need
     let mut near = [0u64; 1028];
     let mut done = [0u64; 8];
     let mut next = [0u64; 8];

@@ -5,15 +5,14 @@ use mathlib.Core.List.{List, [], _∷_}
 use Prim.Native.Nat.{ℕ, _<_, _≤_}
 use native.Mathlib.Omega.{arith}
 use lib.ListN.{length}
-use Rattle.rows.specs.Lowest.{lowest, some}
-use Rattle.rows.specs.Relation.{Rel, reaches}
+use Rattle.rows.specs.Lowest.{lowest}
 use Rattle.rows.specs.Shortest.{shortestChain}
 use Rattle.rows.proofs.Tests.{tell, and-both, and-left, and-right}
 use Rattle.rows.proofs.LowestLaws.{lowest-low, some-at, same-lowest}
 use Rattle.rows.proofs.ShortestLaws.{shortest, shortest-only, chain-same}
 use Rattle.record.specs.History.{History, vis, SameEvents}
 use Rattle.consistency.specs.Relations.{so, ar, step, hb, read, write, from, to, through}
-use Rattle.consistency.specs.Predicates.{rule, breaks, outside, verdict}
+use Rattle.consistency.specs.Predicates.{rule, breaks, verdict}
 use Rattle.consistency.specs.Explained.{telling, middleOf, toldBy, explained, Middle, LowestMiddle, lowest-middle, Tells, Explains}
 use Rattle.consistency.specs.declared.Verdict.the-variants.{Broken}
 use Rattle.consistency.specs.declared.Predicate.{Predicate}

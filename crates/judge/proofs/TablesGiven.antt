@@ -6,7 +6,7 @@ use native.Mathlib.Nat.{add-sub-cancel-left}
 use native.Mathlib.Omega.{arith}
 use lib.ListN.{length, take, drop, length-append}
 use lib.Seq.{length-take-le, drop-at, drop-drop}
-use Rattle.rows.specs.Row.{rowAt, RowPut}
+use Rattle.rows.specs.Row.{RowPut}
 use Rattle.rows.specs.Relation.{Table, Graph, Filled, reaches, related}
 use Rattle.rows.proofs.SliceLaws.{sliceAt, slice-row, length-slice, giveBack, given-back}
 use Rattle.rows.proofs.ReachLaws.{table-graph}

@@ -1,0 +1,96 @@
+-- The explaining call by its tests, one question after the other. Assumes nothing.
+use mathlib.Core.Path.{_≡_, refl, ap, _∙_}
+use mathlib.Core.Logic.{_≢_}
+use mathlib.Core.List.{List}
+use Prim.Native.Nat.{ℕ, _<_, _≤_}
+use native.Mathlib.Omega.{arith}
+use borrow.Author.Tests.{eq-eqb, ne-eqb, le-leb, lt-leb}
+use Rattle.record.specs.Layout.{editionOf}
+use Rattle.record.specs.History.{History, historyOf, Agree}
+use Rattle.record.specs.Questions.{numberOf, questions}
+use Rattle.record.specs.declared.Reading.{Reading}
+use Rattle.record.specs.declared.Reading.the-variants.{ShortWork}
+use Rattle.consistency.specs.Predicates.{numbered, verdict}
+use Rattle.consistency.specs.declared.Predicate.{Predicate}
+use Rattle.consistency.specs.declared.Verdict.{Verdict}
+use Rattle.consistency.specs.declared.Verdict.the-variants.{Met, Broken}
+use Rattle.consistency.proofs.SameVerdict.{verdict-same}
+use Rattle.consistency.proofs.ExplainedLaws.{explained-same}
+use Rattle.explain.specs.Explanations.{eventsTold, answerTo, explainedRecord, explanation, over, entriesAfter, workLeft}
+use Rattle.explain.specs.declared.Explanation.{Explanation}
+use Rattle.explain.specs.declared.Explanation.the-variants.{Told, NoSuchNumber, FewEntries, Refused}
+
+-- ---- questions 1, 2 and 41
+
+module _ (words entries number : ℕ) (s : List ℕ) where
+  pub asked-short : words < 1024 → Refused ShortWork ≡ explanation (editionOf s) words entries number s
+  unfolding explanation
+  asked-short h = rw (lt-leb 1024 words h)
+
+  pub asked-low : 1024 ≤ words → number < 1 → NoSuchNumber ≡ explanation (editionOf s) words entries number s
+  unfolding explanation
+  asked-low h k = rw (le-leb 1024 words h, lt-leb 1 number k)
+
+  pub asked-high : 1024 ≤ words → 13 < number → NoSuchNumber ≡ explanation (editionOf s) words entries number s
+  unfolding explanation
+  asked-high h k = let l : 1 ≤ number = omega arith in rw (le-leb 1024 words h, le-leb 1 number l, lt-leb number 13 k)
+
+  module _ (h : 1024 ≤ words) (l : 1 ≤ number) (k : number ≤ 13) where
+    pub asked-few : entries < 256 → FewEntries ≡ explanation (editionOf s) words entries number s
+    unfolding explanation
+    asked-few m = rw (le-leb 1024 words h, le-leb 1 number l, le-leb number 13 k, lt-leb 256 entries m)
+
+    pub asked-record : 256 ≤ entries → explainedRecord (editionOf s) number s ≡ explanation (editionOf s) words entries number s
+    unfolding explanation
+    asked-record m = rw (le-leb 1024 words h, le-leb 1 number l, le-leb number 13 k, le-leb 256 entries m)
+
+-- ---- questions 3 to 10
+
+module _ (number : ℕ) (s : List ℕ) (r : Reading) (asked : r ≡ questions (editionOf s) s) where
+  pub record-refused : numberOf r ≢ 0 → Refused r ≡ explainedRecord (editionOf s) number s
+  unfolding explainedRecord
+  record-refused f = rw (← asked, ne-eqb (numberOf r) 0 f)
+
+  pub record-passed : numberOf r ≡ 0 → answerTo (numbered number) (historyOf (editionOf s) s) (verdict (numbered number) (historyOf (editionOf s) s)) ≡ explainedRecord (editionOf s) number s
+  unfolding explainedRecord
+  record-passed z = rw (← asked, eq-eqb (numberOf r) 0 z)
+
+-- ---- 42, and what is told
+
+-- the slices, for the answer to a verdict
+module _ (p : ℕ) (s : List ℕ) where
+  abbrev judged : Verdict
+  judged = verdict (numbered p) (historyOf (editionOf s) s)
+
+  pub entries-told : (r : Explanation) → r ≡ answerTo (numbered p) (historyOf (editionOf s) s) judged → (out : List ℕ)
+      → over (eventsTold (numbered p) (historyOf (editionOf s) s) judged) out ≡ entriesAfter (editionOf s) p s r out
+  unfolding entriesAfter
+  entries-told r e out = rw e (go judged refl)
+    where
+      go : (v : Verdict) → judged ≡ v → over (eventsTold (numbered p) (historyOf (editionOf s) s) v) out ≡ entriesAfter (editionOf s) p s (answerTo (numbered p) (historyOf (editionOf s) s) v) out
+      go Met f = refl
+      go (Broken a b) f = rw f refl
+
+  pub work-told : (r : Explanation) → r ≡ answerTo (numbered p) (historyOf (editionOf s) s) judged → (work : List ℕ) → workLeft (editionOf s) s (Told 0) work ≡ workLeft (editionOf s) s r work
+  unfolding workLeft
+  work-told r e work = rw e (go judged)
+    where
+      go : (v : Verdict) → workLeft (editionOf s) s (Told 0) work ≡ workLeft (editionOf s) s (answerTo (numbered p) (historyOf (editionOf s) s) v) work
+      go Met = refl
+      go (Broken a b) = refl
+
+-- histories that agree
+module _ (p : Predicate) (h k : History) (same : Agree h k) where
+  pub told-alike : eventsTold p h (verdict p h) ≡ eventsTold p k (verdict p k)
+  told-alike = go (verdict p h) refl ∙ ap (eventsTold p k) (verdict-same h k same p)
+    where
+      go : (v : Verdict) → verdict p h ≡ v → eventsTold p h v ≡ eventsTold p k v
+      go Met e = refl
+      go (Broken a b) e = explained-same p h a b e k (same .events)
+
+  pub answer-alike : answerTo p h (verdict p h) ≡ answerTo p k (verdict p k)
+  answer-alike = go (verdict p h) refl ∙ ap (answerTo p k) (verdict-same h k same p)
+    where
+      go : (v : Verdict) → verdict p h ≡ v → answerTo p h v ≡ answerTo p k v
+      go Met e = refl
+      go (Broken a b) e = rw (explained-same p h a b e k (same .events))

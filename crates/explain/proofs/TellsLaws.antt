@@ -1,0 +1,97 @@
+-- What an explanation tells beside the judgment of the same predicate, for every record, number and length of slices; and the same of the hosts' numbers. Assumes nothing.
+use mathlib.Core.Path.{_≡_, refl}
+use mathlib.Core.Bool.{Bool, true, false}
+use mathlib.Core.List.{List, [], _∷_}
+use Prim.Native.Nat.{ℕ, _^_, _<_, _≤_}
+use native.Mathlib.Omega.{arith}
+use borrow.Author.Tests.{eqb-true, leb-true, leb-false}
+use lib.Dec.{eqb, leb}
+use lib.ListN.{length}
+use Rattle.record.specs.Layout.{Layout, editionOf, workWords}
+use Rattle.record.specs.History.{History, historyOf}
+use Rattle.record.specs.Questions.{numberOf, placeOf, ask, questions}
+use Rattle.record.specs.declared.Reading.the-variants.{Passed, ShortWork}
+use Rattle.record.proofs.QuestionsAnswered.{number-passed, number-most, passed-count}
+use Rattle.consistency.specs.Predicates.{numbered, verdict}
+use Rattle.consistency.specs.Models.{orElse, firstBroken}
+use Rattle.consistency.specs.Explained.{explained}
+use Rattle.consistency.specs.declared.Verdict.{Verdict}
+use Rattle.consistency.specs.declared.Verdict.the-variants.{Met, Broken}
+use Rattle.consistency.specs.declared.Outcome.the-variants.{AllMet}
+use Rattle.consistency.proofs.ExplainedLaws.{explains, explained-fits}
+use Rattle.judge.specs.Judgments.{isNumber, pick, judgedList, judged, predicateJudgment, packedJudgment}
+use Rattle.judge.specs.Means.{Admitted}
+use Rattle.judge.specs.declared.Judgment.{Judgment}
+use Rattle.judge.specs.declared.Judgment.the-variants as judgment
+use Rattle.judge.proofs.ReadsBack.{Fitting}
+use Rattle.explain.specs.Explanations.{answerTo, explainedRecord, explanation, entriesAfter, packedExplanation}
+use Rattle.explain.specs.Means.{TellsWhy, TellsHostsWhy}
+use Rattle.explain.specs.Means as means
+use Rattle.explain.specs.declared.Explanation.{Explanation}
+use Rattle.explain.specs.declared.Explanation.the-variants.{NoSuchNumber, FewEntries, Refused}
+
+module _ (words p : ℕ) (s out : List ℕ) where
+  abbrev L : Layout
+  L = editionOf s
+
+  abbrev h : History
+  h = historyOf L s
+
+  -- a judgment, the answer beside it, and the slice after that answer
+  abbrev T : Judgment → Explanation → Type 0
+  T j r = TellsWhy words p s out j r (entriesAfter L p s r out)
+
+  verdict-tells : questions L s ≡ Passed → 256 ≤ length out → (v : Verdict) → verdict (numbered p) h ≡ v → T (judgment.Judged (orElse p v AllMet)) (answerTo (numbered p) h v)
+  unfolding entriesAfter historyOf
+  verdict-tells q room Met e = means.met room
+  verdict-tells q room (Broken a b) e =
+      rw e (means.broken a b (explained (numbered p) h a b) room (explains (numbered p) h a b e) (explained-fits (numbered p) h a b e 256 (passed-count s q) (omega arith)))
+
+  record-tells : 256 ≤ length out → T (judgedList L s (p ∷ [])) (explainedRecord L p s)
+  unfolding entriesAfter judgedList explainedRecord firstBroken
+  record-tells room = go (eqb (numberOf (questions L s)) 0) refl
+    where
+      go : (t : Bool) → eqb (numberOf (questions L s)) 0 ≡ t
+          → T (pick t (judgment.Judged (orElse p (verdict (numbered p) h) AllMet)) (judgment.Refused (questions L s))) (ask t (Refused (questions L s)) (answerTo (numbered p) h (verdict (numbered p) h)))
+      go true e = verdict-tells (number-passed (questions L s) (eqb-true (numberOf (questions L s)) 0 e)) room (verdict (numbered p) h) refl
+      go false e = means.refused room
+
+  all-tells : T (predicateJudgment L words p s) (explanation L words (length out) p s)
+  unfolding entriesAfter predicateJudgment judged explanation
+  all-tells = work (leb (workWords L) words) refl
+    where
+      entries : Admitted L words p → (t : Bool) → leb 256 (length out) ≡ t → T (judgedList L s (p ∷ [])) (ask t FewEntries (explainedRecord L p s))
+      entries a true e = record-tells (leb-true 256 (length out) e)
+      entries a false e = means.few a (leb-false 256 (length out) e)
+
+      numbers : workWords L ≤ words → (t : Bool) → isNumber p ≡ t → T (pick t (judgedList L s (p ∷ [])) judgment.NoSuchNumber) (ask t NoSuchNumber (ask (leb 256 (length out)) FewEntries (explainedRecord L p s)))
+      numbers w true e = entries (record { work = w; inRange = e }) (leb 256 (length out)) refl
+      numbers w false e = means.no-such-number
+
+      work : (t : Bool) → leb (workWords L) words ≡ t
+          → T (pick t (pick (isNumber p) (judgedList L s (p ∷ [])) judgment.NoSuchNumber) (judgment.Refused ShortWork)) (ask t (Refused ShortWork) (ask (isNumber p) NoSuchNumber (ask (leb 256 (length out)) FewEntries (explainedRecord L p s))))
+      work true e = numbers (leb-true (workWords L) words e) (isNumber p) refl
+      work false e = means.short-work
+
+  -- of an answer that code gives, and the slice that it leaves
+  pub tells-why : (r : Explanation) (out' : List ℕ) → r ≡ explanation L words (length out) p s → out' ≡ entriesAfter L p s r out → TellsWhy words p s out (predicateJudgment L words p s) r out'
+  tells-why r out' e f = rw (f, e) all-tells
+
+-- ---- the hosts' numbers
+
+pub tells-hosts : (p : ℕ) (s out : List ℕ) {j : Judgment} {r : Explanation} {out' : List ℕ} → TellsWhy 1024 p s out j r out' → TellsHostsWhy p s out (packedJudgment j) (packedExplanation r) out'
+tells-hosts p s out means.short-work = means.refused 1 0
+tells-hosts p s out means.no-such-number = means.refused 2 0
+tells-hosts p s out (means.few a m) = means.few (a .inRange) m
+tells-hosts p s out (means.refused {r} m) = means.refused (numberOf r) (placeOf r)
+tells-hosts p s out (means.met m) = means.met m
+tells-hosts p s out (means.broken a b l m e f) = means.broken a b l m e f
+
+-- they fit where the judgment's do
+pub why-small : {words p : ℕ} {s out : List ℕ} {j : Judgment} {r : Explanation} {out' : List ℕ} → TellsWhy words p s out j r out' → Fitting j → packedExplanation r < 2 ^ 32
+why-small means.short-work f = omega arith
+why-small means.no-such-number f = omega arith
+why-small (means.few a m) f = omega arith
+why-small (means.refused {r} m) f = omega (arith, f, number-most r)
+why-small (means.met m) f = omega arith
+why-small (means.broken a b l m e fits) f = omega arith

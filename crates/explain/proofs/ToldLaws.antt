@@ -1,0 +1,100 @@
+-- What is told from the judge's tables is what is told of the history that they hold. Assumes nothing.
+use mathlib.Core.Path.{_≡_, refl, ap, ap₂, _∙_}
+use mathlib.Core.Bool.{Bool, true, not, _&&_, _||_, and-comm}
+use mathlib.Core.List.{List, [], _∷_, _++_}
+use Prim.Native.Nat.{ℕ, _*_, _<_, _≤_}
+use native.Mathlib.Omega.{arith}
+use lib.ListN.{length, set, drop, length-take, length-drop}
+use Rattle.rows.specs.Lowest.{lowest}
+use Rattle.rows.specs.Row.{onlyFirst, rowAt}
+use Rattle.rows.specs.Relation.{related, reaches, Table, Graph}
+use Rattle.rows.specs.Shortest.{shortestChain}
+use Rattle.rows.proofs.RowLaws.{row-has}
+use Rattle.rows.proofs.LowestLaws.{same-lowest}
+use Rattle.rows.proofs.ReachLaws.{reaches-same, table-related, table-graph}
+use Rattle.rows.proofs.ShortestLaws.{chain-same}
+use Rattle.record.specs.Terms.{Terms}
+use Rattle.record.specs.History.{History, under, vis}
+use Rattle.record.specs.Words.{isWriteIn, historyFrom}
+use Rattle.consistency.specs.Relations.{so, step, hb, read}
+use Rattle.consistency.specs.Predicates.{verdict}
+use Rattle.consistency.specs.Explained.{telling, middleOf, toldBy}
+use Rattle.consistency.specs.declared.Predicate.{Predicate}
+use Rattle.consistency.specs.declared.Telling.{Telling}
+use Rattle.consistency.specs.declared.Telling.the-variants.{ByChain, ByMiddle, ByPair}
+use Rattle.consistency.specs.declared.Verdict.the-variants.{Met, Broken}
+use Rattle.consistency.proofs.ExplainedLaws.{Has, broke}
+use Rattle.events.specs.Given.{Given, Groups}
+use Rattle.events.proofs.GivenLaws.{seen-table}
+use Rattle.tables.specs.Tables.{part, Prepared}
+use Rattle.explain.specs.Explanations.{eventsTold, answerTo, over}
+use Rattle.explain.specs.Steps.{either}
+use Rattle.explain.specs.declared.Explanation.the-variants.{Told, NoBreak}
+
+-- ---- one event written, and two
+
+pub set-one : (l : List ℕ) (x : ℕ) → 1 ≤ length l → set l 0 x ≡ x ∷ drop 1 l
+set-one [] x h = absurd (omega arith)
+set-one (y ∷ l) x h = refl
+
+pub set-two : (l : List ℕ) (x y : ℕ) → 2 ≤ length l → set (set l 0 x) 1 y ≡ x ∷ y ∷ drop 2 l
+set-two [] x y h = absurd (omega arith)
+set-two (u ∷ []) x y h = absurd (omega arith)
+set-two (u ∷ v ∷ l) x y h = refl
+
+-- ---- the answer and the slice, of a predicate that is told in the way t
+
+module _ (p : Predicate) (h : History) (a b : ℕ) (broken : verdict p h ≡ Broken a b) (t : Telling) (way : t ≡ telling p) where
+  pub told-as : (l : List ℕ) → l ≡ toldBy t h a b → (k : ℕ) → k ≡ length l → (out out' : List ℕ) → out' ≡ l ++ drop k out
+      → (Told k ≡ answerTo p h (verdict p h)) × (out' ≡ over (eventsTold p h (verdict p h)) out)
+  told-as l e k long out out' f =
+      let q : l ≡ toldBy (telling p) h a b = e ∙ ap (λ (x : Telling). toldBy x h a b) way in
+      (rw (broken, long, q) refl, f ∙ rw (broken, long, q) refl)
+
+  pub has-as : Has t h a b
+  has-as = rw way (broke p h a b broken .has)
+
+pub told-pair : (h : History) (a b : ℕ) → b ∷ [] ≡ toldBy ByPair h a b
+unfolding toldBy
+told-pair h a b = refl
+
+pub none-told : (p : Predicate) (h : History) → verdict p h ≡ Met → (out : List ℕ) → (NoBreak ≡ answerTo p h (verdict p h)) × (out ≡ over (eventsTold p h (verdict p h)) out)
+none-told p h e out = rw e (refl, refl)
+
+-- ---- the tables
+
+module _ (n : ℕ) (l v g t : List ℕ) (q : Terms) (given : Given n 4 l v) (ready : Prepared n 4 (under q (historyFrom n 4 l v)) t) where
+  abbrev h : History
+  h = under q (historyFrom n 4 l v)
+
+  abbrev sos : List ℕ
+  sos = part n 4 1 t
+
+  pub so-graph : Graph sos n 4
+  so-graph = table-graph n 4 (so h) sos (ready .timed .sos) (omega (arith, ready .size, length-take (n * 4) (drop (1 * (n * 4)) t), length-drop (1 * (n * 4)) t)) (given .rows .wide) (given .rows .fits)
+
+  pub seen : Table n 4 (vis h) v
+  unfolding vis historyFrom
+  seen = seen-table n 4 l v given
+
+  steps-alike : (x y : ℕ) → x < n → y < n → either (related sos 4) (related v 4) x y ≡ step h x y
+  unfolding step
+  steps-alike x y i j = ap₂ _||_ (table-related n 4 (so h) sos (ready .timed .sos) x y i j) (table-related n 4 (vis h) v seen x y i j)
+
+  module _ (a b : ℕ) (left : a < n) (right : b < n) where
+    pub chain-reached : Has ByChain h a b → reaches n (either (related sos 4) (related v 4)) a b ≡ true
+    unfolding Has hb historyFrom
+    chain-reached e = reaches-same n (either (related sos 4) (related v 4)) (step h) steps-alike a b left right ∙ e
+
+    pub chain-told : Has ByChain h a b → shortestChain n (either (related sos 4) (related v 4)) a b ≡ toldBy ByChain h a b
+    unfolding toldBy historyFrom
+    chain-told e = chain-same n (either (related sos 4) (related v 4)) (step h) steps-alike b right a left (chain-reached e)
+
+    pub middle-told : Groups n 4 l g → lowest n (λ m. onlyFirst (rowAt sos 4 b) (rowAt g 4 256) m && related v 4 a m) ∷ b ∷ [] ≡ toldBy ByMiddle h a b
+    unfolding toldBy middleOf historyFrom
+    middle-told w =
+        ap (λ (m : ℕ). m ∷ b ∷ [])
+        (same-lowest n (λ m. onlyFirst (rowAt sos 4 b) (rowAt g 4 256) m && related v 4 a m) (λ m. vis h a m && (read h m && so h m b))
+        (λ m i.
+        ap₂ _&&_ (ap₂ (λ (x y : Bool). x && not y) (table-related n 4 (so h) sos (ready .timed .sos) m b i right) (row-has n (isWriteIn l) (rowAt g 4 256) (w .writes) m i)) (table-related n 4 (vis h) v seen a m left i)
+        ∙ and-comm (so h m b && read h m) (vis h a m) ∙ ap (λ (x : Bool). vis h a m && x) (and-comm (so h m b) (read h m))))

@@ -1,0 +1,73 @@
+-- The explaining call: questions 1, 2 and 41, then the record's, then 42; what it writes and leaves; and the host's number for its answer.
+use mathlib.Core.List.{List, [], _++_}
+use Prim.Native.Nat.{ℕ}
+use lib.Dec.{eqb, leb}
+use lib.ListN.{length, drop}
+use Rattle.record.specs.Layout.{Layout, workWords}
+use Rattle.record.specs.History.{History, historyOf}
+use Rattle.record.specs.Questions.{numberOf, placeOf, ask, questions}
+use Rattle.record.specs.Words.{workAfter}
+use Rattle.record.specs.declared.Reading.the-variants.{ShortWork}
+use Rattle.consistency.specs.Predicates.{numbered, verdict}
+use Rattle.consistency.specs.Explained.{explained}
+use Rattle.consistency.specs.declared.Predicate.{Predicate}
+use Rattle.consistency.specs.declared.Verdict.{Verdict}
+use Rattle.consistency.specs.declared.Verdict.the-variants.{Met, Broken}
+use Rattle.judge.specs.Judgments.{isNumber, packedRefusal}
+use Rattle.explain.specs.declared.Explanation.{Explanation}
+use Rattle.explain.specs.declared.Explanation.the-variants.{Told, NoSuchNumber, FewEntries, NoBreak, Refused}
+
+-- 41: the slice has an entry for every event that a record may have
+abbrev pub entriesAsked : Layout → ℕ
+entriesAsked L = L .events
+
+-- the events that are told of a verdict: none where the predicate is met
+abbrev pub eventsTold : Predicate → History → Verdict → List ℕ
+eventsTold p h Met = []
+eventsTold p h (Broken a b) = explained p h a b
+
+-- 42: the predicate is met; else the answer is how many events are told
+abbrev pub answerTo : Predicate → History → Verdict → Explanation
+answerTo p h Met = NoBreak
+answerTo p h (Broken a b) = Told (length (explained p h a b))
+
+-- questions 3 to 10, and then 42
+unfoldable pub explainedRecord : Layout → ℕ → List ℕ → Explanation
+explainedRecord L p s =
+    ask (eqb (numberOf (questions L s)) 0) (Refused (questions L s))
+    (answerTo (numbered p) (historyOf L s) (verdict (numbered p) (historyOf L s)))
+
+-- questions 1, 2 and 41 before them, with a work slice of so many words, and a slice of so many entries
+unfoldable pub explanation : Layout → ℕ → ℕ → ℕ → List ℕ → Explanation
+explanation L words entries p s =
+    ask (leb (workWords L) words) (Refused ShortWork)
+    (ask (isNumber p) NoSuchNumber
+    (ask (leb (entriesAsked L) entries) FewEntries (explainedRecord L p s)))
+
+-- a list written over the front of a slice; the entries beyond it stay
+abbrev pub over : List ℕ → List ℕ → List ℕ
+over l out = l ++ drop (length l) out
+
+-- the slice of entries after an answer: a refusal writes none
+unfoldable pub entriesAfter : Layout → ℕ → List ℕ → Explanation → List ℕ → List ℕ
+entriesAfter L p s (Told k) out = over (eventsTold (numbered p) (historyOf L s) (verdict (numbered p) (historyOf L s))) out
+entriesAfter L p s NoSuchNumber out = out
+entriesAfter L p s FewEntries out = out
+entriesAfter L p s NoBreak out = out
+entriesAfter L p s (Refused r) out = out
+
+-- the work slice after it: unchanged where 1, 2 or 41 refused, zero where 3 to 10 did, else the visible sets
+unfoldable pub workLeft : Layout → List ℕ → Explanation → List ℕ → List ℕ
+workLeft L s (Told k) work = workAfter L 0 s work
+workLeft L s NoSuchNumber work = work
+workLeft L s FewEntries work = work
+workLeft L s NoBreak work = workAfter L 0 s work
+workLeft L s (Refused r) work = workAfter L (numberOf r) s work
+
+-- the host's number: the entries that were written, or 2,097,152 + 1,024 × number + place refused
+abbrev pub packedExplanation : Explanation → ℕ
+packedExplanation (Told k) = k
+packedExplanation NoSuchNumber = packedRefusal 2 0
+packedExplanation FewEntries = packedRefusal 41 0
+packedExplanation NoBreak = packedRefusal 42 0
+packedExplanation (Refused r) = packedRefusal (numberOf r) (placeOf r)
