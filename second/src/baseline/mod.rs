@@ -3,6 +3,7 @@
 //! agreement means something.
 
 pub mod columns;
+pub mod explaining;
 pub mod judging;
 pub mod openings;
 pub mod reading;

@@ -77,6 +77,19 @@ pub fn each(row: &Row, mut take: impl FnMut(usize)) {
     }
 }
 
+/// The lowest event of a row that fits.
+#[inline]
+pub fn first(row: &Row, fits: impl Fn(usize) -> bool) -> Option<usize> {
+    let mut rest = *row;
+    while let Some(event) = lowest(&rest) {
+        if fits(event) {
+            return Some(event);
+        }
+        remove(&mut rest, event);
+    }
+    None
+}
+
 /// The events 0 to n - 1.
 pub fn below(n: usize) -> Row {
     std::array::from_fn(|word| match n.saturating_sub(64 * word) {
