@@ -26,12 +26,12 @@ needs() {
     case $1 in
     inspect | verdict | rehearse | lattice) echo "$bin/$1" ;;
     reader) echo "$folder/libgcr_reader.a" ;;
-    models | rehearsal) echo "$folder/libgcr.a" ;;
+    models | explain | rehearsal) echo "$folder/libgcr.a" ;;
     esac
 }
 
 feature() {
-    case $1 in reader | models | rehearsal) echo linked ;; esac
+    case $1 in reader | models | explain | rehearsal) echo linked ;; esac
 }
 
 # Seeds of each comparer in a CI run, in which a spawned program costs a millisecond or two. Records are of two editions
@@ -57,7 +57,7 @@ compare() {
 }
 
 named=$#
-[ $# -gt 0 ] || set -- inspect reader verdict models rehearse rehearsal lattice
+[ $# -gt 0 ] || set -- inspect reader verdict models explain rehearse rehearsal lattice
 for comparer in "$@"; do
     if [ -e "$(needs "$comparer")" ]; then
         compare "$comparer" || status=1

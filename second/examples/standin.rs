@@ -1,7 +1,7 @@
 //! The baseline behind the C calls: a static library to try the linked comparers
 //! with where the proved side is not built.
 
-use second::baseline::{judging, reading, rehearsal};
+use second::baseline::{explaining, judging, reading, rehearsal};
 use std::slice::{from_raw_parts, from_raw_parts_mut};
 
 /// # Safety
@@ -30,6 +30,19 @@ pub unsafe extern "C" fn gcr_judge_predicate(predicate: u32, record: *const u8, 
 #[no_mangle]
 pub unsafe extern "C" fn gcr_judge_all(record: *const u8, len: usize, out: *mut u64, words: usize) -> u64 {
     unsafe { judging::judge_all(from_raw_parts(record, len), from_raw_parts_mut(out, words)) }
+}
+
+/// # Safety
+/// Pointers and lengths as of two slices.
+#[no_mangle]
+pub unsafe extern "C" fn gcr_explain(
+    predicate: u32,
+    record: *const u8,
+    len: usize,
+    events: *mut u16,
+    entries: usize,
+) -> u64 {
+    unsafe { explaining::explain(predicate, from_raw_parts(record, len), from_raw_parts_mut(events, entries)) }
 }
 
 /// # Safety

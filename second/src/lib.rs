@@ -3,6 +3,7 @@
 
 pub mod baseline;
 pub mod compare;
+pub mod explain;
 pub mod generate;
 pub mod lattice;
 pub mod lines;

@@ -37,7 +37,7 @@ impl<'a> Judged<'a> {
 
     /// The answer of a predicate numbered 1 to 13.
     pub fn answer(&self, predicate: u32) -> Answer {
-        let Relations { rb, ob, so, vis, ar, hb } = &self.relations;
+        let Relations { rb, ob, so, vis, ar, hb, .. } = &self.relations;
         let write = |event: usize| self.events[event].is_write();
         let read = |event: usize| self.events[event].is_read();
         Answer::from_break(match predicate {

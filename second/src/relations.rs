@@ -14,6 +14,11 @@ impl Pairs {
         Pairs { events, holds: all.map(|(a, b)| holds(a, b)).collect() }
     }
 
+    /// How many there are to make pairs of.
+    pub fn events(&self) -> usize {
+        self.events
+    }
+
     pub fn has(&self, a: usize, b: usize) -> bool {
         self.holds[a * self.events + b]
     }
@@ -60,6 +65,8 @@ pub struct Relations {
     pub so: Pairs,
     pub vis: Pairs,
     pub ar: Pairs,
+    /// so or vis.
+    pub step: Pairs,
     pub hb: Pairs,
 }
 
@@ -90,6 +97,7 @@ impl Relations {
             ob: Pairs::such_that(n, |a, b| events[a].object == events[b].object),
             ar: Pairs::such_that(n, |a, b| events[a].position < events[b].position),
             hb: step.one_or_more_steps(),
+            step,
             rb,
             so,
             vis,

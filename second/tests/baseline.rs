@@ -4,7 +4,8 @@ use second::baseline::columns::Columns;
 use second::baseline::judging::{judge_all, judge_predicate, prepare};
 use second::compare::subject::{Baseline, Itself, Rehearser};
 use second::compare::tally::Tally;
-use second::compare::{models, reader, rehearsal, Seeds};
+use second::compare::{explain, models, reader, rehearsal, Seeds};
+use second::explain::Explanation;
 use second::generate::random::Random;
 use second::generate::sweeps::{self, figures, Named};
 use second::generate::{self, scripts, shapes};
@@ -61,6 +62,32 @@ fn judges_alone_and_all_at_once() {
         assert_eq!((answer, &verdicts[..13], verdicts[13]), (whole, &each[..], 7), "seed {seed}");
         let alone: Vec<u64> = PREDICATES.map(|predicate| judge_predicate(predicate, &bytes)).collect();
         assert_eq!(alone, each, "seed {seed}");
+    }
+}
+
+#[test]
+fn explains_alike() {
+    let mut tally = Tally::counting();
+    explain::compare(&Baseline, &Seeds { from: 5_000, ..Seeds::first(500) }, &mut tally);
+    all_passed(tally, 150_000);
+}
+
+/// One set of columns for all records, and what the last one's chain left in the slice.
+#[test]
+fn explains_alike_in_turn() {
+    let mut columns = Columns::new();
+    let mut events = [0; 256];
+    for seed in 10_000..10_300 {
+        let bytes = generate::to_explain(seed).bytes;
+        let Ok(record) = ask(&bytes) else { continue };
+        prepare(&bytes, &mut columns).expect("both pass it");
+        for (predicate, due) in PREDICATES.zip(Judged::new(&record).explanations()) {
+            let told = columns.broken(predicate).map(|pair| {
+                let count = columns.explain(predicate, pair, &mut events);
+                Explanation { a: pair.0, events: events[..count].iter().map(|&event| event.into()).collect() }
+            });
+            assert_eq!(due, told, "seed {seed}, predicate {predicate}");
+        }
     }
 }
 

@@ -3,9 +3,9 @@
 use second::compare::copies::{calls_answered, Copies};
 use second::compare::occurrences::Row;
 use second::compare::tally::Tally;
-use second::compare::{answered, models, must_occur, programs, rehearsal, Seeds};
+use second::compare::{answered, explain, models, must_occur, programs, rehearsal, Seeds};
 use second::generate::random::Random;
-use second::generate::{apart, meeting, record, scripts};
+use second::generate::{apart, chains, meeting, record, scripts, to_explain};
 use second::models::{answers, judge_model, MET, MODELS};
 use second::predicates::Answer::{Broken, Met};
 use second::predicates::{Judged, PREDICATES};
@@ -105,6 +105,24 @@ fn every_answer_of_records() {
         models::count(&bytes, &answers(&bytes), tally);
         answered::number_given(14, tally);
     });
+}
+
+#[test]
+fn every_answer_of_explanations() {
+    let lists = [must_occur::EXPLAIN, must_occur::CHAINS, must_occur::CHAINS_TOLD, must_occur::MIDDLES];
+    assert_all_occur(&lists, 5_000, |seed, tally| {
+        explain::found(&ask(&to_explain(seed).bytes), tally).ok();
+    });
+}
+
+/// A ring has no part that is by vis alone all round.
+#[test]
+fn records_of_chains_pass() {
+    for seed in 0..1_000 {
+        let bytes = chains::record(&mut Random::new(seed)).to_bytes();
+        assert!(ask(&bytes).is_ok(), "seed {seed}");
+    }
+    assert!(chains::fixed().iter().all(|(_, bytes)| ask(bytes).is_ok()));
 }
 
 #[test]

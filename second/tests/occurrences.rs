@@ -3,14 +3,14 @@
 use second::compare::occurrences::{Occurrences, Row};
 use second::compare::subject::{Baseline, Itself};
 use second::compare::tally::Tally;
-use second::compare::{models, must_occur, programs, reader, rehearsal, Seeds};
+use second::compare::{explain, models, must_occur, programs, reader, rehearsal, Seeds};
 use second::generate::record;
 use second::questions::ask;
 use std::path::Path;
 use std::process::{Command, Output};
 
 /// What each comparer must meet.
-const LISTS: [&[&[Row]]; 6] = [
+const LISTS: [&[&[Row]]; 7] = [
     &[must_occur::INSPECT, must_occur::EDITIONS],
     &[must_occur::VERDICT, must_occur::EDITIONS, must_occur::READS, must_occur::CLOCKS, must_occur::RETURNS],
     &[must_occur::READER, must_occur::EDITIONS],
@@ -25,6 +25,7 @@ const LISTS: [&[&[Row]]; 6] = [
     ],
     &[must_occur::REHEARSE, must_occur::STORE_OPENINGS, must_occur::CALLS],
     &[must_occur::REHEARSAL, must_occur::STORE_OPENINGS, must_occur::CALLS],
+    &[must_occur::EXPLAIN, must_occur::CHAINS, must_occur::CHAINS_TOLD, must_occur::MIDDLES],
 ];
 
 fn all_of(lists: &[&[Row]]) -> Vec<(&'static str, u32)> {
@@ -76,6 +77,7 @@ fn without_seeds_all_is_missed() {
         missed(|tally| models::compare(&Baseline, &none, tally)),
         missed(|tally| programs::rehearse(&rehearse, &none, tally)),
         missed(|tally| rehearsal::compare(&Itself, &none, tally)),
+        missed(|tally| explain::compare(&Baseline, &none, tally)),
     ];
     for (lists, sentences) in LISTS.iter().zip(by_run) {
         let every = all_of(lists).into_iter().map(|(sort, number)| format!("{sort}: {number} never occurred"));

@@ -1,14 +1,14 @@
 //! Runs one comparer over a range of seeds; see README.md.
 
-use second::compare::subject::{Baseline, Itself, Judge, Reader, Rehearser};
+use second::compare::subject::{Baseline, Explainer, Itself, Judge, Reader, Rehearser};
 use second::compare::tally::Tally;
-use second::compare::{models, programs, reader, rehearsal, Seeds};
+use second::compare::{explain, models, programs, reader, rehearsal, Seeds};
 use std::path::{Path, PathBuf};
 use std::process::ExitCode;
 
 const USAGE: &str = "compare WHAT [--seeds N] [--from K] [--seconds T] [--keep FOLDER]
   programs:  inspect | verdict | rehearse | lattice   [--bin FOLDER, by default ../target/bin]
-  libraries: reader | models | rehearsal              [--against linked | baseline | itself]
+  libraries: reader | models | explain | rehearsal    [--against linked | baseline | itself]
   --few      for some seeds by hand: an answer that never occurred is no failure
   linked needs a build with --features linked";
 
@@ -102,13 +102,14 @@ fn compare(what: &str, options: &Options, tally: &mut Tally) -> Result<(), Strin
         "lattice" => programs::lattice(&program, tally),
         "reader" => reader::compare(&*reading(against)?, seeds, tally),
         "models" => models::compare(&*judging(against)?, seeds, tally),
+        "explain" => explain::compare(&*explaining(against)?, seeds, tally),
         "rehearsal" => rehearsal::compare(&*rehearsing(against)?, seeds, tally),
         _ => return Err(format!("nothing to compare is called {what:?}")),
     }
     Ok(())
 }
 
-/// The subject that `--against` names, as one of the three traits.
+/// The subject that `--against` names, as one of the four traits.
 macro_rules! subject {
     ($against:expr) => {
         match $against {
@@ -126,6 +127,10 @@ fn reading(against: &str) -> Result<Box<dyn Reader>, String> {
 }
 
 fn judging(against: &str) -> Result<Box<dyn Judge>, String> {
+    Ok(subject!(against))
+}
+
+fn explaining(against: &str) -> Result<Box<dyn Explainer>, String> {
     Ok(subject!(against))
 }
 

@@ -1,8 +1,8 @@
 //! How long the baseline takes, best of several rounds.
 
 use second::baseline::columns::Columns;
-use second::baseline::{judging, reading, rehearsal};
-use second::generate::{scripts, sweeps};
+use second::baseline::{explaining, judging, reading, rehearsal};
+use second::generate::{chains, scripts, sweeps};
 use second::openings::Openings;
 use second::record::{Event, Record};
 use second::samples::in_turn;
@@ -22,6 +22,10 @@ fn main() {
     for (name, record) in [("one site, dense", &one_site), ("rehearsed", &rehearsed), ("with openings", &opened)] {
         report(&format!("read and judge all thirteen: {name}"), judging(record));
         report(&format!("host call, model 4: {name}"), hosting(record));
+    }
+    let long = ["chain-of-255-rising", "ring-of-256-rising", "narrow-ladder-rising"];
+    for (name, record) in chains::fixed().into_iter().filter(|(name, _)| long.contains(&name.as_str())) {
+        report(&format!("explain predicate 10: {name}"), explaining(&record));
     }
     report("rehearse 4,096 calls, 256 events, 8 sites", rehearsing(none, &script));
     report("rehearse them with openings", rehearsing(all, &script));
@@ -61,6 +65,13 @@ fn judging(record: &[u8]) -> Duration {
 fn hosting(record: &[u8]) -> Duration {
     best_of(|| {
         black_box(judging::judge_model(4, black_box(record)));
+    })
+}
+
+fn explaining(record: &[u8]) -> Duration {
+    let mut events = [0; 256];
+    best_of(|| {
+        black_box(explaining::explain(10, black_box(record), &mut events));
     })
 }
 

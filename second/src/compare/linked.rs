@@ -41,6 +41,16 @@ impl Judge for Linked {
     }
 }
 
+impl Explainer for Linked {
+    fn explain(&self, predicate: u32, record: &[u8], events: &mut [u16]) -> u64 {
+        extern "C" {
+            fn gcr_explain(predicate: u32, record: *const u8, len: usize, events: *mut u16, entries: usize) -> u64;
+        }
+        // SAFETY: both pointers come from slices of the lengths given.
+        unsafe { gcr_explain(predicate, record.as_ptr(), record.len(), events.as_mut_ptr(), events.len()) }
+    }
+}
+
 impl Rehearser for Linked {
     fn rehearse(&self, sites: u32, openings: &[u8], script: &[u8], record: &mut [u8], answers: &mut [u8]) -> u64 {
         extern "C" {

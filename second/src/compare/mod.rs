@@ -1,12 +1,16 @@
 //! Holds another implementation against the second checker.
 
 pub mod answered;
+pub mod chains;
 pub mod clocks;
 pub mod copies;
 pub mod covers;
+pub mod explain;
+pub mod held;
 #[cfg(feature = "linked")]
 pub mod linked;
 pub mod metamorphic;
+pub mod middles;
 pub mod models;
 pub mod must_occur;
 pub mod occurrences;

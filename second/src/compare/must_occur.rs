@@ -1,11 +1,14 @@
 //! What each comparer must meet in a run: one list for each, of all the answers that its subject can give.
 
 use super::answered::*;
+use super::chains::{self, *};
 use super::clocks::*;
 use super::covers::APART;
+use super::explain::{NO_PREDICATE_ELSE, TOO_SHORT};
+use super::middles::*;
 use super::occurrences::Row;
 use super::opened::*;
-use super::returned::TOLD;
+use super::returned;
 use super::states::*;
 
 /// The numbers of predicates, and of models.
@@ -13,6 +16,10 @@ const THIRTEEN: &[u32] = &[1, 2, 3, 4, 5, 6, 7, 8, 9, 10, 11, 12, 13];
 
 /// The predicates that go by clocks.
 const REAL_TIME: &[u32] = &[3, 4];
+
+/// Those that are told by a chain, and those that are by a middle event.
+const CAUSAL: &[u32] = &[10, 11];
+const PASSED_ON: &[u32] = &[5, 8];
 
 /// The questions of a record, and those that name a block, slot or event.
 const QUESTIONS: &[u32] = &[3, 4, 5, 6, 7, 8, 9, 10];
@@ -80,7 +87,7 @@ pub const CLOCKS: &[Row] = &[
 ];
 
 /// And what tells each case of rb.
-pub const RETURNS: &[Row] = &TOLD;
+pub const RETURNS: &[Row] = &returned::TOLD;
 
 /// The models that have one of these two in their lists.
 pub const MODEL_CLOCKS: &[Row] = &[(MODEL_MET_BY_IT, &[1, 2, 5])];
@@ -129,6 +136,56 @@ pub const MODELS: &[Row] = &[
     (MODEL_BROKEN[1], &[1, 2, 3, 4, 5, 6, 7]),
     (MODEL_BROKEN[2], &[1, 2, 3, 4, 5, 6, 7]),
     (MODEL_BROKEN[3], &[5]),
+];
+
+/// Of the call that explains. Its work memory is inside too; 42 is what is met.
+pub const EXPLAIN: &[Row] = &[
+    (NO_PREDICATE, &[2]),
+    (NO_PREDICATE_ELSE, &[0, 3, 4, 5, 6, 7, 8, 9, 10, 41]),
+    (TOO_SHORT, &[0, 3, 4, 5, 6, 7, 8, 9, 10, 42]),
+    (PASSED, &[0]),
+    (AT_PLACE_0, QUESTIONS),
+    (ABOVE_PLACE_0, PLACED),
+    (PREDICATE_MET, THIRTEEN),
+    (PREDICATE_BROKEN, THIRTEEN),
+    (B_ALONE, &[1, 2, 3, 4, 6, 7, 9, 12, 13]),
+    (A_AGAIN, &[1]),
+];
+
+/// A chain of 10 has one step where this is by so. No event leads to itself in one. One that is below both ends of a chain
+/// of 11 would be in a lower pair: with an end, or with itself.
+pub const CHAINS: &[Row] = &[
+    (CHAIN_OF_10, &[1, 2, 3, 4, 64, 255]),
+    (CHAIN_OF_11, &[1, 2, 3, 4, 64, 255]),
+    (RING_OF_10, &[2, 3, 4, 64, 255, 256]),
+    (RING_OF_11, &[2, 3, 4, 64, 255, 256]),
+    (BY_SO, CAUSAL),
+    (BY_VIS, CAUSAL),
+    (BY_BOTH, CAUSAL),
+    (BY_SO_AGAIN, CAUSAL),
+    (ABOVE_ENDS, CAUSAL),
+    (BELOW_ENDS, &[10]),
+    (ALL_WORDS, CAUSAL),
+    (DENSE, CAUSAL),
+    (TIED_AT_FIRST, CAUSAL),
+    (TIED_LATER, CAUSAL),
+    (LOWER_IS_LONGER, CAUSAL),
+    (LOWER_IS_LOST, CAUSAL),
+];
+
+/// And which wrong ways they tell.
+pub const CHAINS_TOLD: &[Row] = &chains::TOLD;
+
+/// 5 has a read as its later event, 8 writes as both.
+pub const MIDDLES: &[Row] = &[
+    (ONE_MIDDLE, PASSED_ON),
+    (SEVERAL_MIDDLES, PASSED_ON),
+    (ROUND_A_MIDDLE, PASSED_ON),
+    (LOWER_WRITE, PASSED_ON),
+    (LOWER_NOT_SO, PASSED_ON),
+    (LOWER_NOT_SEEING, PASSED_ON),
+    (MIDDLE_ABOVE, PASSED_ON),
+    (MIDDLE_BELOW, PASSED_ON),
 ];
 
 /// What a rehearsal is refused by. The program lends its own buffers and has always 132 bytes of openings, so 22 and 23

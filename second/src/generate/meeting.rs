@@ -116,7 +116,11 @@ fn see_what_it_sees(record: &mut Record, b: usize, c: usize) {
 
 /// The same record with its events numbered at random.
 pub fn renumbered(random: &mut Random, record: &Record) -> Record {
-    let old_of = random.order(record.events.len());
+    renumbered_by(record, &random.order(record.events.len()))
+}
+
+/// The same record with its events in this order.
+pub fn renumbered_by(record: &Record, old_of: &[usize]) -> Record {
     let events = old_of.iter().map(|&old| {
         let mut event = record.events[old].clone();
         event.visible = [false; MOST_EVENTS];

@@ -1,6 +1,7 @@
 //! Inputs by seed: the same seed always gives the same input.
 
 pub mod apart;
+pub mod chains;
 pub mod change;
 pub mod clocks;
 pub mod damage;
@@ -49,6 +50,14 @@ pub fn record(seed: u64) -> Sample {
         draw -= share;
     }
     unreachable!("the shares make a hundred")
+}
+
+/// A record for the call that explains: every other seed's is made of chains.
+pub fn to_explain(seed: u64) -> Sample {
+    match seed.is_multiple_of(2) {
+        true => record(seed),
+        false => Sample { family: "chains", bytes: chains::record(&mut Random::new(seed)).to_bytes() },
+    }
 }
 
 fn small(random: &mut Random) -> Vec<u8> {

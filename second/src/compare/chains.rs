@@ -1,0 +1,199 @@
+//! Counts what the chains of 10 and 11 are like, and which wrong ways to find one they tell from the right one.
+
+use super::occurrences::Row;
+use super::tally::Tally;
+use crate::explain::{steps_to, Explanation};
+use crate::predicates::Judged;
+use crate::relations::{Pairs, Relations};
+
+/// From an event to another and to itself, by the number of steps: 4 for up to 63, 64 for up to 254.
+pub const CHAIN_OF_10: &str = "chain of 10, steps";
+pub const CHAIN_OF_11: &str = "chain of 11, steps";
+pub const RING_OF_10: &str = "ring of 10, steps";
+pub const RING_OF_11: &str = "ring of 11, steps";
+
+/// From an event to another, by what its steps are.
+pub const BY_SO: &str = "chain by so alone";
+pub const BY_VIS: &str = "chain by vis alone";
+pub const BY_BOTH: &str = "chain by so and by vis";
+pub const BY_SO_AGAIN: &str = "chain by so, vis and so again";
+
+/// By the numbers that it goes through.
+pub const ABOVE_ENDS: &str = "through one above both ends";
+pub const BELOW_ENDS: &str = "through one below both ends";
+pub const ALL_WORDS: &str = "through all four words of a row";
+
+/// In a record of 32 events and more, where one of two leads to the other in a step for two pairs of three.
+pub const DENSE: &str = "in a dense record";
+
+/// By the other ways that there are from an event of the chain.
+pub const TIED_AT_FIRST: &str = "equally short from a";
+pub const TIED_LATER: &str = "equally short, but not from a";
+pub const LOWER_IS_LONGER: &str = "lower next event, longer chain";
+pub const LOWER_IS_LOST: &str = "lower next event that leads away";
+
+/// A way to find a chain. Nothing where it finds none.
+type Way = fn(&Relations, usize, usize) -> Option<Vec<usize>>;
+
+/// Wrong ones. A record counts by the predicate whose chain is another by one of them.
+pub const WRONG_WAYS: [(&str, Way); 7] = [
+    ("tells: highest next event", |relations, a, b| walk(&relations.step, a, b, |nearer| nearer.max())),
+    ("tells: lowest from the end", |relations, a, b| from_the_end(&relations.step, a, b)),
+    ("tells: first chain by depth", |relations, a, b| by_depth(&relations.step, a, b)),
+    ("tells: any step of hb", |relations, a, b| shortest(&relations.hb, a, b)),
+    ("tells: rb at all sites", |relations, a, b| shortest(&either(&relations.rb, &relations.vis), a, b)),
+    ("tells: no step by so", |relations, a, b| shortest(&relations.vis, a, b)),
+    ("tells: no step by vis", |relations, a, b| shortest(&relations.so, a, b)),
+];
+
+const BOTH: &[u32] = &[10, 11];
+
+/// What must occur of them.
+pub const TOLD: [Row; WRONG_WAYS.len()] = {
+    let (mut rows, mut at) = ([("", BOTH); WRONG_WAYS.len()], 0);
+    while at < rows.len() {
+        rows[at].0 = WRONG_WAYS[at].0;
+        at += 1;
+    }
+    rows
+};
+
+fn either(one: &Pairs, other: &Pairs) -> Pairs {
+    Pairs::such_that(one.events(), |a, b| one.has(a, b) || other.has(a, b))
+}
+
+fn shortest(step: &Pairs, a: usize, b: usize) -> Option<Vec<usize>> {
+    walk(step, a, b, |nearer| nearer.next())
+}
+
+/// A shortest chain, each next event taken of those one step nearer to b.
+fn walk(
+    step: &Pairs,
+    a: usize,
+    b: usize,
+    take: impl Fn(&mut dyn DoubleEndedIterator<Item = usize>) -> Option<usize>,
+) -> Option<Vec<usize>> {
+    let steps = steps_to(step, b);
+    let (mut chain, mut last) = (vec![], a);
+    for left in (0..steps[a]?).rev() {
+        let nearer = |event: &usize| step.has(last, *event) && is_left(&steps, b, *event, left);
+        last = take(&mut (0..steps.len()).filter(nearer))?;
+        chain.push(last);
+    }
+    Some(chain)
+}
+
+/// So many steps are left from an event to b, none where it is b.
+fn is_left(steps: &[Option<usize>], b: usize, event: usize, left: usize) -> bool {
+    if left == 0 {
+        event == b
+    } else {
+        steps[event] == Some(left)
+    }
+}
+
+/// Each event before b in turn the lowest, and not each one after a.
+fn from_the_end(step: &Pairs, a: usize, b: usize) -> Option<Vec<usize>> {
+    let back = Pairs::such_that(step.events(), |from, to| step.has(to, from));
+    let mut events = shortest(&back, b, a)?;
+    events.pop();
+    events.reverse();
+    events.push(b);
+    Some(events)
+}
+
+/// The lowest next event where none has been yet, and back where there is none.
+fn by_depth(step: &Pairs, a: usize, b: usize) -> Option<Vec<usize>> {
+    let mut been = vec![false; step.events()];
+    let mut chain = vec![];
+    loop {
+        let last = chain.last().copied().unwrap_or(a);
+        if step.has(last, b) {
+            chain.push(b);
+            return Some(chain);
+        }
+        match (0..been.len()).find(|&event| step.has(last, event) && !been[event]) {
+            Some(event) => {
+                been[event] = true;
+                chain.push(event);
+            }
+            None => chain.pop().map(drop)?,
+        }
+    }
+}
+
+/// Of a predicate that is 10 or 11.
+pub fn chain(judged: &Judged, predicate: u32, explanation: &Explanation, tally: &mut Tally) {
+    let Explanation { a, events } = explanation;
+    let b = *events.last().expect("never empty");
+    let sort = match (predicate, *a == b) {
+        (10, false) => CHAIN_OF_10,
+        (10, true) => RING_OF_10,
+        (_, false) => CHAIN_OF_11,
+        (_, true) => RING_OF_11,
+    };
+    tally.occurred(sort, told_steps(events.len()));
+    let mut sorts = sorts_of_numbers(*a, b, events);
+    sorts.extend((*a != b).then(|| sort_of_steps(&judged.relations, *a, events)).into_iter().flatten());
+    sorts.extend(is_dense(&judged.relations.step).then_some(DENSE));
+    sorts.extend(other_ways(&judged.relations.step, *a, b, events));
+    for (sort, way) in WRONG_WAYS {
+        sorts.extend((way(&judged.relations, *a, b).as_ref() != Some(events)).then_some(sort));
+    }
+    sorts.into_iter().for_each(|sort| tally.occurred(sort, predicate));
+}
+
+fn told_steps(steps: usize) -> u32 {
+    match steps {
+        4..64 => 4,
+        64..255 => 64,
+        _ => steps as u32,
+    }
+}
+
+/// Each step's first event and second.
+pub fn steps_of(a: usize, events: &[usize]) -> impl Iterator<Item = (usize, usize)> + '_ {
+    std::iter::once(a).chain(events.iter().copied()).zip(events.iter().copied())
+}
+
+fn sort_of_steps(relations: &Relations, a: usize, events: &[usize]) -> Vec<&'static str> {
+    let so = steps_of(a, events).filter(|&(from, to)| relations.so.has(from, to)).count();
+    let vis = steps_of(a, events).filter(|&(from, to)| relations.vis.has(from, to)).count();
+    match events.len() {
+        all if so == all => vec![BY_SO],
+        all if vis == all => vec![BY_VIS],
+        all if all - vis > 1 => vec![BY_BOTH, BY_SO_AGAIN],
+        _ => vec![BY_BOTH],
+    }
+}
+
+fn sorts_of_numbers(a: usize, b: usize, events: &[usize]) -> Vec<&'static str> {
+    let mut sorts = vec![];
+    sorts.extend(events.iter().any(|&event| event > a.max(b)).then_some(ABOVE_ENDS));
+    sorts.extend(events.iter().any(|&event| event < a.min(b)).then_some(BELOW_ENDS));
+    sorts.extend((0..4).all(|word| events.iter().any(|event| event / 64 == word)).then_some(ALL_WORDS));
+    sorts
+}
+
+fn is_dense(step: &Pairs) -> bool {
+    let n = step.events();
+    let related = (0..n).map(|b| (0..b).filter(|&a| step.has(a, b) || step.has(b, a)).count());
+    n >= 32 && 3 * related.sum::<usize>() > n * (n - 1)
+}
+
+fn other_ways(step: &Pairs, a: usize, b: usize, events: &[usize]) -> Vec<&'static str> {
+    let steps = steps_to(step, b);
+    let (mut tied, mut sorts) = (false, vec![]);
+    for (at, (from, to)) in steps_of(a, events).enumerate() {
+        let left = events.len() - 1 - at;
+        let others = || (0..steps.len()).filter(|&other| other != to && step.has(from, other));
+        let ties = left > 0 && others().any(|other| steps[other] == Some(left));
+        sorts.extend((ties && !tied).then_some(if at == 0 { TIED_AT_FIRST } else { TIED_LATER }));
+        tied |= ties;
+        sorts.extend(others().any(|other| other < to && steps[other] > Some(left)).then_some(LOWER_IS_LONGER));
+        sorts.extend(others().any(|other| other < to && steps[other].is_none()).then_some(LOWER_IS_LOST));
+    }
+    sorts.sort_unstable();
+    sorts.dedup();
+    sorts
+}
