@@ -184,27 +184,27 @@ fn refusal(number: u32, place: u32) -> (u64, Vec<u16>) {
     (refused(Refusal { number, place }), vec![])
 }
 
-/// A record that each of these refuses, and one that passes and meets all.
-fn records() -> Vec<(Option<(u32, u32)>, Vec<u8>)> {
+/// What refuses a record, with the place: each of 3 to 10, and 42, as all is met.
+fn records() -> Vec<((u32, u32), Vec<u8>)> {
     let named = |name: &str| samples::samples().into_iter().find(|sample| sample.name == name).expect("there").bytes;
     vec![
-        (Some((3, 0)), vec![]),
-        (Some((4, 37)), named("refused-4-high.gcr")),
-        (Some((5, 0)), named("refused-5-n-257.gcr")),
-        (Some((6, 0)), named("refused-6-too-few.gcr")),
-        (Some((7, 255)), named("refused-7-high.gcr")),
-        (Some((8, 255)), named("refused-8-high.gcr")),
-        (Some((9, 254)), named("refused-9-high.gcr")),
-        (Some((10, 254)), named("refused-10-high.gcr")),
-        (None, named("in-turn-256.gcr")),
+        ((3, 0), vec![]),
+        ((4, 37), named("refused-4-high.gcr")),
+        ((5, 0), named("refused-5-n-257.gcr")),
+        ((6, 0), named("refused-6-too-few.gcr")),
+        ((7, 255), named("refused-7-high.gcr")),
+        ((8, 255), named("refused-8-high.gcr")),
+        ((9, 254), named("refused-9-high.gcr")),
+        ((10, 254), named("refused-10-high.gcr")),
+        ((42, 0), named("in-turn-256.gcr")),
     ]
 }
 
 #[test]
 fn refusals_come_in_their_order() {
     for subject in [&Itself as &dyn Explainer, &Baseline] {
-        for (question, bytes) in records() {
-            let of_record = question.map_or(refusal(42, 0), |(number, place)| refusal(number, place));
+        for ((number, place), bytes) in records() {
+            let of_record = refusal(number, place);
             for number in [0, 14, 255, 256, u32::MAX] {
                 assert_eq!(told(subject, number, &bytes, 0), refusal(2, 0));
                 assert_eq!(told(subject, number, &bytes, 300), refusal(2, 0));

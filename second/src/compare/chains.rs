@@ -23,14 +23,18 @@ pub const ABOVE_ENDS: &str = "through one above both ends";
 pub const BELOW_ENDS: &str = "through one below both ends";
 pub const ALL_WORDS: &str = "through all four words of a row";
 
+/// Through an event that never returned, from which only vis leads on.
+pub const PENDING_BETWEEN: &str = "through a pending event";
+
 /// In a record of 32 events and more, where one of two leads to the other in a step for two pairs of three.
 pub const DENSE: &str = "in a dense record";
 
 /// By the other ways that there are from an event of the chain.
 pub const TIED_AT_FIRST: &str = "equally short from a";
 pub const TIED_LATER: &str = "equally short, but not from a";
-pub const LOWER_IS_LONGER: &str = "lower next event, longer chain";
-pub const LOWER_IS_LOST: &str = "lower next event that leads away";
+pub const LOWER_IS_LONGER: &str = "lower event after a, longer chain";
+pub const LATER_IS_LONGER: &str = "lower later event, longer chain";
+pub const LOWER_IS_LOST: &str = "lower event that leads away";
 
 /// A way to find a chain. Nothing where it finds none.
 type Way = fn(&Relations, usize, usize) -> Option<Vec<usize>>;
@@ -135,6 +139,8 @@ pub fn chain(judged: &Judged, predicate: u32, explanation: &Explanation, tally: 
     tally.occurred(sort, told_steps(events.len()));
     let mut sorts = sorts_of_numbers(*a, b, events);
     sorts.extend((*a != b).then(|| sort_of_steps(&judged.relations, *a, events)).into_iter().flatten());
+    let pending = |&event: &usize| event != b && judged.events[event].pending();
+    sorts.extend(events.iter().any(pending).then_some(PENDING_BETWEEN));
     sorts.extend(is_dense(&judged.relations.step).then_some(DENSE));
     sorts.extend(other_ways(&judged.relations.step, *a, b, events));
     for (sort, way) in WRONG_WAYS {
@@ -186,12 +192,14 @@ fn other_ways(step: &Pairs, a: usize, b: usize, events: &[usize]) -> Vec<&'stati
     let (mut tied, mut sorts) = (false, vec![]);
     for (at, (from, to)) in steps_of(a, events).enumerate() {
         let left = events.len() - 1 - at;
-        let others = || (0..steps.len()).filter(|&other| other != to && step.has(from, other));
-        let ties = left > 0 && others().any(|other| steps[other] == Some(left));
+        let next: Vec<usize> = (0..steps.len()).filter(|&event| step.has(from, event)).collect();
+        let ties = left > 0 && next.iter().any(|&other| other != to && steps[other] == Some(left));
         sorts.extend((ties && !tied).then_some(if at == 0 { TIED_AT_FIRST } else { TIED_LATER }));
         tied |= ties;
-        sorts.extend(others().any(|other| other < to && steps[other] > Some(left)).then_some(LOWER_IS_LONGER));
-        sorts.extend(others().any(|other| other < to && steps[other].is_none()).then_some(LOWER_IS_LOST));
+        let lower = || next.iter().take_while(|&&other| other < to);
+        let longer = lower().any(|&other| steps[other] > Some(left));
+        sorts.extend(longer.then_some(if at == 0 { LOWER_IS_LONGER } else { LATER_IS_LONGER }));
+        sorts.extend(lower().any(|&other| steps[other].is_none()).then_some(LOWER_IS_LOST));
     }
     sorts.sort_unstable();
     sorts.dedup();

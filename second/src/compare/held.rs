@@ -23,7 +23,7 @@ pub fn held(told: &Told, record: Option<&Record>, case: &Case, tally: &mut Tally
     };
     tally.check(case, fault.is_none(), || {
         let Told { predicate, judged, answer, slice } = told;
-        let entries = &slice[..slice.len().min(*answer as usize)];
+        let entries = slice.get(..*answer as usize).unwrap_or_default();
         format!("{}: predicate {predicate} judged {judged}, answer {answer}, {entries:?}", fault.expect("one"))
     });
 }

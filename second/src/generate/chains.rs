@@ -4,7 +4,7 @@
 use super::meeting::renumbered_by;
 use super::openings;
 use super::random::Random;
-use super::shapes::hold_right_value;
+use super::shapes::{hold_right_value, make_pending};
 use super::sweeps::Named;
 use crate::record::{Event, Record, MOST_EVENTS, MOST_SITES};
 use std::ops::Range;
@@ -92,7 +92,8 @@ fn event(random: &mut Random) -> Event {
 
 pub fn record(random: &mut Random) -> Record {
     let plan = plan(random);
-    let record = plan.record(random);
+    let mut record = plan.record(random);
+    never_return(random, &mut record);
     let record = arbitrated(random, record);
     let order = order(random, record.events.len());
     let mut record = renumbered_by(&record, &order);
@@ -148,6 +149,17 @@ fn led_by_so(random: &mut Random, layers: usize, ring: bool) -> Vec<usize> {
         }
     }
     chosen
+}
+
+/// Now and then some of those that nothing is so after.
+fn never_return(random: &mut Random, record: &mut Record) {
+    let share = random.pick(&[0, 0, 30]);
+    let others = record.events.iter_mut().filter(|event| event.site == 0);
+    others.for_each(|event| {
+        if random.chance(share) {
+            make_pending(event);
+        }
+    });
 }
 
 /// As the events are placed, the last of them first, the first of them last, or at random.
