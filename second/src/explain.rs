@@ -32,7 +32,7 @@ impl Judged<'_> {
     pub fn explanation(&self, predicate: u32) -> Option<Explanation> {
         let Answer::Broken(a, b) = self.answer(predicate) else { return None };
         let events = match predicate {
-            10 | 11 => shortest_chain(&self.relations.step, a, b),
+            10 | 11 => shortest_chain(&self.relations.step, a, b).expect("hb leads from a to b"),
             5 | 8 => vec![self.middle_events(a, b)[0], b],
             _ => vec![b],
         };
@@ -63,18 +63,26 @@ pub fn steps_to(step: &Pairs, b: usize) -> Vec<Option<usize>> {
     steps
 }
 
-/// The events after a, each the lowest from which b is one step less.
-pub fn shortest_chain(step: &Pairs, a: usize, b: usize) -> Vec<usize> {
+/// The events after a on a shortest chain, if there is one, each next one taken of those from which b is one step less.
+pub fn chain_by(
+    step: &Pairs,
+    a: usize,
+    b: usize,
+    take: impl Fn(&mut dyn Iterator<Item = usize>) -> Option<usize>,
+) -> Option<Vec<usize>> {
     let steps = steps_to(step, b);
-    let all = steps[a].expect("a leads to b");
-    let mut chain = vec![];
-    for left in (0..all).rev() {
-        let last = chain.last().copied().unwrap_or(a);
+    let (mut chain, mut last) = (vec![], a);
+    for left in (0..steps[a]?).rev() {
         let nearer = |&event: &usize| if left == 0 { event == b } else { steps[event] == Some(left) };
-        let next = (0..steps.len()).filter(|&event| step.has(last, event)).find(nearer);
-        chain.push(next.expect("the steps go on"));
+        last = take(&mut (0..steps.len()).filter(|&event| step.has(last, event)).filter(nearer))?;
+        chain.push(last);
     }
-    chain
+    Some(chain)
+}
+
+/// Each of them the lowest possible.
+pub fn shortest_chain(step: &Pairs, a: usize, b: usize) -> Option<Vec<usize>> {
+    chain_by(step, a, b, |nearer| nearer.next())
 }
 
 fn refused_at_0(number: u32) -> u64 {

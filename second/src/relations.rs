@@ -47,6 +47,11 @@ impl Pairs {
         }
     }
 
+    /// The pairs of these and of others.
+    pub fn or(&self, other: &Pairs) -> Pairs {
+        Pairs::such_that(self.events, |a, b| self.has(a, b) || other.has(a, b))
+    }
+
     /// The pairs of these that a condition keeps.
     pub fn cut(&self, keep: impl Fn(usize, usize) -> bool) -> Pairs {
         Pairs::such_that(self.events, |a, b| self.has(a, b) && keep(a, b))
@@ -92,7 +97,7 @@ impl Relations {
         let rb = Pairs::such_that(n, |a, b| before(&events[a], &events[b]));
         let so = rb.cut(|a, b| events[a].site == events[b].site);
         let vis = Pairs::such_that(n, |a, b| events[b].visible[a]);
-        let step = Pairs::such_that(n, |a, b| so.has(a, b) || vis.has(a, b));
+        let step = so.or(&vis);
         Relations {
             ob: Pairs::such_that(n, |a, b| events[a].object == events[b].object),
             ar: Pairs::such_that(n, |a, b| events[a].position < events[b].position),

@@ -1,10 +1,11 @@
 //! The comparer finds deliberate faults of the call that explains, and so do a subject's own answers.
 
-use second::compare::chains::{self, WRONG_WAYS};
+use second::compare::chains::steps_of;
 use second::compare::explain;
 use second::compare::held::{held, Told};
 use second::compare::subject::{Baseline, Explainer, Judge};
 use second::compare::tally::{Case, Tally};
+use second::compare::ways::WRONG_WAYS;
 use second::explain::{told, Explanations, ENTRIES};
 use second::generate;
 use second::models::{refusal_in, refused, REFUSED};
@@ -65,106 +66,110 @@ fn assert_found(faults: &[(&str, Call)]) {
     }
 }
 
+const OF_THE_SLICE: [(&str, Call); 6] = [
+    ("an entry beyond cleared", |predicate, bytes, events| {
+        let answer = right(predicate, bytes, events);
+        if answer < ENTRIES as u64 {
+            events[answer as usize] = 0;
+        }
+        answer
+    }),
+    ("the 257th cleared", |predicate, bytes, events| {
+        let answer = right(predicate, bytes, events);
+        if let (true, Some(entry)) = (answer < REFUSED, events.get_mut(ENTRIES)) {
+            *entry = 0;
+        }
+        answer
+    }),
+    ("a refusal writes", |predicate, bytes, events| {
+        let answer = right(predicate, bytes, events);
+        if let (true, Some(entry)) = (answer == at_0(42), events.first_mut()) {
+            *entry = 0;
+        }
+        answer
+    }),
+    ("41 writes", |predicate, bytes, events| {
+        let answer = right(predicate, bytes, events);
+        if answer == at_0(41) {
+            events.fill(0);
+        }
+        answer
+    }),
+    ("one entry more", |predicate, bytes, events| {
+        let answer = right(predicate, bytes, events);
+        answer + u64::from(answer < REFUSED)
+    }),
+    ("a first", |predicate, bytes, events| {
+        let answer = right(predicate, bytes, events);
+        if answer >= ENTRIES as u64 {
+            return answer;
+        }
+        events.copy_within(..answer as usize, 1);
+        events[0] = (Baseline.judge_predicate(predicate, bytes) >> 10 & 1_023) as u16;
+        answer + 1
+    }),
+];
+
 #[test]
 fn faults_of_the_slice_are_found() {
-    assert_found(&[
-        ("an entry beyond cleared", |predicate, bytes, events| {
-            let answer = right(predicate, bytes, events);
-            if answer < ENTRIES as u64 {
-                events[answer as usize] = 0;
-            }
-            answer
-        }),
-        ("the 257th cleared", |predicate, bytes, events| {
-            let answer = right(predicate, bytes, events);
-            if let (true, Some(entry)) = (answer < REFUSED, events.get_mut(ENTRIES)) {
-                *entry = 0;
-            }
-            answer
-        }),
-        ("a refusal writes", |predicate, bytes, events| {
-            let answer = right(predicate, bytes, events);
-            if let (true, Some(entry)) = (answer == at_0(42), events.first_mut()) {
-                *entry = 0;
-            }
-            answer
-        }),
-        ("41 writes", |predicate, bytes, events| {
-            let answer = right(predicate, bytes, events);
-            if answer == at_0(41) {
-                events.fill(0);
-            }
-            answer
-        }),
-        ("one entry more", |predicate, bytes, events| {
-            let answer = right(predicate, bytes, events);
-            answer + u64::from(answer < REFUSED)
-        }),
-        ("a first", |predicate, bytes, events| {
-            let answer = right(predicate, bytes, events);
-            if answer >= ENTRIES as u64 {
-                return answer;
-            }
-            events.copy_within(..answer as usize, 1);
-            events[0] = (Baseline.judge_predicate(predicate, bytes) >> 10 & 1_023) as u16;
-            answer + 1
-        }),
-    ]);
+    assert_found(&OF_THE_SLICE);
 }
+
+const OF_THE_QUESTIONS: [(&str, Call); 9] = [
+    ("41 before 2", |predicate, bytes, events| match events.len() {
+        ..ENTRIES => at_0(41),
+        _ => right(predicate, bytes, events),
+    }),
+    ("41 after 3", |predicate, bytes, events| {
+        let judged = Baseline.judge_predicate(predicate, bytes);
+        if judged == at_0(3) {
+            return judged;
+        }
+        right(predicate, bytes, events)
+    }),
+    ("41 after 10", |predicate, bytes, events| match refusal_in(Baseline.judge_predicate(predicate, bytes)) {
+        Some(refusal) => refused(refusal),
+        None => right(predicate, bytes, events),
+    }),
+    ("41 after 42", |predicate, bytes, events| match Baseline.judge_predicate(predicate, bytes) {
+        0 => at_0(42),
+        _ => right(predicate, bytes, events),
+    }),
+    ("42 before 3 to 10", |predicate, bytes, events| {
+        let answer = right(predicate, bytes, events);
+        let of_record = refusal_in(answer).is_some_and(|refusal| (3..=10).contains(&refusal.number));
+        if of_record {
+            at_0(42)
+        } else {
+            answer
+        }
+    }),
+    ("42 with a place", |predicate, bytes, events| {
+        let answer = right(predicate, bytes, events);
+        answer + u64::from(answer == at_0(42))
+    }),
+    ("met told by no entry", |predicate, bytes, events| match right(predicate, bytes, events) {
+        answer if answer == at_0(42) => 0,
+        answer => answer,
+    }),
+    ("255 entries will do", |predicate, bytes, events| {
+        let mut long = [0; ENTRIES];
+        let answer = right(predicate, bytes, &mut long);
+        if events.len() != ENTRIES - 1 || answer >= ENTRIES as u64 {
+            return right(predicate, bytes, events);
+        }
+        events[..answer as usize].copy_from_slice(&long[..answer as usize]);
+        answer
+    }),
+    ("257 entries asked for", |predicate, bytes, events| match (predicate, events.len()) {
+        (1..=13, ..=ENTRIES) => at_0(41),
+        _ => right(predicate, bytes, events),
+    }),
+];
 
 #[test]
 fn faults_of_the_questions_are_found() {
-    assert_found(&[
-        ("41 before 2", |predicate, bytes, events| match events.len() {
-            ..ENTRIES => at_0(41),
-            _ => right(predicate, bytes, events),
-        }),
-        ("41 after 3", |predicate, bytes, events| {
-            let judged = Baseline.judge_predicate(predicate, bytes);
-            if judged == at_0(3) {
-                return judged;
-            }
-            right(predicate, bytes, events)
-        }),
-        ("41 after 10", |predicate, bytes, events| match refusal_in(Baseline.judge_predicate(predicate, bytes)) {
-            Some(refusal) => refused(refusal),
-            None => right(predicate, bytes, events),
-        }),
-        ("41 after 42", |predicate, bytes, events| match Baseline.judge_predicate(predicate, bytes) {
-            0 => at_0(42),
-            _ => right(predicate, bytes, events),
-        }),
-        ("42 before 3 to 10", |predicate, bytes, events| {
-            let answer = right(predicate, bytes, events);
-            let of_record = refusal_in(answer).is_some_and(|refusal| (3..=10).contains(&refusal.number));
-            if of_record {
-                at_0(42)
-            } else {
-                answer
-            }
-        }),
-        ("42 with a place", |predicate, bytes, events| {
-            let answer = right(predicate, bytes, events);
-            answer + u64::from(answer == at_0(42))
-        }),
-        ("met told by no entry", |predicate, bytes, events| match right(predicate, bytes, events) {
-            answer if answer == at_0(42) => 0,
-            answer => answer,
-        }),
-        ("255 entries will do", |predicate, bytes, events| {
-            let mut long = [0; ENTRIES];
-            let answer = right(predicate, bytes, &mut long);
-            if events.len() != ENTRIES - 1 || answer >= ENTRIES as u64 {
-                return right(predicate, bytes, events);
-            }
-            events[..answer as usize].copy_from_slice(&long[..answer as usize]);
-            answer
-        }),
-        ("257 entries asked for", |predicate, bytes, events| match (predicate, events.len()) {
-            (1..=13, ..=ENTRIES) => at_0(41),
-            _ => right(predicate, bytes, events),
-        }),
-    ]);
+    assert_found(&OF_THE_QUESTIONS);
 }
 
 /// The right explanations but for some that are others.
@@ -319,5 +324,5 @@ fn wrong_ways_find_a_lone_chain() {
     let lone = Some(vec![3, 2, 1]);
     assert_eq!(found[..3], [lone.clone(), lone.clone(), lone.clone()]);
     assert_eq!(found[3..], [Some(vec![1]), lone.clone(), lone, None]);
-    assert_eq!(chains::steps_of(0, &[3, 2, 1]).collect::<Vec<_>>(), [(0, 3), (3, 2), (2, 1)]);
+    assert_eq!(steps_of(0, &[3, 2, 1]).collect::<Vec<_>>(), [(0, 3), (3, 2), (2, 1)]);
 }

@@ -115,7 +115,7 @@ fn every_answer_of_explanations() {
     });
 }
 
-/// A ring has no part that is by vis alone all round.
+/// Vis alone never leads round, so that 10 refuses none of them.
 #[test]
 fn records_of_chains_pass() {
     for seed in 0..1_000 {

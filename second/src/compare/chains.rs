@@ -1,7 +1,7 @@
 //! Counts what the chains of 10 and 11 are like, and which wrong ways to find one they tell from the right one.
 
-use super::occurrences::Row;
 use super::tally::Tally;
+use super::ways::WRONG_WAYS;
 use crate::explain::{steps_to, Explanation};
 use crate::predicates::Judged;
 use crate::relations::{Pairs, Relations};
@@ -35,96 +35,6 @@ pub const TIED_LATER: &str = "equally short, but not from a";
 pub const LOWER_IS_LONGER: &str = "lower event after a, longer chain";
 pub const LATER_IS_LONGER: &str = "lower later event, longer chain";
 pub const LOWER_IS_LOST: &str = "lower event that leads away";
-
-/// A way to find a chain. Nothing where it finds none.
-type Way = fn(&Relations, usize, usize) -> Option<Vec<usize>>;
-
-/// Wrong ones. A record counts by the predicate whose chain is another by one of them.
-pub const WRONG_WAYS: [(&str, Way); 7] = [
-    ("tells: highest next event", |relations, a, b| walk(&relations.step, a, b, |nearer| nearer.max())),
-    ("tells: lowest from the end", |relations, a, b| from_the_end(&relations.step, a, b)),
-    ("tells: first chain by depth", |relations, a, b| by_depth(&relations.step, a, b)),
-    ("tells: any step of hb", |relations, a, b| shortest(&relations.hb, a, b)),
-    ("tells: rb at all sites", |relations, a, b| shortest(&either(&relations.rb, &relations.vis), a, b)),
-    ("tells: no step by so", |relations, a, b| shortest(&relations.vis, a, b)),
-    ("tells: no step by vis", |relations, a, b| shortest(&relations.so, a, b)),
-];
-
-const BOTH: &[u32] = &[10, 11];
-
-/// What must occur of them.
-pub const TOLD: [Row; WRONG_WAYS.len()] = {
-    let (mut rows, mut at) = ([("", BOTH); WRONG_WAYS.len()], 0);
-    while at < rows.len() {
-        rows[at].0 = WRONG_WAYS[at].0;
-        at += 1;
-    }
-    rows
-};
-
-fn either(one: &Pairs, other: &Pairs) -> Pairs {
-    Pairs::such_that(one.events(), |a, b| one.has(a, b) || other.has(a, b))
-}
-
-fn shortest(step: &Pairs, a: usize, b: usize) -> Option<Vec<usize>> {
-    walk(step, a, b, |nearer| nearer.next())
-}
-
-/// A shortest chain, each next event taken of those one step nearer to b.
-fn walk(
-    step: &Pairs,
-    a: usize,
-    b: usize,
-    take: impl Fn(&mut dyn DoubleEndedIterator<Item = usize>) -> Option<usize>,
-) -> Option<Vec<usize>> {
-    let steps = steps_to(step, b);
-    let (mut chain, mut last) = (vec![], a);
-    for left in (0..steps[a]?).rev() {
-        let nearer = |event: &usize| step.has(last, *event) && is_left(&steps, b, *event, left);
-        last = take(&mut (0..steps.len()).filter(nearer))?;
-        chain.push(last);
-    }
-    Some(chain)
-}
-
-/// So many steps are left from an event to b, none where it is b.
-fn is_left(steps: &[Option<usize>], b: usize, event: usize, left: usize) -> bool {
-    if left == 0 {
-        event == b
-    } else {
-        steps[event] == Some(left)
-    }
-}
-
-/// Each event before b in turn the lowest, and not each one after a.
-fn from_the_end(step: &Pairs, a: usize, b: usize) -> Option<Vec<usize>> {
-    let back = Pairs::such_that(step.events(), |from, to| step.has(to, from));
-    let mut events = shortest(&back, b, a)?;
-    events.pop();
-    events.reverse();
-    events.push(b);
-    Some(events)
-}
-
-/// The lowest next event where none has been yet, and back where there is none.
-fn by_depth(step: &Pairs, a: usize, b: usize) -> Option<Vec<usize>> {
-    let mut been = vec![false; step.events()];
-    let mut chain = vec![];
-    loop {
-        let last = chain.last().copied().unwrap_or(a);
-        if step.has(last, b) {
-            chain.push(b);
-            return Some(chain);
-        }
-        match (0..been.len()).find(|&event| step.has(last, event) && !been[event]) {
-            Some(event) => {
-                been[event] = true;
-                chain.push(event);
-            }
-            None => chain.pop().map(drop)?,
-        }
-    }
-}
 
 /// Of a predicate that is 10 or 11.
 pub fn chain(judged: &Judged, predicate: u32, explanation: &Explanation, tally: &mut Tally) {

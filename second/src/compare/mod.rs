@@ -22,6 +22,7 @@ pub mod returned;
 pub mod states;
 pub mod subject;
 pub mod tally;
+pub mod ways;
 
 use std::time::{Duration, Instant};
 use tally::Tally;

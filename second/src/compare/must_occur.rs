@@ -1,15 +1,15 @@
 //! What each comparer must meet in a run: one list for each, of all the answers that its subject can give.
 
 use super::answered::*;
-use super::chains::{self, *};
+use super::chains::*;
 use super::clocks::*;
 use super::covers::APART;
 use super::explain::{NO_PREDICATE_ELSE, TOO_SHORT};
 use super::middles::*;
 use super::occurrences::Row;
 use super::opened::*;
-use super::returned;
 use super::states::*;
+use super::{returned, ways};
 
 /// The numbers of predicates, and of models.
 const THIRTEEN: &[u32] = &[1, 2, 3, 4, 5, 6, 7, 8, 9, 10, 11, 12, 13];
@@ -176,7 +176,7 @@ pub const CHAINS: &[Row] = &[
 ];
 
 /// And which wrong ways they tell.
-pub const CHAINS_TOLD: &[Row] = &chains::TOLD;
+pub const CHAINS_TOLD: &[Row] = &ways::TOLD;
 
 /// 5 has a read as its later event, 8 writes as both.
 pub const MIDDLES: &[Row] = &[
