@@ -7,6 +7,7 @@ use Rattle.rows.specs.Count.{sum}
 use Rattle.rows.specs.Row.{digit, bitOf}
 use Rattle.rows.specs.Octets.{hasByte, little}
 use Rattle.rows.specs.Relation.{via, reaches}
+use Rattle.rows.specs.Shortest.{leads, distance, stepsFrom, shortestChain}
 use Rattle.record.specs.Layout.{zeros, same}
 use Rattle.record.specs.Terms.{openingIn, openingsRight}
 use Rattle.record.specs.Blocks.{sumA, sumB, blockRight}
@@ -19,14 +20,16 @@ use Rattle.consistency.specs.Relations.{ss, ob, rb, so, ar, step, hb, through}
 use Rattle.consistency.specs.Reads.{candidate, lastBelow, lastWrite, expected, wrongRead, wrong}
 use Rattle.consistency.specs.Predicates.{rule, breaks, verdict, numbered}
 use Rattle.consistency.specs.Models.{firstBroken}
+use Rattle.consistency.specs.Explained.{middleOf, toldBy}
 use Rattle.judge.specs.Judgments.{judgedList, judged, predicateJudgment, packedJudgments}
+use Rattle.explain.specs.Explanations.{explainedRecord, explanation}
 use Rattle.store.specs.Calls.{callAt, callsFrom, callsOf}
 use Rattle.store.specs.Rules.{reached, refusal, copiesOf, allCopies, afterCopy, afterCopies, copied, effect, afterCall, run, total, doneAnswer, answer, answers}
 use Rattle.store.specs.Outstanding.{outstanding, puts, toldDone, toldCopies}
 use Rattle.store.specs.Recorded.{rank, recorded, storeRecord}
 use Rattle.store.specs.Rehearsal.{rehearsalRefusal, storeAfter, recordOf}
 use Rattle.record.specs.Listed.{member, historyOfEvents}
-use Rattle.edges.specs.Cases.{Case, right, allRight, ofEmpty, ofRing, ofHistories, ofClocks, ofLargest, ofListing, ofDeliveries, ofCloses, ofCopies, ofBlock0, ofZeros, ofLacking, ofDifference, ofExceeded, ofSecond, ofPast, ofFirst, ofOpenings, ofRefusals, edges}
+use Rattle.edges.specs.Cases.{Case, right, allRight, ofEmpty, ofRing, ofHistories, ofBreaks, ofClocks, ofLargest, ofListing, ofDeliveries, ofCloses, ofCopies, ofBlock0, ofZeros, ofLacking, ofDifference, ofExceeded, ofSecond, ofPast, ofFirst, ofOpenings, ofRefusals, edges}
 
 also : (l m : List Case) → allRight l ≡ true → allRight m ≡ true → allRight (l ++ m) ≡ true
 unfolding allRight
@@ -39,7 +42,7 @@ also (c ∷ l) m e f = go (right c) (allRight l) (allRight (l ++ m)) e (λ g. al
 
 -- the test of a part: to unfold it is to unfold all that the cases ask
 unfoldable test : List Case → Bool
-unfolding searchFrom lowest some sum digit bitOf hasByte little via reaches zeros same sumA sumB blockRight historyOf vis placeRight valueRight timesRight gapsRight eventRight tailRight slotRight lengthRight openingIn openingsRight termsRight headerRight blocksRight wrongPosition wrongSet onRing byteQuestions setQuestions questions littleBytes bits setBytes slotBytes figureBytes openingBytes termsBytes withTerms withSlots sealed unsealed recordBytes firstLeft first ss ob rb so ar step hb through candidate lastBelow lastWrite expected wrongRead wrong rule breaks verdict numbered firstBroken judgedList judged predicateJudgment packedJudgments callAt callsFrom callsOf reached refusal copiesOf allCopies afterCopy afterCopies copied effect afterCall run total doneAnswer answer answers rank recorded storeRecord rehearsalRefusal storeAfter recordOf outstanding puts toldDone toldCopies member historyOfEvents right allRight
+unfolding searchFrom lowest some sum leads distance stepsFrom shortestChain digit bitOf hasByte little via reaches zeros same sumA sumB blockRight historyOf vis placeRight valueRight timesRight gapsRight eventRight tailRight slotRight lengthRight openingIn openingsRight termsRight headerRight blocksRight wrongPosition wrongSet onRing byteQuestions setQuestions questions littleBytes bits setBytes slotBytes figureBytes openingBytes termsBytes withTerms withSlots sealed unsealed recordBytes firstLeft first ss ob rb so ar step hb through candidate lastBelow lastWrite expected wrongRead wrong rule breaks verdict numbered firstBroken judgedList judged predicateJudgment packedJudgments middleOf toldBy explainedRecord explanation callAt callsFrom callsOf reached refusal copiesOf allCopies afterCopy afterCopies copied effect afterCall run total doneAnswer answer answers rank recorded storeRecord rehearsalRefusal storeAfter recordOf outstanding puts toldDone toldCopies member historyOfEvents right allRight
 test cs = allRight cs
 
 empty-hold : allRight ofEmpty ≡ true
@@ -53,6 +56,10 @@ ring-hold = refl
 histories-hold : allRight ofHistories ≡ true
 unfolding test
 histories-hold = refl
+
+breaks-hold : allRight ofBreaks ≡ true
+unfolding test
+breaks-hold = refl
 
 clocks-hold : allRight ofClocks ≡ true
 unfolding test
@@ -123,6 +130,7 @@ edges-hold =
     also ofEmpty _ empty-hold
     (also ofRing _ ring-hold
     (also ofHistories _ histories-hold
+    (also ofBreaks _ breaks-hold
     (also ofClocks _ clocks-hold
     (also ofLargest _ largest-hold
     (also ofListing _ listing-hold
@@ -137,4 +145,4 @@ edges-hold =
     (also ofSecond _ second-hold
     (also ofPast _ past-hold
     (also ofFirst _ first-hold
-    (also ofOpenings ofRefusals openings-hold refusals-hold)))))))))))))))))
+    (also ofOpenings ofRefusals openings-hold refusals-hold))))))))))))))))))

@@ -14,6 +14,7 @@ use Rattle.consistency.specs.Relations.{rb}
 use Rattle.consistency.specs.Predicates.{numbered, verdict}
 use Rattle.judge.specs.Judgments.{predicateJudgment, packedJudgment, packedJudgments}
 use Rattle.judge.specs.Lists.{packedVerdict}
+use Rattle.explain.specs.Explanations.{eventsTold, explanation, packedExplanation}
 use Rattle.store.specs.Store.{fresh}
 use Rattle.store.specs.Calls.{callsOf}
 use Rattle.store.specs.Rules.{deliveries, copiesByCloses, answers}
@@ -38,6 +39,10 @@ pub data Case : Type 0 where
   -- what a judging call answers of a record's bytes, all questions asked, as the host's number: for a predicate, and for all thirteen
   ruled : (s : List ℕ) (predicate answer : ℕ) → Case
   thirteen : (s : List ℕ) (numbers : List ℕ) → Case
+  -- the events that are told of a predicate's break in a history, none where it is met
+  told : (h : History) (predicate : ℕ) (events : List ℕ) → Case
+  -- what an explaining call with so many words and entries answers of a record's bytes, as the host's number
+  explainedBy : (s : List ℕ) (words entries predicate answer : ℕ) → Case
   -- the answer of call k of a script from these openings, all eight bytes
   answeredFrom : (openings : List ℕ) (sites : ℕ) (script : List ℕ) (k : ℕ) (answer : List ℕ) → Case
   -- the number that refuses a rehearsal, or 0; room and answers are the bytes of its record and answer buffers
@@ -51,15 +56,17 @@ right (before h a b answer) = cond answer (rb h a b) (not (rb h a b))
 right (decided h p answer) = eqb (packedVerdict (verdict (numbered p) h)) answer
 right (ruled s p answer) = eqb (packedJudgment (predicateJudgment (editionOf s) 1024 p s)) answer
 right (thirteen s numbers) = same (packedJudgments (editionOf s) 1024 13 s) numbers
+right (told h p events) = same (eventsTold (numbered p) h (verdict (numbered p) h)) events
+right (explainedBy s words entries p answer) = eqb (packedExplanation (explanation (editionOf s) words entries p s)) answer
 right (answeredFrom openings n script k answer) = same (take 8 (drop (8 * k) (answers n (fresh (termsOf openings)) (callsOf script)))) answer
 right (admitted openings n script room answers number) = eqb (rehearsalRefusal n openings script (replicate room 0) (replicate answers 0)) number
 right (counted n script put delivered closed left) =
     same (puts (storeAfter n noOpenings script) ∷ deliveries n (fresh (termsOf noOpenings)) (callsOf script) ∷ copiesByCloses n (fresh (termsOf noOpenings)) (callsOf script) ∷ []) (put ∷ delivered ∷ closed ∷ [])
-    && (same (told 1 ∷ told 3 ∷ toldCopies script (answers n (fresh (termsOf noOpenings)) (callsOf script)) ∷ []) (put ∷ delivered ∷ closed ∷ [])
+    && (same (by 1 ∷ by 3 ∷ toldCopies script (answers n (fresh (termsOf noOpenings)) (callsOf script)) ∷ []) (put ∷ delivered ∷ closed ∷ [])
     && eqb (outstanding n (storeAfter n noOpenings script)) left)
   where
-    told : ℕ → ℕ
-    told kind = toldDone kind script (answers n (fresh (termsOf noOpenings)) (callsOf script))
+    by : ℕ → ℕ
+    by kind = toldDone kind script (answers n (fresh (termsOf noOpenings)) (callsOf script))
 
 -- with no openings
 abbrev answered : ℕ → List ℕ → ℕ → List ℕ → Case
@@ -153,6 +160,39 @@ foresight =
     historyOfEvents
     (event aWrite 0 0 (value 1) 0 (returned 0 1) (1 ∷ [])
     ∷ event aWrite 0 0 (value 2) 1 (returned 2 3) []
+    ∷ [])
+
+-- ---- breaks that are told
+
+-- from 0 to 4 the two shortest ways go by 2 and by 3; by 1 there is a longer one
+abbrev twoWays : History
+twoWays =
+    historyOfEvents
+    (event aWrite 0 0 (value 1) 0 (returned 0 1) []
+    ∷ event aRead 1 0 (value 1) 1 (returned 0 1) (0 ∷ [])
+    ∷ event aRead 2 0 (value 1) 2 (returned 0 1) (0 ∷ 1 ∷ [])
+    ∷ event aRead 3 0 (value 1) 3 (returned 0 1) (0 ∷ [])
+    ∷ event aRead 4 0 none 4 (returned 0 1) (2 ∷ 3 ∷ [])
+    ∷ [])
+
+-- 2 saw 0, then 3 at its site, which 1 saw
+abbrev byASite : History
+byASite =
+    historyOfEvents
+    (event aWrite 0 0 (value 1) 0 (returned 0 1) []
+    ∷ event aRead 2 0 none 3 (returned 9 9) (3 ∷ [])
+    ∷ event aRead 1 0 (value 1) 1 (returned 2 3) (0 ∷ [])
+    ∷ event aRead 1 0 none 2 (returned 4 5) []
+    ∷ [])
+
+-- reads 1 and 2 of site 1 see write 0, and its read 3, the latest, does not
+abbrev twoMiddles : History
+twoMiddles =
+    historyOfEvents
+    (event aWrite 0 0 (value 7) 0 (returned 0 1) []
+    ∷ event aRead 1 0 (value 7) 2 (returned 4 5) (0 ∷ [])
+    ∷ event aRead 1 0 (value 7) 1 (returned 2 3) (0 ∷ [])
+    ∷ event aRead 1 0 none 3 (returned 6 7) []
     ∷ [])
 
 -- ---- calls
@@ -269,6 +309,26 @@ ofHistories =
     ∷ decided forgetful 9 met
     ∷ decided forgetful 5 (broken 0 2)
     ∷ decided foresight 10 (broken 0 0)
+    ∷ []
+
+-- a shortest chain, and of two the one with the lower event; steps of so among those of vis; a ring; the lowest middle event; the pair's second alone;
+-- nothing. Then the questions, each asked where the next would get a no too
+abbrev pub ofBreaks : List Case
+ofBreaks =
+    told twoWays 10 (2 ∷ 4 ∷ [])
+    ∷ told byASite 10 (2 ∷ 3 ∷ 1 ∷ [])
+    ∷ told foresight 10 (1 ∷ 0 ∷ [])
+    ∷ told foresight 11 (1 ∷ 0 ∷ [])
+    ∷ told twoMiddles 5 (1 ∷ 3 ∷ [])
+    ∷ told byASite 9 (3 ∷ [])
+    ∷ told forgetful 9 []
+    ∷ explainedBy [] 1023 0 0 (refused 1 0)
+    ∷ explainedBy [] 1024 0 0 (refused 2 0)
+    ∷ explainedBy [] 1024 0 14 (refused 2 0)
+    ∷ explainedBy [] 1024 255 13 (refused 41 0)
+    ∷ explainedBy [] 1024 256 13 (refused 3 0)
+    ∷ explainedBy (recordBytes gcr1 1 noEvents) 1024 256 1 (refused 42 0)
+    ∷ explainedBy (recordBytes gcr1 1 noEvents) 1024 255 1 (refused 41 0)
     ∷ []
 
 -- whether event 0 is rb before event 1 on a difference of clocks, and with that 3 and 4, which are broken where it is
@@ -427,4 +487,4 @@ ofRefusals =
 
 -- the table, in parts that the checker computes one by one
 abbrev pub edges : List Case
-edges = ofEmpty ++ (ofRing ++ (ofHistories ++ (ofClocks ++ (ofLargest ++ (ofListing ++ (ofDeliveries ++ (ofCloses ++ (ofCopies ++ (ofBlock0 ++ (ofZeros ++ (ofLacking ++ (ofDifference ++ (ofExceeded ++ (ofSecond ++ (ofPast ++ (ofFirst ++ (ofOpenings ++ ofRefusals)))))))))))))))))
+edges = ofEmpty ++ (ofRing ++ (ofHistories ++ (ofBreaks ++ (ofClocks ++ (ofLargest ++ (ofListing ++ (ofDeliveries ++ (ofCloses ++ (ofCopies ++ (ofBlock0 ++ (ofZeros ++ (ofLacking ++ (ofDifference ++ (ofExceeded ++ (ofSecond ++ (ofPast ++ (ofFirst ++ (ofOpenings ++ ofRefusals))))))))))))))))))
