@@ -8,12 +8,12 @@ use lib.ListN.{replicate, length-replicate}
 use Rattle.rows.specs.Lowest.{lowest, some}
 use Rattle.rows.specs.Row.{has, orRow, onlyFirst, rowAt, Row}
 use Rattle.rows.specs.Relation.{Rel, related, Graph}
-use Rattle.rows.specs.Shortest.{leads, distance}
+use Rattle.rows.specs.Shortest.{leads, distance, nextOf}
 use Rattle.rows.proofs.Tests.{split, tell, never, same-test, or-elim, or-left, or-right, and-both, and-left, and-right, not-of}
 use Rattle.rows.proofs.LowestLaws.{lowest-hit, same-lowest, some-of, some-at, some-none, none-some, same-some, some-more}
 use Rattle.rows.proofs.RowLaws.{row-of, row-empty, row-in, row-has, row-same, row-or}
 use Rattle.rows.proofs.TableLaws.{length-row-le}
-use Rattle.rows.proofs.ShortestLaws.{leads-one, leads-before, nextOf, go-on}
+use Rattle.rows.proofs.ShortestLaws.{leads-one, leads-before, go-on}
 use Rattle.chains.specs.Near.{within}
 use Rattle.chains.proofs.JoiningLaws.{brought}
 

@@ -9,12 +9,12 @@ use lib.Seq.{take-all, length-take-le, getD-drop, drop-drop}
 use Rattle.rows.specs.Lowest.{lowest}
 use Rattle.rows.specs.Row.{has, onlyFirst, rowAt, Row}
 use Rattle.rows.specs.Relation.{Rel, reaches, related, Graph}
-use Rattle.rows.specs.Shortest.{leads, distance, stepsFrom, shortestChain}
+use Rattle.rows.specs.Shortest.{leads, distance, stepsFrom, shortestChain, nextOf}
 use Rattle.rows.proofs.Tests.{tell, never}
 use Rattle.rows.proofs.LowestLaws.{none-some}
 use Rattle.rows.proofs.RowLaws.{row-in}
 use Rattle.rows.proofs.FrontLaws.{front-more, take-more}
-use Rattle.rows.proofs.ShortestLaws.{leads-before, nextOf, from-one, from-more, from-length, Onward, go-on, reached-near, at-distance, none-nearer}
+use Rattle.rows.proofs.ShortestLaws.{leads-before, from-one, from-more, from-length, Onward, go-on, reached-near, at-distance, none-nearer}
 use Rattle.chains.specs.Near.{within, Near}
 use Rattle.chains.proofs.NearLaws.{next-on}
 

@@ -10,7 +10,7 @@ use lib.ListN.{length, getD}
 use Rattle.rows.specs.Lowest.{lowest, some}
 use Rattle.rows.specs.Count.{howMany}
 use Rattle.rows.specs.Relation.{Rel, reaches, Steps, one, more}
-use Rattle.rows.specs.Shortest.{leads, distance, stepsFrom, shortestChain, Entries, last, next, NotLater, same, lower, then, Shortest}
+use Rattle.rows.specs.Shortest.{leads, distance, nextOf, stepsFrom, shortestChain, Entries, last, next, NotLater, same, lower, then, Shortest}
 use Rattle.rows.proofs.Tests.{split, tell, never, or-elim, and-both, and-left, and-right}
 use Rattle.rows.proofs.LowestLaws.{lowest-low, same-lowest, some-of, some-at, same-some}
 use Rattle.rows.proofs.CountLaws.{many-most, sum-other, sum-each}
@@ -35,18 +35,15 @@ module _ (n : ℕ) (r : Rel) where
   abbrev onward : ℕ → ℕ → ℕ → ℕ → Bool
   onward b k a m = r a m && leads n r k m b
 
-  abbrev pub nextOf : ℕ → ℕ → ℕ → ℕ
-  nextOf b k a = lowest n (onward b k a)
-
   pub record Onward (b k a : ℕ) : Type 0 where
-    pub below : nextOf b k a < n
-    pub step : r a (nextOf b k a) ≡ true
-    pub left : leads n r k (nextOf b k a) b ≡ true
+    pub below : nextOf n r b k a < n
+    pub step : r a (nextOf n r b k a) ≡ true
+    pub left : leads n r k (nextOf n r b k a) b ≡ true
 
   pub go-on : (b k a : ℕ) → leads n r (suc k) a b ≡ true → Onward b k a
   go-on b k a e =
       let at = some-at n (onward b k a) (sym (leads-more k a b) ∙ e) in
-      let m : ℕ = nextOf b k a in
+      let m : ℕ = nextOf n r b k a in
       record { below = at .0; step = and-left (r a m) (leads n r k m b) (at .1); left = and-right (r a m) (leads n r k m b) (at .1) }
 
   -- i + 1 steps to m, and k + 1 from there
@@ -54,7 +51,7 @@ module _ (n : ℕ) (r : Rel) where
   leads-join zero k a m b l e f = let z : 0 + k ≡ k = omega arith in rw z (leads-before k a m b l (sym (leads-one a m) ∙ e) f)
   leads-join (suc i) k a m b l e f =
       let o = go-on m i a e in
-      let x : ℕ = nextOf m i a in
+      let x : ℕ = nextOf n r m i a in
       let z : suc i + k ≡ suc (i + k) = omega arith in
       rw z (leads-before (suc (i + k)) a x b (o .below) (o .step) (leads-join i k x m b l (o .left) f))
 
@@ -76,27 +73,27 @@ module _ (n : ℕ) (r : Rel) where
   unfolding stepsFrom
   from-one b a = refl
 
-  pub from-more : (b k a : ℕ) → stepsFrom n r b (suc k) a ≡ nextOf b k a ∷ stepsFrom n r b k (nextOf b k a)
+  pub from-more : (b k a : ℕ) → stepsFrom n r b (suc k) a ≡ nextOf n r b k a ∷ stepsFrom n r b k (nextOf n r b k a)
   unfolding stepsFrom
   from-more b k a = refl
 
   pub from-length : (b k a : ℕ) → length (stepsFrom n r b k a) ≡ suc k
   from-length b zero a = rw (from-one b a) refl
-  from-length b (suc k) a = rw (from-more b k a) (ap suc (from-length b k (nextOf b k a)))
+  from-length b (suc k) a = rw (from-more b k a) (ap suc (from-length b k (nextOf n r b k a)))
 
   module _ (b : ℕ) where
     from-entries : (k a : ℕ) → leads n r k a b ≡ true → Entries n r a b (stepsFrom n r b k a)
     from-entries zero a e = rw (from-one b a) (last (sym (leads-one a b) ∙ e))
     from-entries (suc k) a e =
         let o = go-on b k a e in
-        rw (from-more b k a) (next (o .step) (o .below) (from-entries k (nextOf b k a) (o .left)))
+        rw (from-more b k a) (next (o .step) (o .below) (from-entries k (nextOf n r b k a) (o .left)))
 
     from-first : (k a : ℕ) {m : List ℕ} → Entries n r a b m → length m ≡ suc k → NotLater (stepsFrom n r b k a) m
     from-first zero a (last s) e = rw (from-one b a) same
     from-first zero a (next s i c) e = absurd (omega (arith, entries-some c))
     from-first (suc k) a (last s) e = absurd (omega arith)
     from-first (suc k) a (next {m = x} {l = l} s i c) e =
-        let y : ℕ = nextOf b k a in
+        let y : ℕ = nextOf n r b k a in
         let q : onward b k a x ≡ true = and-both (r a x) (leads n r k x b) s (entries-lead c k (omega arith)) in
         rw (from-more b k a)
         (split (ltb y x)
@@ -123,14 +120,14 @@ module _ (n : ℕ) (r : Rel) where
         let o = go-on b k a e in
         rw (from-more b k a)
         (record {
-          to = leads-one a (nextOf b k a) ∙ o .step;
+          to = leads-one a (nextOf n r b k a) ∙ o .step;
           below = λ l. o .below;
           left = λ j q. let z : j ≡ k = omega arith in rw z (o .left);
           end = λ q. absurd (omega arith);
         })
     entry (suc k) a e (suc i) h =
         let o = go-on b k a e in
-        let m : ℕ = nextOf b k a in
+        let m : ℕ = nextOf n r b k a in
         let t = entry k m (o .left) i (omega arith) in
         let x : ℕ = getD (stepsFrom n r b k m) i 0 in
         rw (from-more b k a)

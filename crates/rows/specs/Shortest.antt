@@ -18,12 +18,15 @@ leads n r (suc k) a b = some n (λ m. r a m && leads n r k m b)
 unfoldable pub distance : ℕ → Rel → ℕ → ℕ → ℕ
 distance n r a b = lowest n (λ k. leads n r k a b)
 
--- the events after a, b last, of k + 1 steps from a to b: each next one the lowest to which a step leads and from which as many as are left lead to b
+-- the lowest event to which a step leads from a, and from which k + 1 steps lead to b
+abbrev pub nextOf : ℕ → Rel → ℕ → ℕ → ℕ → ℕ
+nextOf n r b k a = lowest n (λ m. r a m && leads n r k m b)
+
+-- the events after a, b last, of k + 1 steps from a to b, each next one the lowest from which the steps that are left lead to b
 unfoldable pub stepsFrom : ℕ → Rel → ℕ → ℕ → ℕ → List ℕ
 stepsFrom n r b zero a = b ∷ []
-stepsFrom n r b (suc k) a = lowest n (λ m. r a m && leads n r k m b) ∷ stepsFrom n r b k (lowest n (λ m. r a m && leads n r k m b))
+stepsFrom n r b (suc k) a = nextOf n r b k a ∷ stepsFrom n r b k (nextOf n r b k a)
 
--- of as few steps as there are
 unfoldable pub shortestChain : ℕ → Rel → ℕ → ℕ → List ℕ
 shortestChain n r a b = stepsFrom n r b (distance n r a b) a
 
