@@ -1,10 +1,13 @@
 /* Grain position records: the calls of the proved judge and rehearsal, for C and C++ hosts. The archive libgcr.a has
  * these calls. The reader's call, gcr_read, is in gcr_reader.h, which this header includes, and in the archive
  * libgcr_reader.a. What gcr_reader.h says of memory, stack, threads and answers holds here, and so do its refusals 3 to
- * 10; a judging call brings its own work slice, so 1 never refuses it. The further refusals:
+ * 10; a judging call and gcr_explain bring their own work slice, so 1 never refuses them. The further refusals:
  *
  *   Asked before 3
  *    2  the predicate or model number is not 1 to 13
+ *   Asked of an explanation, 41 after 2 and 42 after 10
+ *   41  the slice of events has fewer than 256 entries
+ *   42  the predicate is met
  *   Asked of a rehearsal, in this order
  *   20  the sites are not 1 to 8
  *   21  the script is not a multiple of 8 bytes, or is longer than 32,768
@@ -28,9 +31,10 @@
 extern "C" {
 #endif
 
-#define GCR_PREDICATES 13     /* the words that gcr_judge_all writes at most */
-#define GCR_SCRIPT_MOST 32768 /* bytes of the longest script */
-#define GCR_CALL_BYTES 8      /* bytes of a script's call, and of its answer */
+#define GCR_PREDICATES 13       /* the words that gcr_judge_all writes at most */
+#define GCR_EXPLAIN_ENTRIES 256 /* the entries that gcr_explain asks for, and writes at most */
+#define GCR_SCRIPT_MOST 32768   /* bytes of the longest script */
+#define GCR_CALL_BYTES 8        /* bytes of a script's call, and of its answer */
 
 /* The kinds of call, in byte 0. Bytes that a line does not name are 0; numbers have their lowest byte first. */
 #define GCR_PUT 1     /* byte 1 the site, byte 2 the object, bytes 4-7 the value */
@@ -38,7 +42,7 @@ extern "C" {
 #define GCR_DELIVER 3 /* byte 1 the site that the put is delivered to, bytes 4-5 the event that the put became */
 #define GCR_CLOSE 4   /* bytes 1-7 are 0; delivers to each site every put that it lacks, and only 31 refuses it */
 
-#define GCR_JUDGE_STACK_BYTES 131072    /* stack for any of the three judging calls */
+#define GCR_JUDGE_STACK_BYTES 131072    /* stack for any of the three judging calls and gcr_explain */
 #define GCR_REHEARSE_STACK_BYTES 131072 /* stack for gcr_rehearse */
 
 /* Judges a model, 1 to 13, of a record.
@@ -62,6 +66,20 @@ uint64_t gcr_judge_predicate(uint32_t predicate, const uint8_t *record, size_t l
  * This holds where the record is refused too: then each of these words is the refusal, and none is met. Later words
  * never change. */
 uint64_t gcr_judge_all(const uint8_t *record, size_t len, uint64_t *out, size_t words);
+
+/* Tells what happened where a predicate, 1 to 13, is broken. With (a, b) the pair that gcr_judge_predicate answers for
+ * it, the events after a are written to the front of `events`, b last:
+ *   10, 11  a chain of steps from a to b. A step leads from an event to one of its site that started after its return
+ *           (session order), or to one that sees it. No chain from a to b has fewer steps; of those with as many, the
+ *           event after a is the lowest possible, then the one after that, and so on. Where a is b, the chain is a
+ *           ring: one step or more, and a last
+ *   5, 8    the lowest middle event, then b. It is a read of b's site that sees a and returned before b started
+ *   others  b alone
+ * Answer: how many entries were written, 1 to 256; 2,097,152 + 1,024 * number + place refused. The questions are 2,
+ * then 41, then 3 to 10, then 42, and the place is 0 but for 4 and 7 to 10. 41 asks for 256 entries however few there
+ * are to write; 42 refuses exactly where gcr_judge_predicate answers met.
+ * `events` afterwards: the entries beyond those written stay, and where it was refused all of them do. */
+uint64_t gcr_explain(uint32_t predicate, const uint8_t *record, size_t len, uint16_t *events, size_t entries);
 
 /* Runs a script over a store of `sites` sites and writes the record of what happened, in edition GCR2.
  * `openings` are the figures that the objects start with at every site: GCR_OPENINGS_BYTES bytes as gcr_reader.h says,
@@ -93,7 +111,7 @@ static inline int gcr_set_opening(uint8_t *openings, uint32_t object, uint32_t v
 
 /* Of what gcr_judge_model and gcr_judge_predicate answer, and of the words that gcr_judge_all writes: whether it is met
  * or broken (or refused: gcr_is_refused), and of a break the pair's events. Not for the answers of gcr_judge_all and
- * gcr_read, which have found nothing. */
+ * gcr_read, which have found nothing, nor for that of gcr_explain. */
 static inline int gcr_is_met(uint64_t answer) { return answer == 0; }
 static inline int gcr_is_broken(uint64_t answer) { return answer >> 20 == 1; }
 static inline uint32_t gcr_broken_a(uint64_t answer) { return (uint32_t)(answer >> 10 & 1023); }
@@ -101,6 +119,9 @@ static inline uint32_t gcr_broken_b(uint64_t answer) { return (uint32_t)(answer 
 
 /* Of what gcr_judge_all answers: whether the record was judged; else it was refused. */
 static inline int gcr_is_judged(uint64_t answer) { return answer == 0; }
+
+/* Of what gcr_explain answers: the entries written, 0 where it was refused (see gcr_is_refused). */
+static inline size_t gcr_explained_count(uint64_t answer) { return gcr_is_refused(answer) ? 0 : (size_t)answer; }
 
 /* Of what gcr_rehearse answers: what refused it, or 0; the record's bytes; the copies outstanding, at most 1,792. */
 static inline uint32_t gcr_rehearsed_number(uint64_t answer) { return (uint32_t)(answer & 255); }

@@ -6,7 +6,7 @@
  *
  * MEMORY. The caller owns every buffer. A call looks at them only while it runs, keeps no pointer and allocates
  * nothing. No pointer may be NULL, also where its length is 0, and a buffer that a call writes may not overlap another
- * buffer of that call. A length counts elements: bytes, or 64-bit words where the pointer is one to words.
+ * buffer of that call. A length counts elements: bytes, or the 64-bit words or 16-bit entries that the pointer is to.
  *
  * STACK. A call's work memory is on the calling thread's stack. A constant beside the call says how many bytes of it
  * are enough, which is more than was measured (bindings/README.md); what a signal handler takes comes on top.
@@ -56,7 +56,8 @@ uint64_t gcr_read(const uint8_t *record, size_t len, uint64_t *work, size_t word
 /* Of what gcr_read answers: whether the record passed every question. */
 static inline int gcr_is_passed(uint64_t answer) { return answer == 0; }
 
-/* Of what gcr_read or a judging call answers: whether it is a refusal, and of a refusal its number and place. */
+/* Of what gcr_read, a judging call or gcr_explain answers: whether it is a refusal, and of a refusal its number and
+ * place. */
 static inline int gcr_is_refused(uint64_t answer) { return answer >> 20 > 1; }
 static inline uint32_t gcr_refused_number(uint64_t answer) { return (uint32_t)(answer >> 10 & 1023); }
 static inline uint32_t gcr_refused_place(uint64_t answer) { return (uint32_t)(answer & 1023); }

@@ -1,4 +1,5 @@
-/* Holds the headers' unpacking against a small rehearsal, and what gcr_judge_all writes against gcr_judge_predicate.
+/* Holds the headers' unpacking against a small rehearsal, and what gcr_judge_all and gcr_explain write against
+ * gcr_judge_predicate.
  * Names each check that fails; exits with 0 where none does. */
 #include "gcr.h"
 #include <stdio.h>
@@ -7,6 +8,7 @@
 #define CALLS 12    /* of the rehearsal's script */
 #define LENGTH 1024 /* bytes of the rehearsal's record */
 #define ROOM 15     /* words lent to gcr_judge_all: two more than it writes */
+#define ENTRIES 258 /* entries lent to gcr_explain: two more than it writes */
 #define STAYS 7     /* what they hold before */
 
 static uint8_t record[GCR_RECORD_MOST];
@@ -176,6 +178,58 @@ static int every_length_is_right(size_t len) {
     return all_is_right(len, 0) && all_is_right(len, 5) && all_is_right(len, GCR_PREDICATES) && all_is_right(len, ROOM);
 }
 
+/* The answer of gcr_explain, where it wrote just the entries that it counts: no event of the record is STAYS. Else 0,
+ * which it never answers. */
+static uint64_t explained(uint32_t predicate, size_t len, uint16_t *events, size_t entries) {
+    for (size_t i = 0; i < ENTRIES; i++)
+        events[i] = STAYS;
+    uint64_t answer = gcr_explain(predicate, record, len, events, entries);
+    for (size_t i = 0; i < ENTRIES; i++)
+        if ((events[i] != STAYS) != (i < gcr_explained_count(answer)))
+            return 0;
+    return answer;
+}
+
+/* A met predicate is refused by 42. This record's broken ones are told by b alone. */
+static int explanation_is_right(uint32_t predicate, size_t entries) {
+    uint16_t events[ENTRIES];
+    uint64_t found = gcr_judge_predicate(predicate, record, LENGTH);
+    uint64_t answer = explained(predicate, LENGTH, events, entries);
+    if (gcr_is_met(found))
+        return gcr_is_refused(answer) && gcr_refused_number(answer) == 42 && gcr_refused_place(answer) == 0;
+    return gcr_is_broken(found) && !gcr_is_refused(answer) && gcr_explained_count(answer) == 1 &&
+           events[0] == gcr_broken_b(found);
+}
+
+/* Of all predicates, over slices that are long enough. At least one is broken. */
+static int explanations_are_right(void) {
+    int right = gcr_is_broken(gcr_judge_predicate(2, record, LENGTH));
+    for (uint32_t p = 1; p <= GCR_PREDICATES; p++)
+        right &= explanation_is_right(p, GCR_EXPLAIN_ENTRIES) && explanation_is_right(p, ENTRIES);
+    return right;
+}
+
+static int is_not_explained(uint32_t predicate, size_t len, size_t entries, uint32_t number) {
+    uint16_t events[ENTRIES];
+    uint64_t answer = explained(predicate, len, events, entries);
+    return gcr_is_refused(answer) && gcr_refused_number(answer) == number && gcr_refused_place(answer) == 0 &&
+           gcr_explained_count(answer) == 0;
+}
+
+/* At the ends of its range, and of the two refusals that nothing else has. */
+static int count_is_right(void) {
+    uint64_t refused = UINT64_C(2097152);
+    return gcr_explained_count(1) == 1 && gcr_explained_count(256) == GCR_EXPLAIN_ENTRIES &&
+           gcr_explained_count(refused + 41 * 1024) == 0 && gcr_explained_count(refused + 42 * 1024) == 0;
+}
+
+/* 2 before 41, 41 before what refuses the record, and that before 42: predicate 10 is met where it is judged. */
+static int explanations_are_refused(void) {
+    return is_not_explained(0, 1000, 0, 2) && is_not_explained(14, LENGTH, ENTRIES, 2) &&
+           is_not_explained(10, 1000, 0, 41) && is_not_explained(10, LENGTH, GCR_EXPLAIN_ENTRIES - 1, 41) &&
+           is_not_explained(10, 1000, GCR_EXPLAIN_ENTRIES, 3) && is_not_explained(10, LENGTH, GCR_EXPLAIN_ENTRIES, 42);
+}
+
 /* 1 where the check failed, with its name written. */
 static int wrong(const char *name, int right) {
     if (!right)
@@ -192,5 +246,8 @@ int main(void) {
     failed += wrong("a refusal", refusal_is_right());
     failed += wrong("gcr_judge_all of a record that passes", every_length_is_right(LENGTH));
     failed += wrong("gcr_judge_all of a refused record", every_length_is_right(1000));
+    failed += wrong("an explanation", explanations_are_right());
+    failed += wrong("a count of entries", count_is_right());
+    failed += wrong("a refusal to explain", explanations_are_refused());
     return failed != 0;
 }

@@ -48,33 +48,48 @@ static void rehearse(uint32_t sites, const uint8_t *calls, size_t len, uint8_t *
                  sizeof answers);
 }
 
-/* 256 puts at one site. */
-static void one_site(uint8_t *record) {
-    static uint8_t puts[EVENTS * GCR_CALL_BYTES];
-    for (size_t at = 0; at < sizeof puts; at += GCR_CALL_BYTES)
-        puts[at] = GCR_PUT;
-    rehearse(1, puts, sizeof puts, record);
+/* 256 events at one site: puts, and in turn with them calls of another kind. */
+static void one_site(uint8_t other, uint8_t *record) {
+    static uint8_t calls[EVENTS * GCR_CALL_BYTES];
+    for (size_t at = 0; at < sizeof calls; at += 2 * GCR_CALL_BYTES) {
+        calls[at] = GCR_PUT;
+        calls[at + GCR_CALL_BYTES] = other;
+    }
+    rehearse(1, calls, sizeof calls, record);
 }
 
 static uint8_t *slot(uint8_t *record, size_t event) {
     return record + BLOCK * (1 + event / SLOTS) + SLOT * (event % SLOTS);
 }
 
-/* Event 255 starts first, and event 0 last. */
-static void turn_times(uint8_t *record) {
-    for (size_t event = 0; event < EVENTS; event++) {
-        size_t start = 2 * (EVENTS - 1 - event);
-        uint8_t *at = slot(record, event);
-        at[16] = (uint8_t)start;
-        at[17] = (uint8_t)(start >> 8);
-        at[24] = (uint8_t)(start + 1);
-        at[25] = (uint8_t)((start + 1) >> 8);
-    }
-}
-
 static void store(uint8_t *at, uint32_t number) {
     at[0] = (uint8_t)number;
     at[1] = (uint8_t)(number >> 8);
+}
+
+/* Times below 65,536, as a rehearsal of 256 events has them too. */
+static void set_times(uint8_t *slot, uint32_t start, uint32_t end) {
+    store(slot + 16, start);
+    store(slot + 24, end);
+}
+
+/* Event 255 starts first, and event 0 last. */
+static void turn_times(uint8_t *record) {
+    for (uint32_t event = 0; event < EVENTS; event++) {
+        uint32_t start = 2 * (EVENTS - 1 - event);
+        set_times(slot(record, event), start, start + 1);
+    }
+}
+
+/* An event sees the one before it alone. All overlap in time, but event 255 returns before event 0 starts. */
+static void lay_ring(uint8_t *record) {
+    for (size_t event = 0; event < EVENTS; event++) {
+        uint8_t *at = slot(record, event);
+        memset(at + 32, 0, 32);
+        if (event > 0)
+            at[32 + (event - 1) / 8] = (uint8_t)(1 << (event - 1) % 8);
+        set_times(at, event == 0 ? 2 : 0, event == EVENTS - 1 ? 1 : 2);
+    }
 }
 
 /* The block's check, after its bytes were changed. */
@@ -96,11 +111,13 @@ static void seal_all(uint8_t *record) {
 static void make_records(void) {
     rehearse(LARGEST_SITES, largest_script(), GCR_SCRIPT_MOST, records[0]);
     for (size_t k = 1; k < 4; k++)
-        one_site(records[k]);
+        one_site(GCR_PUT, records[k]);
     turn_times(records[2]);
     slot(records[3], 0)[32 + 31] = 128;
     memcpy(records[4], records[0], GCR_RECORD_MOST);
     records[4][GCR_DIFFERENCE_AT] = 100;
+    one_site(GCR_GET, records[5]);
+    lay_ring(records[5]);
     for (size_t k = 2; k < LARGEST_RECORDS; k++)
         seal_all(records[k]);
 }

@@ -5,7 +5,7 @@
 #include "gcr.h"
 
 #define LARGEST_SITES 8
-#define LARGEST_RECORDS 5
+#define LARGEST_RECORDS 6
 
 /* An opening for each of the 32 objects. */
 const uint8_t *largest_openings(void);
@@ -18,7 +18,8 @@ const uint8_t *largest_script(void);
  *   1  one site's 256 events, each of which sees all before it
  *   2  record 1 with the times turned round, so that every event leads to itself by site order and visibility
  *   3  record 1 with event 0 seeing event 255: refused by question 10
- *   4  record 0 by clocks that may differ by 100 ms */
+ *   4  record 0 by clocks that may differ by 100 ms
+ *   5  one site's puts and gets in turn, of which event 0 leads to itself by no way but through all the others */
 const uint8_t *largest_record(size_t k);
 
 #endif

@@ -40,6 +40,12 @@ static void judge_all(const void *input) {
     gcr_judge_all(asked->record, GCR_RECORD_MOST, out, GCR_PREDICATES);
 }
 
+static void explain(const void *input) {
+    static uint16_t events[GCR_EXPLAIN_ENTRIES];
+    const struct asked *asked = input;
+    gcr_explain(asked->number, asked->record, GCR_RECORD_MOST, events, GCR_EXPLAIN_ENTRIES);
+}
+
 static void rehearse(const void *script) {
     static uint8_t record[GCR_RECORD_MOST], answers[GCR_SCRIPT_MOST];
     gcr_rehearse(LARGEST_SITES, largest_openings(), GCR_OPENINGS_BYTES, script, GCR_SCRIPT_MOST, record, sizeof record,
@@ -51,6 +57,7 @@ static const struct call calls[] = {
     {"gcr_judge_model", judge_model, 13, GCR_JUDGE_STACK_BYTES},
     {"gcr_judge_predicate", judge_predicate, 13, GCR_JUDGE_STACK_BYTES},
     {"gcr_judge_all", judge_all, 1, GCR_JUDGE_STACK_BYTES},
+    {"gcr_explain", explain, 13, GCR_JUDGE_STACK_BYTES},
 };
 
 /* The most that a call takes over all records and numbers. */
@@ -78,8 +85,15 @@ static int first_call_kept(void) {
     return kept("gcr_read, at first", stack_used(read_record, &asked), GCR_READ_STACK_BYTES);
 }
 
+/* Whether so many entries are written of a predicate of record 5. */
+static int is_explained_by(uint32_t predicate, size_t count) {
+    uint16_t events[GCR_EXPLAIN_ENTRIES];
+    uint64_t answer = gcr_explain(predicate, largest_record(5), GCR_RECORD_MOST, events, GCR_EXPLAIN_ENTRIES);
+    return gcr_explained_count(answer) == count;
+}
+
 /* The records take the long ways: three that are met, of which one has clocks that differ, a break of predicate 10 at
- * (0, 0), and a ring. */
+ * (0, 0), and a ring. The last is explained in each of the three ways, two of them by all events. */
 static int inputs_are_right(void) {
     uint64_t turned = gcr_judge_predicate(10, largest_record(2), GCR_RECORD_MOST);
     uint64_t ring = gcr_judge_predicate(10, largest_record(3), GCR_RECORD_MOST);
@@ -87,7 +101,8 @@ static int inputs_are_right(void) {
            gcr_is_met(gcr_judge_model(4, largest_record(4), GCR_RECORD_MOST)) && gcr_difference(largest_record(4)) &&
            gcr_is_met(gcr_judge_model(1, largest_record(1), GCR_RECORD_MOST)) && gcr_is_broken(turned) &&
            gcr_broken_a(turned) == 0 && gcr_broken_b(turned) == 0 && gcr_is_refused(ring) &&
-           gcr_refused_number(ring) == 10;
+           gcr_refused_number(ring) == 10 && is_explained_by(10, GCR_EXPLAIN_ENTRIES) &&
+           is_explained_by(11, GCR_EXPLAIN_ENTRIES) && is_explained_by(8, 2) && is_explained_by(9, 1);
 }
 
 int main(void) {

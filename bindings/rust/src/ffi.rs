@@ -6,13 +6,14 @@
 //! lengths only, and answers any bytes and any lengths. An answer's type is one 64-bit number. What a wrapper adds to
 //! that stands beside it.
 
-use crate::packing::{Judgment, Reading, Rehearsal};
+use crate::packing::{Explanation, Judgment, Reading, Rehearsal};
 
 extern "C" {
     fn gcr_read(record: *const u8, len: usize, work: *mut u64, words: usize) -> Reading;
     fn gcr_judge_model(model: u32, record: *const u8, len: usize) -> Judgment;
     fn gcr_judge_predicate(predicate: u32, record: *const u8, len: usize) -> Judgment;
     fn gcr_judge_all(record: *const u8, len: usize, out: *mut Judgment, words: usize) -> Reading;
+    fn gcr_explain(predicate: u32, record: *const u8, len: usize, events: *mut u16, entries: usize) -> Explanation;
     fn gcr_rehearse(
         sites: u32,
         openings: *const u8,
@@ -46,6 +47,12 @@ pub fn judge_all(record: &[u8], out: &mut [Judgment]) -> Reading {
     unsafe { gcr_judge_all(record.as_ptr(), record.len(), out.as_mut_ptr(), out.len()) }
 }
 
+pub fn explain(predicate: u32, record: &[u8], events: &mut [u16]) -> Explanation {
+    // SAFETY: `events` is aligned for its entries, and `entries` counts entries; a number that is no predicate is
+    // answered.
+    unsafe { gcr_explain(predicate, record.as_ptr(), record.len(), events.as_mut_ptr(), events.len()) }
+}
+
 pub fn rehearse(sites: u32, openings: &[u8], script: &[u8], record: &mut [u8], answers: &mut [u8]) -> Rehearsal {
     let (record_len, answers_len) = (record.len(), answers.len());
     // SAFETY: both buffers are `&mut`, so they are apart from each other, from the openings and from the script.
@@ -67,6 +74,7 @@ pub fn rehearse(sites: u32, openings: &[u8], script: &[u8], record: &mut [u8], a
 #[cfg(test)]
 mod tests {
     use super::*;
+    use crate::Refusal;
 
     const LISTING: &[u8] = include_bytes!("../../../records/listing.gcr");
 
@@ -99,6 +107,40 @@ mod tests {
         damaged[600] ^= 1;
         for record in [&damaged, &LISTING[..512], &[]] {
             at_every_length(record);
+        }
+    }
+
+    /// The entries that are written of a lent slice of so many, or what refuses it, with place 0. All others must stay.
+    fn explained(predicate: u32, record: &[u8], entries: usize) -> Result<Vec<u16>, u32> {
+        let mut events = vec![u16::MAX; entries];
+        let count = explain(predicate, record, &mut events).count();
+        let beyond = &events[count.unwrap_or(0)..];
+        assert!(beyond.iter().all(|&entry| entry == u16::MAX), "{predicate} over {entries}");
+        match count {
+            Ok(count) => Ok(events[..count].to_vec()),
+            Err(Refusal { number, place }) => {
+                assert_eq!(place, 0);
+                Err(number)
+            }
+        }
+    }
+
+    /// Predicate 2 of the listing is broken, and 10 is met.
+    #[test]
+    fn an_explanation_is_asked_2_then_41_then_of_its_record_then_42() {
+        for predicate in [0, 14, u32::MAX] {
+            assert_eq!(explained(predicate, &[], 0), Err(2));
+            assert_eq!(explained(predicate, LISTING, 300), Err(2));
+        }
+        for entries in [0, 1, 255] {
+            assert_eq!(explained(2, LISTING, entries), Err(41));
+            assert_eq!(explained(10, LISTING, entries), Err(41));
+            assert_eq!(explained(10, &[], entries), Err(41));
+        }
+        for entries in [256, 257, 300] {
+            assert_eq!(explained(2, LISTING, entries), Ok(vec![1]));
+            assert_eq!(explained(10, LISTING, entries), Err(42));
+            assert_eq!(explained(10, &[], entries), Err(3));
         }
     }
 }

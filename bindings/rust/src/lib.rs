@@ -25,6 +25,8 @@
 //! [`Openings`] are the figures that objects start the day with: here none has one. [`difference()`] is by how much the
 //! sites' clocks may differ, of a record that was read or judged.
 //!
+//! What led to a break is told by [`explain`]: the events after the pair's first, up to its second.
+//!
 //! A record or a script that is refused is an `Err`, of every call: no [`Verdict`] stands for it. What the calls of a
 //! script were answered is taken from its buffer by [`answers()`]: a typed [`Answer`] for each.
 //!
@@ -40,6 +42,7 @@ mod numbered;
 mod answer;
 mod call;
 mod clocks;
+mod explaining;
 #[allow(unsafe_code)]
 mod ffi;
 mod judging;
@@ -54,6 +57,7 @@ mod rehearsal;
 pub use answer::{answers, Answer};
 pub use call::{script, Call};
 pub use clocks::{difference, with_difference};
+pub use explaining::explain;
 pub use judging::{judge_all, judge_model, judge_predicate, Verdict};
 pub use model::Model;
 pub use openings::{Openings, OPENINGS_BYTES};

@@ -38,6 +38,21 @@ impl Judgment {
     }
 }
 
+/// What was told of a break: how many entries were written, 1 to 256; else refused, as a reading.
+#[repr(transparent)]
+#[derive(Clone, Copy, Debug, PartialEq, Eq)]
+#[must_use]
+pub struct Explanation(u64);
+
+impl Explanation {
+    pub fn count(self) -> Result<usize, Refusal> {
+        match self.0 >> 20 {
+            0 => Ok(self.0 as usize),
+            _ => Err(refusal(self.0)),
+        }
+    }
+}
+
 /// What a rehearsal came to: number + 256 × length + 16,777,216 × outstanding.
 #[repr(transparent)]
 #[derive(Clone, Copy, Debug, PartialEq, Eq)]
@@ -88,6 +103,14 @@ mod tests {
         assert_eq!(Reading(0).passed(), Ok(()));
         assert_eq!(Reading(2_097_152 + 1_024).passed(), Err(Refusal { number: 1, place: 0 }));
         assert_eq!(Reading(2_097_152 + 1_024 * 10 + 255).passed(), Err(Refusal { number: 10, place: 255 }));
+    }
+
+    #[test]
+    fn explanations_come_apart_at_the_ends_of_their_ranges() {
+        assert_eq!([1, 256].map(|answer| Explanation(answer).count()), [Ok(1), Ok(256)]);
+        assert_eq!(Explanation(2_097_152 + 1_024 * 2).count(), Err(Refusal { number: 2, place: 0 }));
+        assert_eq!(Explanation(2_097_152 + 1_024 * 10 + 255).count(), Err(Refusal { number: 10, place: 255 }));
+        assert_eq!(Explanation(2_097_152 + 1_024 * 42).count(), Err(Refusal { number: 42, place: 0 }));
     }
 
     #[test]

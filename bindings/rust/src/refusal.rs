@@ -2,7 +2,7 @@
 
 use std::fmt;
 
-/// Why something was not judged, rehearsed or done.
+/// Why something was not judged, explained, rehearsed or done.
 #[derive(Clone, Copy, Debug, PartialEq, Eq, Hash)]
 pub struct Refusal {
     /// The question that got the first no.
@@ -22,6 +22,7 @@ impl Refusal {
         match self.number {
             1..=10 => of_record(self.number),
             20..=23 | 40 => of_rehearsal(self.number),
+            41 | 42 => of_explanation(self.number),
             _ => of_call(self.number),
         }
     }
@@ -49,6 +50,13 @@ fn of_rehearsal(number: u32) -> &'static str {
         22 => "The record buffer is shorter than 19,456 bytes.",
         23 => "The answer buffer is shorter than the script.",
         _ => "The openings are not 132 bytes, or hold a value under a clear bit.",
+    }
+}
+
+fn of_explanation(number: u32) -> &'static str {
+    match number {
+        41 => "The slice of events has fewer than 256 entries.",
+        _ => "The predicate is met, so there is nothing to explain.",
     }
 }
 

@@ -1,7 +1,9 @@
 //! Records of sites whose clocks may differ.
 
+mod changing;
 mod sealing;
 
+use changing::changed;
 use gcr::{difference, judge_all, judge_model, judge_predicate, read, rehearse, with_difference};
 use gcr::{Model, Openings, Predicate, Refusal, Verdict, RECORD_MOST, WORK_WORDS};
 use sealing::sealed;
@@ -23,15 +25,6 @@ const BY_CLOCKS: [Model; 3] = [Model::Linearizable, Model::Regular, Model::RealT
 
 fn apart(record: &[u8], difference: u32) -> Vec<u8> {
     with_difference(record, difference).expect("it is of edition GCR2")
-}
-
-/// The record with the 8 bytes from `at` on in an event's slot changed to this number. All slots are in block 1.
-fn changed(record: &[u8], changes: &[(usize, usize, u64)]) -> Vec<u8> {
-    let mut record = record.to_vec();
-    for &(event, at, number) in changes {
-        record[512 + 64 * event + at..][..8].copy_from_slice(&number.to_le_bytes());
-    }
-    sealed(record)
 }
 
 /// Predicates 3 and 4.

@@ -3,7 +3,7 @@
 use gcr::{Model, Predicate, Refusal};
 use std::collections::HashSet;
 
-const REFUSALS: [u32; 21] = [1, 2, 3, 4, 5, 6, 7, 8, 9, 10, 20, 21, 22, 23, 40, 31, 32, 33, 34, 35, 36];
+const REFUSALS: [u32; 23] = [1, 2, 3, 4, 5, 6, 7, 8, 9, 10, 20, 21, 22, 23, 40, 41, 42, 31, 32, 33, 34, 35, 36];
 
 #[test]
 fn numbers_lead_back_to_what_has_them() {

@@ -1,0 +1,38 @@
+//! Telling what happened where a predicate is broken.
+
+use crate::{ffi, Predicate, Refusal};
+
+/// The entries that the call asks for, so that 41 never refuses it here, and the most that it writes.
+const ENTRIES: usize = 256;
+
+/// Tells what happened where a predicate is broken: the events after a, b last, where (a, b) is the pair that
+/// [`judge_predicate`](crate::judge_predicate) finds.
+///
+/// - [`CausalVisibility`](Predicate::CausalVisibility) and [`CausalArbitration`](Predicate::CausalArbitration): a chain
+///   of steps from a to b. A step leads from an event to one of its site that started after its return, or to one that
+///   sees it. No chain from a to b has fewer steps; of those with as many, the event after a is the lowest possible,
+///   then the one after that, and so on. Where a is b, the chain is a ring: one step or more, and a last.
+/// - [`MonotonicReads`](Predicate::MonotonicReads) and [`WritesFollowReads`](Predicate::WritesFollowReads): the lowest
+///   middle event, then b. It is a read of b's site that sees a and returned before b started.
+/// - All others: b alone.
+///
+/// There are 1 to 256 of them. A predicate that is met is refused by 42, after the questions of the record.
+///
+/// In the record of a stale read, event 1 is a read that sees write 0, and event 2 a later read of its site that does
+/// not:
+///
+/// ```
+/// use gcr::{explain, judge_predicate, Predicate, Verdict};
+///
+/// let record = include_bytes!("../../../records/stale-read.gcr");
+/// assert_eq!(judge_predicate(Predicate::MonotonicReads, record)?, Verdict::Broken { a: 0, b: 2 });
+/// assert_eq!(explain(Predicate::MonotonicReads, record)?, [1, 2]);
+/// assert_eq!(explain(Predicate::SingleOrder, record)?, [2]);
+/// assert_eq!(explain(Predicate::ReadYourWrites, record).unwrap_err().number, 42);
+/// # Ok::<(), gcr::Refusal>(())
+/// ```
+pub fn explain(predicate: Predicate, record: &[u8]) -> Result<Vec<u16>, Refusal> {
+    let mut events = [0; ENTRIES];
+    let count = ffi::explain(predicate.number(), record, &mut events).count()?;
+    Ok(events[..count].to_vec())
+}
