@@ -16,6 +16,7 @@ pub enum Side {
 #[derive(Clone, Debug, PartialEq, Eq)]
 pub struct Lent {
     pub words: Vec<u64>,
+    pub events: Vec<u16>,
     pub record: Vec<u8>,
     pub answers: Vec<u8>,
 }
@@ -23,7 +24,8 @@ pub struct Lent {
 impl Lent {
     /// Filled with something else than zero, so that a call's zeros show.
     fn for_input(input: &Input) -> Lent {
-        Lent { words: vec![7; 1_024], record: vec![7; 19_456], answers: vec![7; input.bytes.len()] }
+        let answers = vec![7; input.bytes.len()];
+        Lent { words: vec![7; 1_024], events: vec![7; 256], record: vec![7; 19_456], answers }
     }
 }
 

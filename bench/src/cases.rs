@@ -3,7 +3,7 @@
 use crate::both::{Both, Calls, Lent};
 use crate::inputs::{self, Input, SITES};
 use gcr::{Model, Predicate, Refusal, Rehearsed, Verdict};
-use second::baseline::{judging, reading, rehearsal};
+use second::baseline::{explaining, judging, reading, rehearsal};
 use std::rc::Rc;
 
 pub const SIZES: [usize; 3] = [16, 64, 256];
@@ -51,8 +51,21 @@ pub fn all() -> Vec<Case> {
     }
     all.extend(passing().chain(&clocks).chain(&pending).map(judge_all));
     all.extend(passing().map(judge_model));
+    all.extend(explanations());
     all.extend(scripts().iter().map(rehearse));
     all
+}
+
+/// A long chain, the lowest of many equally short ones, a middle event, and the pair's second event alone.
+fn explanations() -> Vec<Case> {
+    let told = [
+        (Predicate::CausalVisibility, SIZES.map(inputs::chain_ends_first)),
+        (Predicate::CausalArbitration, SIZES.map(inputs::ties)),
+        (Predicate::CausalArbitration, SIZES.map(inputs::ties_ends_first)),
+        (Predicate::MonotonicReads, SIZES.map(inputs::lapse)),
+        (Predicate::Pram, SIZES.map(inputs::lapse)),
+    ];
+    told.iter().flat_map(|(predicate, records)| records.iter().map(|record| explain(*predicate, record))).collect()
 }
 
 /// Numbered against time.
@@ -123,6 +136,24 @@ fn judge_model(input: &Rc<Input>) -> Case {
         |input, _| gcr::judge_model(Model::Causal, &input.bytes),
         |answer, _| packed(answer),
         |input, _| judging::judge_model(4, &input.bytes),
+    )
+}
+
+/// The proved side gives what it wrote in a vector of its own.
+fn explain(predicate: Predicate, input: &Rc<Input>) -> Case {
+    let number = predicate.number();
+    Case::new(
+        &format!("explain {number}"),
+        input,
+        move |input, _| gcr::explain(predicate, &input.bytes),
+        |answer, lent| match answer {
+            Ok(events) => {
+                lent.events[..events.len()].copy_from_slice(&events);
+                events.len() as u64
+            }
+            Err(refusal) => packed(Err(refusal)),
+        },
+        move |input, lent| explaining::explain(number, &input.bytes, &mut lent.events),
     )
 }
 

@@ -146,6 +146,49 @@ fn renumbered(record: &Record, order: &[usize]) -> Record {
     Record { events: order.iter().map(event).collect(), ..*record }
 }
 
+/// The first event leads to the last through all others, one after the other. They are numbered with the ends first, or
+/// 10 would be broken at a lower pair: a chain of n - 1 steps explains it.
+pub fn chain_ends_first(n: usize) -> Rc<Input> {
+    Input::new("chain, ends first", n, ends_first(&layers(n, 1)).to_bytes())
+}
+
+/// The first event leads to the last through two layers of all others: many chains of three steps would explain 11.
+pub fn ties(n: usize) -> Rc<Input> {
+    Input::new("ties", n, layers(n, n / 2 - 1).to_bytes())
+}
+
+/// The same numbered with the ends first, so that work which goes by number meets the last event too early.
+pub fn ties_ends_first(n: usize) -> Rc<Input> {
+    Input::new("ties, ends first", n, ends_first(&layers(n, n / 2 - 1)).to_bytes())
+}
+
+/// Layers of so many events, and one event alone at each end. An event sees the layer before it and the earlier ones of
+/// its own. All overlap in time; the last one is arbitrated first, and the others as they come.
+fn layers(n: usize, width: usize) -> Record {
+    let layer = |event: usize| event.div_ceil(width);
+    let event = |event: usize| {
+        let seen: Vec<usize> = (0..event).filter(|&earlier| layer(earlier) + 1 >= layer(event)).collect();
+        Event::write(0, 0, event as u32).at(0, 1).sees(&seen)
+    };
+    let positions: Vec<u16> = (1..n as u16).chain([0]).collect();
+    Record::in_order(1, (0..n).map(event).collect()).with_positions(&positions)
+}
+
+/// The first event as event 0, the last as event 1, and the others as they come.
+fn ends_first(record: &Record) -> Record {
+    let last = record.events.len() - 1;
+    let order: Vec<usize> = [0, last].into_iter().chain(1..last).collect();
+    renumbered(record, &order)
+}
+
+/// The dense record, whose last read does not see the write half-way: a read between the two explains 5, and the last
+/// read alone 9.
+pub fn lapse(n: usize) -> Rc<Input> {
+    let mut record = in_turn(n);
+    record.events[n - 1].visible[n / 2] = false;
+    Input::new("lapse", n, record.to_bytes())
+}
+
 /// Every event sees the next, and the last the first: all are on one ring.
 pub fn ring(n: usize) -> Rc<Input> {
     let events = (0..n).map(|k| Event::write(0, 0, 1).sees(&[(k + 1) % n]));
@@ -239,6 +282,7 @@ fn script(calls: impl Iterator<Item = Call>) -> Vec<u8> {
 #[cfg(test)]
 mod tests {
     use super::*;
+    use second::explain::explanations;
     use second::predicates::{Answer, Judged};
     use second::questions::ask;
     use second::record::u32_at;
@@ -261,6 +305,24 @@ mod tests {
         }
         assert_eq!(broken(&rehearsed()), [2, 3, 4, 13]);
         assert_eq!(broken(&by_site()), [2, 3, 4, 13]);
+    }
+
+    fn explained(input: &Input, predicate: usize) -> Vec<usize> {
+        let explanations = explanations(&input.bytes).expect("passes");
+        explanations[predicate - 1].as_ref().expect("broken").events.clone()
+    }
+
+    #[test]
+    fn breaks_are_explained_by_a_long_chain_the_lowest_of_many_a_middle_event_and_the_last_alone() {
+        for n in [16, 64, 256] {
+            let (half, last) = (n / 2, n - 1);
+            let all: Vec<usize> = (2..=last).chain([1]).collect();
+            assert_eq!(explained(&chain_ends_first(n), 10), all);
+            assert_eq!(explained(&ties(n), 11), [1, half, last]);
+            assert_eq!(explained(&ties_ends_first(n), 11), [2, half + 1, 1]);
+            assert_eq!(explained(&lapse(n), 5), [half + 1, last]);
+            assert_eq!(explained(&lapse(n), 9), [last]);
+        }
     }
 
     /// Pairs of an event and one of another site that starts after its return, further than the difference.
