@@ -1,4 +1,4 @@
-//! What the example hosts share: a file is read, a line about it is written, and the exit status goes with the line.
+//! What the example hosts share: a file is read, what it holds is told, and the exit status goes with that.
 
 use std::ffi::OsStr;
 use std::fs::File;
@@ -16,7 +16,7 @@ fn read(path: &OsStr) -> Result<Vec<u8>> {
     Ok(bytes)
 }
 
-/// `told` has the line about the file's bytes and its exit status. `usage` is the host's name and what its file is.
+/// `told` has the line or lines about the file's bytes and the exit status. `usage` is the host's name and what its file is.
 pub fn host(usage: &str, told: impl Fn(&[u8]) -> (String, u8)) -> ExitCode {
     let mut arguments = std::env::args_os().skip(1);
     let (Some(path), None) = (arguments.next(), arguments.next()) else {
