@@ -70,7 +70,7 @@ uint64_t gcr_judge_all(const uint8_t *record, size_t len, uint64_t *out, size_t 
 /* Tells what happened where a predicate, 1 to 13, is broken. With (a, b) the pair that gcr_judge_predicate answers for
  * it, the events after a are written to the front of `events`, b last:
  *   10, 11  a chain of steps from a to b. A step leads from an event to one of its site that started after its return
- *           (session order), or to one that sees it. No chain from a to b has fewer steps; of those with as many, the
+ *           (site order), or to one that sees it. No chain from a to b has fewer steps; of those with as many, the
  *           event after a is the lowest possible, then the one after that, and so on. Where a is b, the chain is a
  *           ring: one step or more, and a last
  *   5, 8    the lowest middle event, then b. It is a read of b's site that sees a and returned before b started
