@@ -2,4 +2,3 @@
 pub mod TellsLaws
 pub mod ExplanationLaws
 pub mod ToldLaws
-pub mod StepsLaws

@@ -1,16 +1,18 @@
 -- What is told from the judge's tables is what is told of the history that they hold. Assumes nothing.
-use mathlib.Core.Path.{_≡_, refl, ap, ap₂, _∙_}
-use mathlib.Core.Bool.{Bool, true, not, _&&_, _||_, and-comm}
+use mathlib.Core.Path.{_≡_, refl, sym, ap, ap₂, _∙_}
+use mathlib.Core.Bool.{Bool, true, not, _&&_, and-comm}
 use mathlib.Core.List.{List, [], _∷_, _++_}
-use Prim.Native.Nat.{ℕ, _*_, _<_, _≤_}
+use Prim.Native.Nat.{ℕ, _+_, _*_, _<_, _≤_}
 use native.Mathlib.Omega.{arith}
-use lib.ListN.{length, set, drop, length-take, length-drop}
+use lib.ListN.{length, set, drop, length-append, length-take, length-drop}
 use Rattle.rows.specs.Lowest.{lowest}
 use Rattle.rows.specs.Row.{onlyFirst, rowAt}
 use Rattle.rows.specs.Relation.{related, reaches, Table, Graph}
 use Rattle.rows.specs.Shortest.{shortestChain}
 use Rattle.rows.proofs.RowLaws.{row-has}
 use Rattle.rows.proofs.LowestLaws.{same-lowest}
+use Rattle.rows.proofs.TableLaws.{row-room, row-front}
+use Rattle.rows.proofs.SliceLaws.{sliceAt, slice-row}
 use Rattle.rows.proofs.ReachLaws.{reaches-same, table-related, table-graph}
 use Rattle.rows.proofs.ShortestLaws.{chain-same}
 use Rattle.record.specs.Terms.{Terms}
@@ -27,8 +29,9 @@ use Rattle.consistency.proofs.ExplainedLaws.{Has, broke}
 use Rattle.events.specs.Given.{Given, Groups}
 use Rattle.events.proofs.GivenLaws.{seen-table}
 use Rattle.tables.specs.Tables.{part, Prepared}
+use Rattle.tables.specs.Sweep.{Sweeps}
+use Rattle.tables.proofs.PartLaws.{part-row}
 use Rattle.explain.specs.Explanations.{eventsTold, answerTo, over}
-use Rattle.explain.specs.Steps.{either}
 use Rattle.explain.specs.declared.Explanation.the-variants.{Told, NoBreak}
 
 -- ---- one event written, and two
@@ -63,6 +66,10 @@ none-told p h e out = rw e (refl, refl)
 
 -- ---- the tables
 
+-- row b of so's table, as code cuts it out
+pub so-row : (n b : ℕ) (t : List ℕ) → b < n → sliceAt t 4 (1 * n + b) ≡ rowAt (part n 4 1 t) 4 b
+so-row n b t h = slice-row t 4 (1 * n + b) ∙ sym (part-row n 4 1 t b h)
+
 module _ (n : ℕ) (l v g t : List ℕ) (q : Terms) (given : Given n 4 l v) (ready : Prepared n 4 (under q (historyFrom n 4 l v)) t) where
   abbrev h : History
   h = under q (historyFrom n 4 l v)
@@ -73,28 +80,40 @@ module _ (n : ℕ) (l v g t : List ℕ) (q : Terms) (given : Given n 4 l v) (rea
   pub so-graph : Graph sos n 4
   so-graph = table-graph n 4 (so h) sos (ready .timed .sos) (omega (arith, ready .size, length-take (n * 4) (drop (1 * (n * 4)) t), length-drop (1 * (n * 4)) t)) (given .rows .wide) (given .rows .fits)
 
-  pub seen : Table n 4 (vis h) v
+  seen : Table n 4 (vis h) v
   unfolding vis historyFrom
   seen = seen-table n 4 l v given
 
-  steps-alike : (x y : ℕ) → x < n → y < n → either (related sos 4) (related v 4) x y ≡ step h x y
-  unfolding step
-  steps-alike x y i j = ap₂ _||_ (table-related n 4 (so h) sos (ready .timed .sos) x y i j) (table-related n 4 (vis h) v seen x y i j)
+  pub middle-told : (a b : ℕ) → a < n → b < n → Groups n 4 l g → lowest n (λ m. onlyFirst (rowAt sos 4 b) (rowAt g 4 256) m && related v 4 a m) ∷ b ∷ [] ≡ toldBy ByMiddle h a b
+  unfolding toldBy middleOf historyFrom
+  middle-told a b left right w =
+      ap (λ (m : ℕ). m ∷ b ∷ [])
+      (same-lowest n (λ m. onlyFirst (rowAt sos 4 b) (rowAt g 4 256) m && related v 4 a m) (λ m. vis h a m && (read h m && so h m b))
+      (λ m i.
+      ap₂ _&&_ (ap₂ (λ (x y : Bool). x && not y) (table-related n 4 (so h) sos (ready .timed .sos) m b i right) (row-has n (isWriteIn l) (rowAt g 4 256) (w .writes) m i)) (table-related n 4 (vis h) v seen a m left i)
+      ∙ and-comm (so h m b && read h m) (vis h a m) ∙ ap (λ (x : Bool). vis h a m && x) (and-comm (so h m b) (read h m))))
 
-  module _ (a b : ℕ) (left : a < n) (right : b < n) where
-    pub chain-reached : Has ByChain h a b → reaches n (either (related sos 4) (related v 4)) a b ≡ true
+-- ---- the steps of hb, kept over the front of a slice before their table is closed
+
+module _ (n : ℕ) (l v t : List ℕ) (q : Terms) (given : Given n 4 l v) (sw : Sweeps n 4 (under q (historyFrom n 4 l v)) t) (size : 6 * (n * 4) ≤ length t)
+    (steps rest : List ℕ) (kept : steps ≡ part n 4 4 t ++ rest) where
+  abbrev said : History
+  said = under q (historyFrom n 4 l v)
+
+  part-long : length (part n 4 4 t) ≡ n * 4
+  part-long = omega (arith, size, length-take (n * 4) (drop (4 * (n * 4)) t), length-drop (4 * (n * 4)) t)
+
+  steps-table : Table n 4 (step said) steps
+  steps-table b i = rw (kept, row-front (part n 4 4 t) rest 4 b (row-room n 4 b (length (part n 4 4 t)) i (omega (arith, part-long)))) (sw .steps b i)
+
+  pub kept-graph : Graph steps n 4
+  kept-graph = table-graph n 4 (step said) steps steps-table (omega (arith, ap length kept, length-append (part n 4 4 t) rest, part-long)) (given .rows .wide) (given .rows .fits)
+
+  module _ (a b : ℕ) (left : a < n) (right : b < n) (has : Has ByChain said a b) where
+    pub chain-reached : reaches n (related steps 4) a b ≡ true
     unfolding Has hb historyFrom
-    chain-reached e = reaches-same n (either (related sos 4) (related v 4)) (step h) steps-alike a b left right ∙ e
+    chain-reached = reaches-same n (related steps 4) (step said) (table-related n 4 (step said) steps steps-table) a b left right ∙ has
 
-    pub chain-told : Has ByChain h a b → shortestChain n (either (related sos 4) (related v 4)) a b ≡ toldBy ByChain h a b
+    pub chain-told : shortestChain n (related steps 4) a b ≡ toldBy ByChain said a b
     unfolding toldBy historyFrom
-    chain-told e = chain-same n (either (related sos 4) (related v 4)) (step h) steps-alike b right a left (chain-reached e)
-
-    pub middle-told : Groups n 4 l g → lowest n (λ m. onlyFirst (rowAt sos 4 b) (rowAt g 4 256) m && related v 4 a m) ∷ b ∷ [] ≡ toldBy ByMiddle h a b
-    unfolding toldBy middleOf historyFrom
-    middle-told w =
-        ap (λ (m : ℕ). m ∷ b ∷ [])
-        (same-lowest n (λ m. onlyFirst (rowAt sos 4 b) (rowAt g 4 256) m && related v 4 a m) (λ m. vis h a m && (read h m && so h m b))
-        (λ m i.
-        ap₂ _&&_ (ap₂ (λ (x y : Bool). x && not y) (table-related n 4 (so h) sos (ready .timed .sos) m b i right) (row-has n (isWriteIn l) (rowAt g 4 256) (w .writes) m i)) (table-related n 4 (vis h) v seen a m left i)
-        ∙ and-comm (so h m b && read h m) (vis h a m) ∙ ap (λ (x : Bool). vis h a m && x) (and-comm (so h m b) (read h m))))
+    chain-told = chain-same n (related steps 4) (step said) (table-related n 4 (step said) steps steps-table) b right a left chain-reached

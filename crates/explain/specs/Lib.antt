@@ -1,4 +1,3 @@
 -- What the contracts of this crate cite.
 pub mod Explanations
 pub mod Means
-pub mod Steps

@@ -1,22 +1,21 @@
--- The judge's six tables in their slice, as parts of it are lent and given back: swept, closed, and filled with ar. Assumes nothing.
+-- The judge's six tables in their slice, as parts of it are lent and given back: swept, and then closed and filled with ar. Assumes nothing.
 use mathlib.Core.Path.{_≡_, refl, sym, ap, _∙_}
 use mathlib.Core.List.{List, _++_, append-assoc}
-use Prim.Native.Nat.{ℕ, _+_, _-_, _*_, _≤_, _<_}
+use Prim.Native.Nat.{ℕ, _+_, _-_, _*_, _≤_}
 use native.Mathlib.Nat.{add-sub-cancel-left}
 use native.Mathlib.Omega.{arith}
-use lib.ListN.{length, take, drop, length-append}
+use lib.ListN.{length, take, drop, length-append, length-take, length-drop}
 use lib.Seq.{length-take-le, drop-at, drop-drop}
-use Rattle.rows.specs.Row.{RowPut}
-use Rattle.rows.specs.Relation.{Table, Graph, Filled, reaches, related}
+use Rattle.rows.specs.Row.{rowAt, RowPut}
+use Rattle.rows.specs.Relation.{Graph, Filled, reaches, related}
 use Rattle.rows.proofs.SliceLaws.{sliceAt, slice-row, length-slice, giveBack, given-back}
-use Rattle.rows.proofs.ReachLaws.{table-graph}
-use Rattle.reach.proofs.FilledLaws.{table-closed}
+use Rattle.rows.proofs.ReachLaws.{table-graph, table-row}
 use Rattle.record.specs.Terms.{Terms}
 use Rattle.record.specs.History.{History, under}
 use Rattle.record.specs.Words.{historyFrom}
 use Rattle.consistency.specs.Relations.{ar, step, hb}
 use Rattle.events.specs.Given.{Given, fieldsOf}
-use Rattle.tables.specs.Tables.{part, Prepared}
+use Rattle.tables.specs.Tables.{part, Prepared, Finished}
 use Rattle.tables.specs.Sweep.{Sweeps}
 use Rattle.judge.proofs.PreparedLaws.{fields-ars}
 
@@ -44,22 +43,19 @@ module _ (w c : ℕ) (g m : List ℕ) (wide : length m ≡ w) (room : c * w + w 
 
 -- ---- the tables, after the sweep
 
-module _ (n : ℕ) (l v t : List ℕ) (g : Given n 4 l v) (q : Terms) (sw : Sweeps n 4 (under q (historyFrom n 4 l v)) t) (size : 6 * (n * 4) ≤ length t) where
-  abbrev h : History
-  h = under q (historyFrom n 4 l v)
-
+module _ (n : ℕ) (l t : List ℕ) (graph : Graph (part n 4 4 t) n 4) (size : 6 * (n * 4) ≤ length t) where
   -- tables 4 and 5 as they are lent
   abbrev steps : List ℕ
   steps = sliceAt t (n * 4) 4
 
-  steps-hold : Table n 4 (step h) steps
-  steps-hold = rw (slice-row t (n * 4) 4) (sw .steps)
+  steps-part : steps ≡ part n 4 4 t
+  steps-part = slice-row t (n * 4) 4
 
   steps-long : length steps ≡ n * 4
   steps-long = length-slice t (n * 4) 4 (omega arith)
 
   pub steps-graph : Graph steps n 4
-  steps-graph = table-graph n 4 (step h) steps steps-hold (omega (arith, steps-long)) (g .rows .wide) (omega arith)
+  steps-graph = rw steps-part graph
 
   module _ (closed : List ℕ) (fill : Filled n 4 (reaches n (related steps 4)) steps closed) where
     abbrev t₂ : List ℕ
@@ -87,25 +83,36 @@ module _ (n : ℕ) (l v t : List ℕ) (g : Given n 4 l v) (q : Terms) (sw : Swee
       third : RowPut (n * 4) 5 placed t₂ t₃
       third = row-back (n * 4) 5 t₂ placed placed-long (omega (arith, second .size))
 
-      kept : (k : ℕ) → k < 4 → part n 4 k t₃ ≡ part n 4 k t
-      kept k i = third .other k (λ e. omega arith) ∙ second .other k (λ e. omega arith)
-
-      pub tables-ready : Prepared n 4 h t₃
-      unfolding hb historyFrom
-      tables-ready = record {
-        size = omega (arith, third .size, second .size);
-        timed = record {
-          rbs = rw (kept 0 (omega arith)) (sw .timed .rbs);
-          sos = rw (kept 1 (omega arith)) (sw .timed .sos);
-          middles = rw (kept 2 (omega arith)) (sw .timed .middles);
-          objects = rw (kept 3 (omega arith)) (sw .timed .objects);
-        };
-        hbs = rw (third .other 4 (λ e. omega arith), second .same) (table-closed n 4 (step h) steps closed steps-hold fill);
-        ars = rw (third .same) (fields-ars n l v q placed (fill₅ .table));
+      pub tables-finished : Finished n 4 l t t₃
+      tables-finished = record {
+        size = third .size ∙ second .size;
+        kept = λ k i. third .other k (λ e. omega arith) ∙ second .other k (λ e. omega arith);
+        closed = rw (third .other 4 (λ e. omega arith), second .same, ← steps-part) (fill .table);
+        placed = rw (third .same) (fill₅ .table);
+        rest = rest-back (n * 4) 5 t₂ placed placed-long (omega (arith, second .size)) (6 * (n * 4)) (omega arith)
+            ∙ rest-back (n * 4) 4 t closed closed-long (omega arith) (6 * (n * 4)) (omega arith);
       }
 
-      pub tables-size : length t₃ ≡ length t
-      tables-size = third .size ∙ second .size
+-- ---- swept, and then finished
 
-      pub tables-rest : drop (6 * (n * 4)) t₃ ≡ drop (6 * (n * 4)) t
-      tables-rest = rest-back (n * 4) 5 t₂ placed placed-long (omega (arith, second .size)) (6 * (n * 4)) (omega arith) ∙ rest-back (n * 4) 4 t closed closed-long (omega arith) (6 * (n * 4)) (omega arith)
+module _ (n : ℕ) (l v t : List ℕ) (g : Given n 4 l v) (q : Terms) (sw : Sweeps n 4 (under q (historyFrom n 4 l v)) t) (size : 6 * (n * 4) ≤ length t) where
+  abbrev h : History
+  h = under q (historyFrom n 4 l v)
+
+  pub swept-graph : Graph (part n 4 4 t) n 4
+  swept-graph =
+      table-graph n 4 (step h) (part n 4 4 t) (sw .steps) (omega (arith, length-take (n * 4) (drop (4 * (n * 4)) t), length-drop (4 * (n * 4)) t)) (g .rows .wide) (omega arith)
+
+  pub tables-ready : {t' : List ℕ} → Finished n 4 l t t' → Prepared n 4 h t'
+  unfolding hb historyFrom
+  tables-ready {t'} f = record {
+    size = omega (arith, f .size);
+    timed = record {
+      rbs = rw (f .kept 0 (omega arith)) (sw .timed .rbs);
+      sos = rw (f .kept 1 (omega arith)) (sw .timed .sos);
+      middles = rw (f .kept 2 (omega arith)) (sw .timed .middles);
+      objects = rw (f .kept 3 (omega arith)) (sw .timed .objects);
+    };
+    hbs = λ b i. table-row n 4 (step h) (part n 4 4 t) (sw .steps) b (rowAt (part n 4 4 t') 4 b) i (f .closed b i);
+    ars = fields-ars n l v q (part n 4 5 t') (f .placed);
+  }

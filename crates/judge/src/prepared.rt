@@ -12,46 +12,55 @@ ghost use mathlib.Core.Bool.{true};
 ghost use Prim.Native.Nat.{_*_, _≤_};
 ghost use lib.ListN.{length, drop};
 ghost use Rattle.rows.specs.Row.{rowAt};
+ghost use Rattle.rows.specs.Relation.{Graph};
 ghost use Rattle.record.specs.History.{under};
 ghost use Rattle.record.specs.Words.{historyFrom, termsFrom};
 ghost use Rattle.consistency.specs.FirstPair.{first};
 ghost use Rattle.consistency.specs.Predicates.{verdict};
-ghost use Rattle.events.specs.Given.{Given, Groups};
-ghost use Rattle.tables.specs.Tables.{part, Prepared};
+ghost use Rattle.events.specs.Given.{Given, Groups, Placed};
+ghost use Rattle.tables.specs.Tables.{part, Prepared, Finished};
 ghost use Rattle.pairs.specs.Searches.{lacks, Whole};
 
 // The tables, by their place in the slice.
 const RB: usize = 0;
 
-const SO: usize = 1;
+pub const SO: usize = 1;
 
 const MIDDLES: usize = 2;
 
 const OBJECTS: usize = 3;
 
-const HB: usize = 4;
+pub const HB: usize = 4;
 
 const AR: usize = 5;
 
 // The groups of events after those of each object, by their row.
-const WRITES: usize = 256;
+pub const WRITES: usize = 256;
 
 const READS: usize = 257;
 
 const EVERY: usize = 258;
 
-// Fills the six tables. Table 4 is swept as the steps of hb, and then closed.
+// Closes table 4, which was swept as the steps of hb, and fills table 5 with ar.
+pub fn finish(l: &[u64], n: usize, t: &mut [u64])
+    requires { ⌜ (4 * n ≤ length (now l)) × Placed n (now l) × (6 * (n * 4) ≤ length (now t)) × Graph (part n 4 4 (now t)) n 4 ⌝ }
+    ensures { λ _. ⌜ Finished n 4 (now (l .entry)) (now (t .entry)) (now (t .exit)) ⌝ }
+{
+    let size = n * 4;
+    let steps = HB * size;
+    let positions = AR * size;
+    closure::close(&mut t[steps..steps + size], n, 4);
+    arbitration::fill(l, n, 4, &mut t[positions..positions + size]);
+}
+
+// Fills the six tables.
 pub fn prepare(l: &[u64], v: &[u64], terms: &[u64], n: usize, groups: &[u64], t: &mut [u64])
     requires { ⌜ Given n 4 (now l) (now v) × Groups n 4 (now l) (now groups) × (17 ≤ length (now terms)) × (6 * (n * 4) ≤ length (now t)) ⌝ }
     ensures { λ _. ⌜ Prepared n 4 (under (termsFrom (now (terms .entry))) (historyFrom n 4 (now (l .entry)) (now (v .entry)))) (now (t .exit)) ⌝ }
     ensures { λ _. ⌜ (length (now (t .exit)) ≡ length (now (t .entry))) × (drop (6 * (n * 4)) (now (t .exit)) ≡ drop (6 * (n * 4)) (now (t .entry))) ⌝ }
 {
-    let size = n * 4;
-    let steps = HB * size;
-    let positions = AR * size;
     sweep::sweep(l, v, terms, n, 4, groups, t);
-    closure::close(&mut t[steps..steps + size], n, 4);
-    arbitration::fill(l, n, 4, &mut t[positions..positions + size]);
+    finish(l, n, t);
 }
 
 // Every pair of q, from an event of group `starts` to one of group `ends`, is in r.

@@ -2,7 +2,7 @@
 use mathlib.Core.Path.{_≡_, sym, ap, _∙_}
 use mathlib.Core.Bool.{Bool, _&&_}
 use mathlib.Core.List.{List, _∷_}
-use Prim.Native.Nat.{ℕ, _+_}
+use Prim.Native.Nat.{ℕ, _+_, _*_}
 use native.Mathlib.Omega.{arith}
 use borrow.Author.Needs.{needs}
 use lib.ListN.{length, drop}
@@ -13,8 +13,7 @@ use Rattle.rows.proofs.LowestLaws.{lowest-low}
 use Rattle.rows.proofs.TableLaws.{length-row}
 use Rattle.rows.proofs.SliceLaws.{sliceAt, length-slice}
 use Rattle.tables.specs.Tables.{part}
-use Rattle.explain.proofs.StepsLaws.{so-row}
-use Rattle.explain.proofs.ToldLaws.{set-two}
+use Rattle.explain.proofs.ToldLaws.{set-two, so-row}
 use Rattle.explain.proofs.telling.write_middle.Statement.{statement}
 use Rattle.explain.proofs.telling.write_middle.Tie as tie
 
@@ -23,10 +22,10 @@ start c = c .before .before .before .before .before .before
 
 -- row b of so's table as it is lent
 abbrev lent : tie.Start → List ℕ
-lent s = sliceAt (s .args .t .now) 4 (s .args .n + s .args .b)
+lent s = sliceAt (s .args .t .now) 4 (1 * s .args .n + s .args .b)
 
 wide : (s : tie.Start) → length (lent s) ≡ 4
-wide s = length-slice (s .args .t .now) 4 (s .args .n + s .args .b) (omega (arith, s .pre .0 .2, s .pre .1 .2))
+wide s = length-slice (s .args .t .now) 4 (1 * s .args .n + s .args .b) (omega (arith, s .pre .0 .2, s .pre .1 .2))
 
 is-row : (s : tie.Start) → lent s ≡ rowAt (part (s .args .n) 4 1 (s .args .t .now)) 4 (s .args .b)
 is-row s = so-row (s .args .n) (s .args .b) (s .args .t .now) (s .pre .1 .2)
@@ -38,11 +37,17 @@ between s m = onlyFirst (rowAt (part (s .args .n) 4 1 (s .args .t .now)) 4 (s .a
 found : (c : tie.After-lowest-after) → c .lowest-after .result ≡ lowest (start (c .before) .args .n) (between (start (c .before)))
 found c = let s = start (c .before) in rw (wide s, is-row s) at (c .lowest-after .ensures)
 
+mul-at : tie.Need-mul-at
+mul-at c = search needs
+
 add-at : tie.Need-add-at
 add-at c = search needs
 
-mul-at : tie.Need-mul-at
-mul-at c = search needs
+mul-at-2 : tie.Need-mul-at-2
+mul-at-2 c = search needs
+
+mul-writes : tie.Need-mul-writes
+mul-writes c = search needs
 
 add-lowest-after : tie.Need-add-lowest-after
 add-lowest-after c = search needs
@@ -58,6 +63,12 @@ part-lowest-after-start c = search needs
 
 part-lowest-after-end : tie.Need-part-lowest-after-end
 part-lowest-after-end c = search needs
+
+add-lowest-after-2 : tie.Need-add-lowest-after-2
+add-lowest-after-2 c = search needs
+
+mul-lowest-after-2 : tie.Need-mul-lowest-after-2
+mul-lowest-after-2 c = search needs
 
 sub-lowest-after-2 : tie.Need-sub-lowest-after-2
 sub-lowest-after-2 c = search needs
@@ -100,13 +111,17 @@ pub write-middle-spec : {M : Type 1} → statement M
 write-middle-spec =
     tie.close
     (tie.spec
-    add-at
     mul-at
+    add-at
+    mul-at-2
+    mul-writes
     add-lowest-after
     mul-lowest-after
     sub-lowest-after
     part-lowest-after-start
     part-lowest-after-end
+    add-lowest-after-2
+    mul-lowest-after-2
     sub-lowest-after-2
     part-lowest-after-start-2
     part-lowest-after-end-2
