@@ -1,7 +1,8 @@
 //! What the command line asks, and what the library finds.
 
+use crate::broken::Broken;
 use crate::models::predicates;
-use gcr::{judge_model, judge_predicate, Model, Predicate, Refusal, Verdict};
+use gcr::{judge_model, Model, Predicate, Refusal, Verdict};
 use std::ffi::OsString;
 
 #[derive(Clone, Copy, Debug, PartialEq, Eq)]
@@ -13,11 +14,41 @@ pub enum Asked {
 
 /// A verdict with the words that tell it.
 pub struct Finding {
-    pub caption: String,
-    /// What was asked, in plain words.
+    /// What was asked: `predicate 5 MonotonicReads`, or `model 4 Causal`.
+    pub name: String,
+    /// What that asks, in plain words.
     pub sentences: Vec<&'static str>,
-    /// The predicate that breaks, and the pair.
-    pub broken: Option<(Predicate, usize, usize)>,
+    pub broken: Option<Broken>,
+    /// By which predicate a model is broken, as ` by predicate 10 CausalVisibility`; else nothing.
+    pub by: String,
+}
+
+impl Finding {
+    pub fn of_predicate(asked: Predicate, record: &[u8]) -> Result<Finding, Refusal> {
+        let broken = Broken::of(asked, record)?;
+        Ok(Finding { name: named(asked), sentences: vec![asked.sentence()], broken, by: String::new() })
+    }
+
+    pub fn of_model(asked: Model, record: &[u8]) -> Result<Finding, Refusal> {
+        let broken = match judge_model(asked, record)? {
+            Verdict::Met => None,
+            Verdict::Broken { .. } => first_of(predicates(asked), record)?,
+        };
+        let predicate = broken.as_ref().map(|broken| broken.predicate);
+        let by = predicate.map_or(String::new(), |predicate| format!(" by {}", named(predicate)));
+        let mut sentences = vec![asked.sentence()];
+        sentences.extend(predicate.map(Predicate::sentence));
+        sentences.dedup();
+        Ok(Finding { name: format!("model {} {asked}", asked.number()), sentences, broken, by })
+    }
+
+    /// The verdict, over a picture.
+    pub fn caption(&self) -> String {
+        match self.broken.as_ref().map(Broken::pair) {
+            None => format!("{} met", self.name),
+            Some((a, b)) => format!("{} broken{}: event {a}, event {b}", self.name, self.by),
+        }
+    }
 }
 
 impl Asked {
@@ -37,48 +68,24 @@ impl Asked {
     pub fn judge(self, record: &[u8]) -> Result<Option<Finding>, Refusal> {
         match self {
             Asked::Nothing => Ok(None),
-            Asked::Predicate(asked) => of_predicate(asked, record).map(Some),
-            Asked::Model(asked) => of_model(asked, record).map(Some),
+            Asked::Predicate(asked) => Finding::of_predicate(asked, record).map(Some),
+            Asked::Model(asked) => Finding::of_model(asked, record).map(Some),
         }
     }
 }
 
-fn of_predicate(asked: Predicate, record: &[u8]) -> Result<Finding, Refusal> {
-    let verdict = judge_predicate(asked, record)?;
-    let broken = pair(verdict).map(|(a, b)| (asked, a, b));
-    Ok(Finding { caption: caption(&named(asked), "", verdict), sentences: vec![asked.sentence()], broken })
-}
-
-fn of_model(asked: Model, record: &[u8]) -> Result<Finding, Refusal> {
-    let verdict = judge_model(asked, record)?;
-    let is_broken = |&&each: &&Predicate| judge_predicate(each, record).is_ok_and(|each| each != Verdict::Met);
-    let first = predicates(asked).iter().find(is_broken).copied();
-    let broken = first.zip(pair(verdict)).map(|(predicate, (a, b))| (predicate, a, b));
-    let by = broken.map_or(String::new(), |(predicate, ..)| format!(" by {}", named(predicate)));
-    let mut sentences = vec![asked.sentence()];
-    sentences.extend(broken.map(|(predicate, ..)| predicate.sentence()));
-    sentences.dedup();
-    let name = format!("model {} {asked}", asked.number());
-    Ok(Finding { caption: caption(&name, &by, verdict), sentences, broken })
+/// Of the first of these that breaks.
+fn first_of(predicates: &[Predicate], record: &[u8]) -> Result<Option<Broken>, Refusal> {
+    for &predicate in predicates {
+        if let Some(broken) = Broken::of(predicate, record)? {
+            return Ok(Some(broken));
+        }
+    }
+    Ok(None)
 }
 
 fn named(predicate: Predicate) -> String {
     format!("predicate {} {predicate}", predicate.number())
-}
-
-fn caption(name: &str, by: &str, verdict: Verdict) -> String {
-    match verdict {
-        Verdict::Met => format!("{name} met"),
-        Verdict::Broken { a, b } => format!("{name} broken{by}: event {a}, event {b}"),
-    }
-}
-
-/// The breaking pair.
-fn pair(verdict: Verdict) -> Option<(usize, usize)> {
-    match verdict {
-        Verdict::Met => None,
-        Verdict::Broken { a, b } => Some((a.into(), b.into())),
-    }
 }
 
 #[cfg(test)]

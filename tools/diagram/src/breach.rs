@@ -1,7 +1,9 @@
 //! What a break means, in terms of what the record says.
 
 use crate::arrow::{Arrow, Says};
-use crate::chain::{chain, in_words};
+use crate::broken::Broken;
+use crate::chain::{self, in_words, By, Step};
+use crate::due::Due;
 use crate::record::Record;
 use gcr::Predicate;
 
@@ -15,27 +17,30 @@ pub struct Breach {
     pair: (usize, usize),
     /// Other events that the reason names.
     pub named: Vec<usize>,
+    /// The way from the pair's first event to its second, where the reason is one.
+    pub steps: Vec<Step>,
 }
 
-/// Why a pair belongs to the left side of a predicate, and which other events say so.
+/// Why a pair belongs to the left side of a predicate, and which steps say so.
 struct Reason {
     text: String,
-    named: Vec<usize>,
+    steps: Vec<Step>,
 }
 
 impl Breach {
-    /// The pair breaks the predicate, by the library's verdict.
-    pub fn new(record: &Record, predicate: Predicate, a: usize, b: usize) -> Breach {
-        match predicate {
-            Predicate::RVal => held(record, a, b),
-            Predicate::SingleOrder | Predicate::PerObjectSingleOrder => differing(record, predicate, a, b),
-            Predicate::MonotonicReads
-            | Predicate::ReadYourWrites
-            | Predicate::Pram
-            | Predicate::CausalVisibility
-            | Predicate::PerObjectPram => unseen(a, b, reason(record, predicate, a, b)),
-            _ => misplaced(a, b, reason(record, predicate, a, b)),
+    pub fn new(record: &Record, broken: &Broken) -> Breach {
+        let (a, b) = broken.pair();
+        match Due::by(broken.predicate) {
+            Due::Value => held(record, a, b),
+            Due::SameOrder => differing(record, broken.predicate, a, b),
+            Due::Sight => unseen(a, b, reason(record, broken)),
+            Due::Place => misplaced(a, b, reason(record, broken)),
         }
+    }
+
+    /// Whether the way has a step from one event to another that sees it.
+    pub fn has_sight(&self, from: usize, to: usize) -> bool {
+        self.steps.contains(&Step { from, to, by: By::Sight })
     }
 
     /// The breaking pair's events, or the one where both are the same.
@@ -52,15 +57,24 @@ impl Breach {
 
 fn held(record: &Record, read: usize, last: usize) -> Breach {
     let object = record.events[read].object;
-    let (due, reason, arrows) = if read == last {
-        (record.opening(object), unwritten(record, object), Vec::new())
+    let (reason, arrows) = if read == last {
+        (unwritten(record, object), Vec::new())
     } else {
         let reason =
             format!(": of the writes on object {object} that it sees, event {last} is the last in arbitration");
-        (record.events[last].value, reason, vec![Arrow::new(last, read, Says::Sees)])
+        (reason, vec![Arrow::new(last, read, Says::Sees)])
     };
-    let note = format!("event {read} holds {}, not {}", value(record.events[read].value), value(due));
-    Breach { note, reason, arrows, pair: (read, last), named: Vec::new() }
+    let (holds, due) = (value(record.events[read].value), value(due_value(record, read, last)));
+    let note = format!("event {read} holds {holds}, not {due}");
+    Breach { note, reason, arrows, pair: (read, last), named: Vec::new(), steps: Vec::new() }
+}
+
+/// What a read should hold, by the pair that says that it does not: itself twice where it sees no write on its object.
+pub fn due_value(record: &Record, read: usize, last: usize) -> Option<u32> {
+    match read == last {
+        true => record.opening(record.events[read].object),
+        false => record.events[last].value,
+    }
 }
 
 /// Why a read should hold what its object starts with.
@@ -70,7 +84,7 @@ fn unwritten(record: &Record, object: u8) -> String {
     format!(": it sees no write on object {object}, {opens}")
 }
 
-fn value(value: Option<u32>) -> String {
+pub fn value(value: Option<u32>) -> String {
     value.map_or("none".to_string(), |value| value.to_string())
 }
 
@@ -80,14 +94,16 @@ fn differing(record: &Record, predicate: Predicate, a: usize, b: usize) -> Breac
     if record.is_visible(a, b) {
         let reason = format!(", though arbitration places event {b} before event {a}{both}");
         let arrows = vec![Arrow::new(a, b, Says::Sees), Arrow::new(b, a, Says::Placed)];
-        return Breach { note: format!("event {b} sees event {a}"), reason, arrows, pair: (a, b), named: Vec::new() };
+        let note = format!("event {b} sees event {a}");
+        return Breach { note, reason, arrows, pair: (a, b), named: Vec::new(), steps: Vec::new() };
     }
     let counts = |seer: &usize| !is_cut || record.events[*seer].object == record.events[a].object;
     let named: Vec<usize> = seer_of_pending(record, a, counts).into_iter().collect();
     let pending =
         named.iter().map(|seer| format!("; event {a} is pending, but event {seer} sees it")).collect::<String>();
     let reason = format!(", though arbitration places event {a} before event {b}{both}{pending}");
-    Breach { note: does_not_see(a, b), reason, arrows: vec![Arrow::new(a, b, Says::Unseen)], pair: (a, b), named }
+    let arrows = vec![Arrow::new(a, b, Says::Unseen)];
+    Breach { note: does_not_see(a, b), reason, arrows, pair: (a, b), named, steps: Vec::new() }
 }
 
 /// Why a pending event is not left out: something sees it.
@@ -102,8 +118,7 @@ fn does_not_see(a: usize, b: usize) -> String {
 
 fn unseen(a: usize, b: usize, why: Reason) -> Breach {
     let note = if a == b { format!("event {a} would have to see itself") } else { does_not_see(a, b) };
-    let arrows = vec![Arrow::new(a, b, Says::Unseen)];
-    Breach { note, reason: why.text, arrows, pair: (a, b), named: why.named }
+    why.breach(note, Arrow::new(a, b, Says::Unseen), (a, b))
 }
 
 fn misplaced(a: usize, b: usize, why: Reason) -> Breach {
@@ -113,28 +128,36 @@ fn misplaced(a: usize, b: usize, why: Reason) -> Breach {
     } else {
         (format!("event {b} is placed before event {a} in arbitration"), Arrow::new(b, a, Says::Placed))
     };
-    Breach { note, reason: why.text, arrows: vec![arrow], pair: (a, b), named: why.named }
+    why.breach(note, arrow, (a, b))
+}
+
+impl Reason {
+    fn breach(self, note: String, arrow: Arrow, pair: (usize, usize)) -> Breach {
+        let named = chain::between(&self.steps);
+        Breach { note, reason: self.text, arrows: vec![arrow], pair, named, steps: self.steps }
+    }
 }
 
 /// Of predicates that are inclusions.
-fn reason(record: &Record, predicate: Predicate, a: usize, b: usize) -> Reason {
+fn reason(record: &Record, broken: &Broken) -> Reason {
+    let (a, b) = broken.pair();
     let (site, object) = (record.events[b].site, record.events[b].object);
-    match predicate {
+    match broken.predicate {
         Predicate::RealTime => returned(record, a, b, ""),
         Predicate::RealTimeWrites => returned(record, a, b, ", a write,"),
-        Predicate::MonotonicReads | Predicate::WritesFollowReads => by_read(record, a, b),
+        Predicate::MonotonicReads | Predicate::WritesFollowReads => by_read(broken),
         Predicate::ReadYourWrites => alone(", an earlier write at its site".to_string()),
         Predicate::MonotonicWrites => {
             alone(format!(", though both are writes at site {site} and event {a} is the earlier"))
         }
         Predicate::Pram => alone(", an earlier event at its site".to_string()),
         Predicate::PerObjectPram => alone(format!(", an earlier event at its site on its object, {object}")),
-        _ => by_chain(record, a, b),
+        _ => by_chain(record, broken),
     }
 }
 
 fn alone(text: String) -> Reason {
-    Reason { text, named: Vec::new() }
+    Reason { text, steps: Vec::new() }
 }
 
 fn returned(record: &Record, a: usize, b: usize, what: &str) -> Reason {
@@ -157,18 +180,15 @@ fn link(a: usize, b: usize) -> &'static str {
 }
 
 /// An earlier read at b's site sees a.
-fn by_read(record: &Record, a: usize, b: usize) -> Reason {
-    let is_seer =
-        |&read: &usize| !record.events[read].is_write && record.is_visible(a, read) && record.is_before(read, b);
+fn by_read(broken: &Broken) -> Reason {
+    let ((a, b), steps) = (broken.pair(), chain::by_read(&broken.way));
     let seen = if a == b { "it".to_string() } else { format!("event {a}") };
-    let named: Vec<usize> = record.numbers().find(is_seer).into_iter().collect();
-    let text = |read: &usize| format!("{} event {read}, an earlier read at event {b}'s site, sees {seen}", link(a, b));
-    Reason { text: named.iter().map(text).collect(), named }
+    let text = |read: usize| format!("{} event {read}, an earlier read at event {b}'s site, sees {seen}", link(a, b));
+    Reason { text: chain::between(&steps).into_iter().map(text).collect(), steps }
 }
 
-fn by_chain(record: &Record, a: usize, b: usize) -> Reason {
-    let way = chain(record, a, b).unwrap_or_default();
-    let named = way.iter().copied().filter(|&event| event != a && event != b).collect();
-    let words = in_words(record, &way).map(|words| format!("{} {words}", link(a, b)));
-    Reason { text: words.unwrap_or_default(), named }
+fn by_chain(record: &Record, broken: &Broken) -> Reason {
+    let ((a, b), steps) = (broken.pair(), chain::of_chain(record, &broken.way));
+    let words = in_words(record, &steps).map(|words| format!("{} {words}", link(a, b)));
+    Reason { text: words.unwrap_or_default(), steps }
 }

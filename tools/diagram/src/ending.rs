@@ -1,4 +1,4 @@
-//! How a program ends that has a picture to write, or none.
+//! How a program ends that has a text to write, or none.
 
 use std::io::{self, Write};
 use std::process::ExitCode;
@@ -8,9 +8,10 @@ pub fn failed(why: &str) -> ExitCode {
     ExitCode::from(1)
 }
 
-pub fn written(picture: &str) -> ExitCode {
-    match io::stdout().write_all(picture.as_bytes()) {
+/// `product` is what the text is, for whoever cannot have it.
+pub fn written(product: &str, text: &str) -> ExitCode {
+    match io::stdout().write_all(text.as_bytes()) {
         Ok(()) => ExitCode::SUCCESS,
-        Err(error) => failed(&format!("cannot write the picture: {error}")),
+        Err(error) => failed(&format!("cannot write {product}: {error}")),
     }
 }

@@ -36,7 +36,7 @@ impl Heading {
         let most = width - 2.0 * MARGIN;
         heading.add("title", &title(told), most);
         if let Some(finding) = told.finding {
-            heading.add(if finding.broken.is_some() { "broken" } else { "met" }, &finding.caption, most);
+            heading.add(if finding.broken.is_some() { "broken" } else { "met" }, &finding.caption(), most);
             told.breach.iter().for_each(|breach| heading.add("reason", &breach.sentence(), most));
             finding.sentences.iter().for_each(|sentence| heading.add("sentence", sentence, most));
             let events = told.breach.iter().flat_map(|breach| breach.events());

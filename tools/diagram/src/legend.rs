@@ -20,6 +20,9 @@ const SIGHT: &str = "An arrow leads from an event to one that sees it. What the 
 /// Of a read's label.
 pub const OPENING: &str =
     "(opening): the read sees no write on its object and holds the object's opening, the figure that it starts with.";
+/// Of the way from one event of a breaking pair to the other.
+pub const WAY: &str = "The way goes along arrows, to an event that sees the one before, and along a site's line, to a \
+    later event of the site; a mark without a ring that it passes behind is no part of it.";
 const SHARED: &str = "Arrows from one event, or to one, may share a line; lines that cross have nothing in common.";
 
 #[derive(Clone, Copy, Debug, PartialEq, Eq)]
@@ -31,6 +34,7 @@ pub enum Sign {
     Gap,
     Pair,
     Named,
+    Step,
     Arrow(Says),
 }
 
@@ -110,6 +114,7 @@ fn meaning(sign: Sign) -> &'static str {
         Sign::Gap => "later at its site, but does not see it",
         Sign::Pair => "breaking pair",
         Sign::Named => "named above",
+        Sign::Step => "step of the way from the pair's first event to its second",
         Sign::Arrow(Says::SeesAll) => "sees it and all that it sees",
         Sign::Arrow(Says::SeesAlone) => "sees it, but not all that it sees",
         Sign::Arrow(Says::Sees) => "sees it",
@@ -132,6 +137,7 @@ fn draw(svg: &mut Svg, sign: Sign, place: Point) {
         }
         Sign::Pair => svg.rectangle("ring pair", at(place.x, place.y - 8.0), at(right.x, place.y + 8.0), 5.0),
         Sign::Named => svg.rectangle("ring named", at(place.x, place.y - 8.0), at(right.x, place.y + 8.0), 5.0),
+        Sign::Step => svg.path("step", &straight(place, right)),
         Sign::Arrow(says) => {
             svg.path(says.class(), &straight(place, right));
             if says.is_missing() {

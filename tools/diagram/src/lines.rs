@@ -23,9 +23,7 @@ pub fn ends(svg: &mut Svg, layout: &Layout, end: f64) {
 
 /// Whole where the later event sees the earlier, with the head that says how much of what that one sees; else broken.
 pub fn draw(svg: &mut Svg, layout: &Layout, line: &Line) {
-    let (first, second) = (&layout.marks[line.from], &layout.marks[line.to]);
-    let (ends, middle) = ((line.from, line.to), second.frame.middle());
-    let (begin, end) = (at(first.until, middle), at(second.frame.left - 1.0, middle));
+    let (ends, (begin, end)) = ((line.from, line.to), span(layout, line.from, line.to));
     let words = Arrow::new(line.from, line.to, line.says.unwrap_or(Says::Unseen)).words();
     match line.says {
         Some(says) => svg.between(says.class(), ends, &straight(begin, end), &words),
@@ -34,6 +32,12 @@ pub fn draw(svg: &mut Svg, layout: &Layout, line: &Line) {
             svg.path("strokes", &strokes(begin, end));
         }
     }
+}
+
+/// From where an event has returned to where a later one of its site begins.
+pub fn span(layout: &Layout, from: usize, to: usize) -> (Point, Point) {
+    let (first, second) = (&layout.marks[from], &layout.marks[to]);
+    (at(first.until, first.frame.middle()), at(second.frame.left - 1.0, second.frame.middle()))
 }
 
 /// Two strokes across the middle of a line.

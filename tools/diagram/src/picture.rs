@@ -14,11 +14,11 @@ use crate::scale::Scale;
 use crate::strokes::rounded;
 use crate::svg::{at, Svg};
 use crate::web::Web;
-use crate::{axis, lines, signs, style};
+use crate::{axis, bands, lines, signs, style};
 
 pub fn draw(name: &str, record: &Record, finding: Option<&Finding>) -> String {
-    let broken = finding.and_then(|finding| finding.broken);
-    let breach = broken.map(|(predicate, a, b)| Breach::new(record, predicate, a, b));
+    let broken = finding.and_then(|finding| finding.broken.as_ref());
+    let breach = broken.map(|broken| Breach::new(record, broken));
     let scale = Scale::of(record.events.len());
     let across = Across::new(record, &scale);
     let heading = Heading::new(&Told { name, record, finding, breach: breach.as_ref() }, across.width);
@@ -49,6 +49,7 @@ impl Scene<'_> {
     fn draw(&self, svg: &mut Svg) {
         self.sites(svg);
         axis::draw(svg, self.across, self.layout.rows.bottom());
+        self.breach.iter().for_each(|breach| bands::draw(svg, self.layout, self.web, &breach.steps));
         self.rings(svg);
         lines::ends(svg, self.layout, self.across.line_end());
         self.web.lines.iter().for_each(|line| lines::draw(svg, self.layout, line));
@@ -107,6 +108,7 @@ impl Scene<'_> {
         if let Some(breach) = self.breach {
             signs.push(Sign::Pair);
             signs.extend((!breach.named.is_empty()).then_some(Sign::Named));
+            signs.extend((!breach.steps.is_empty()).then_some(Sign::Step));
             signs.extend(breach.arrows.iter().map(|arrow| Sign::Arrow(arrow.says)));
         }
         signs
@@ -120,6 +122,7 @@ impl Scene<'_> {
         let has_opening = self.layout.scale.is_labelled && self.record.events.iter().any(|event| event.holds_opening);
         let opening = has_opening.then(|| legend::OPENING.to_string());
         let clocks = (self.record.difference > 0).then(|| legend::of_clocks(self.record.difference));
-        [arrows, numbers].into_iter().chain(opening).chain(clocks).collect()
+        let way = self.breach.filter(|breach| !breach.steps.is_empty()).map(|_| legend::WAY.to_string());
+        [arrows, numbers].into_iter().chain(opening).chain(clocks).chain(way).collect()
     }
 }

@@ -97,6 +97,12 @@ impl Scale {
         (self.gap / 3.0).min(5.0)
     }
 
+    /// How wide the band under an arrow is: not so wide that it reaches the next line. Along a site's line, which marks
+    /// cover for the most part, there is room for twice as much.
+    pub fn band(&self) -> f64 {
+        0.9 * self.apart
+    }
+
     /// What so many level lines need between two rows.
     pub fn level(&self, lines: usize) -> f64 {
         match lines {

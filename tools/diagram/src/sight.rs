@@ -8,20 +8,31 @@ use crate::arrow::{Arrow, Says};
 use std::cmp::Reverse;
 
 /// `before` has, for each event, the one next before it on its line, if any. Where the later of the two sees the
-/// earlier, the arrow between them is always kept.
-pub fn arrows(sees: &impl Fn(usize, usize) -> bool, before: &[Option<usize>]) -> Vec<Arrow> {
+/// earlier, the arrow between them is always kept, and so are those that `is_kept` names.
+pub fn arrows(
+    sees: &impl Fn(usize, usize) -> bool,
+    before: &[Option<usize>],
+    is_kept: &impl Fn(usize, usize) -> bool,
+) -> Vec<Arrow> {
     let ranks = ranks(before.len(), sees);
-    (0..before.len()).flat_map(|event| arrows_to(event, before[event], sees, &ranks)).collect()
+    let to = |event: usize| arrows_to(event, before[event], sees, &|other| is_kept(other, event), &ranks);
+    (0..before.len()).flat_map(to).collect()
 }
 
 /// The last in rank come first, as they can tell of others, and before them the next on the line.
-fn arrows_to(event: usize, before: Option<usize>, sees: &impl Fn(usize, usize) -> bool, ranks: &[usize]) -> Vec<Arrow> {
+fn arrows_to(
+    event: usize,
+    before: Option<usize>,
+    sees: &impl Fn(usize, usize) -> bool,
+    is_kept: &impl Fn(usize) -> bool,
+    ranks: &[usize],
+) -> Vec<Arrow> {
     let mut seen: Vec<usize> = (0..ranks.len()).filter(|&other| sees(other, event)).collect();
     seen.sort_by_key(|&other| (Some(other) != before, Reverse(ranks[other])));
     let mut told = vec![false; ranks.len()];
     let mut arrows = Vec::new();
     for &other in &seen {
-        if !told[other] {
+        if !told[other] || is_kept(other) {
             let says = says(other, event, sees, ranks.len());
             let is_told = |third: usize| says == Says::SeesAll && sees(third, other);
             (0..ranks.len()).filter(|&third| is_told(third)).for_each(|third| told[third] = true);
@@ -64,7 +75,7 @@ mod tests {
     }
 
     fn drawn(pairs: &[(usize, usize)], before: &[Option<usize>]) -> Vec<(usize, usize, Says)> {
-        let arrows = arrows(&|a, b| pairs.contains(&(a, b)), before);
+        let arrows = arrows(&|a, b| pairs.contains(&(a, b)), before, &|_, _| false);
         arrows.iter().map(|arrow| (arrow.from, arrow.to, arrow.says)).collect()
     }
 
@@ -87,6 +98,15 @@ mod tests {
         assert_eq!(drawn(&pairs, &before), arrows);
     }
 
+    #[test]
+    fn what_is_kept_has_an_arrow_though_others_tell_it() {
+        let chain = |a: usize, b: usize| a < b;
+        let kept = arrows(&chain, &[None; 4], &|a, b| (a, b) == (0, 2));
+        let ends: Vec<(usize, usize)> = kept.iter().map(|arrow| (arrow.from, arrow.to)).collect();
+        assert_eq!(ends, [(0, 1), (1, 2), (0, 2), (2, 3)]);
+        assert!(kept.iter().all(|arrow| arrow.says == Says::SeesAll));
+    }
+
     /// Reads the arrows as the legend says; events see only lower ones here.
     fn told(arrows: &[Arrow]) -> u32 {
         let mut told = 0;
@@ -107,7 +127,8 @@ mod tests {
             let chosen = lower.iter().enumerate().filter(|&(bit, _)| choice >> bit & 1 == 1);
             let pairs: u32 = chosen.map(|(_, pair)| 1 << pair).sum();
             for before in [[None; COUNT], [None, Some(0), None, Some(1), Some(3)]] {
-                assert_eq!(told(&arrows(&|a, b| has(pairs, a, b), &before)), pairs);
+                assert_eq!(told(&arrows(&|a, b| has(pairs, a, b), &before, &|_, _| false)), pairs);
+                assert_eq!(told(&arrows(&|a, b| has(pairs, a, b), &before, &|a, _| a == 1)), pairs);
             }
         }
     }

@@ -35,6 +35,7 @@ const RULES: &str = "\
 .ring { fill: #fbe3d0; stroke: #d55e00; }
 .ring.pair { stroke-width: 3; }
 .ring.named { stroke-width: 1.5; stroke-dasharray: 3 2; fill: none; }
+.step { fill: none; stroke: #ffd24d; }
 .seen { fill: none; stroke: #566573; }
 .seen.all { marker-end: url(#all); }
 .seen.alone { marker-end: url(#alone); }
@@ -52,8 +53,9 @@ const FILLED: &str = "M0,0.6 L10,5 L0,9.4 L2.4,5 Z";
 const OPEN: &str = "M0.8,1 L9,5 L0.8,9 Z";
 
 pub fn write(svg: &mut Svg, scale: &Scale) {
-    let line = short(scale.head / 7.0);
-    svg.raw(&format!("<style>\n.seen {{ stroke-width: {line}; }}\n{PAGE}{RULES}</style>"));
+    let widths = [(".seen", scale.head / 7.0), (".step", scale.band()), (".step.later", 2.0 * scale.band())];
+    let widths = widths.map(|(of, width)| format!("{of} {{ stroke-width: {}; }}\n", short(width))).concat();
+    svg.raw(&format!("<style>\n{widths}{PAGE}{RULES}</style>"));
     svg.raw("<defs>");
     head(svg, "all", scale.head, &format!("fill=\"#566573\" d=\"{FILLED}\""));
     let open = "fill=\"#ffffff\" stroke=\"#566573\" stroke-width=\"1.3\"";

@@ -25,7 +25,9 @@ pub struct Line {
 impl Web {
     pub fn new(record: &Record, breach: Option<&Breach>) -> Web {
         let lanes = Lanes::new(&record.events);
-        let seen = sight::arrows(&|a, b| record.is_visible(a, b), &lanes.before);
+        // a step of the way has an arrow also where others tell it
+        let is_step = |a: usize, b: usize| breach.is_some_and(|breach| breach.has_sight(a, b));
+        let seen = sight::arrows(&|a, b| record.is_visible(a, b), &lanes.before, &is_step);
         let is_along = |arrow: &Arrow| lanes.before[arrow.to] == Some(arrow.from);
         let (along, mut arrows): (Vec<Arrow>, Vec<Arrow>) = seen.into_iter().partition(is_along);
         arrows.extend(breach.iter().flat_map(|breach| &breach.arrows));

@@ -5,7 +5,7 @@ mod support;
 use std::collections::{BTreeMap, BTreeSet};
 use support::drawing::{Drawing, Element};
 use support::frame::{Frame, Point};
-use support::program::{picture, run_lattice};
+use support::program::{run_lattice, text};
 
 const LINES: &str = include_str!("../../../crates/lattice/stdout");
 const KEPT: &str = include_str!("../../../docs/pictures/lattice.svg");
@@ -13,7 +13,7 @@ const KEPT: &str = include_str!("../../../docs/pictures/lattice.svg");
 type Pair = (usize, usize);
 
 fn drawing() -> Drawing {
-    Drawing::read(&picture(run_lattice(&[], LINES)))
+    Drawing::read(&text(run_lattice(&[], LINES)))
 }
 
 /// What the lines call covered; every line begins with a number, and the next in it is the other model's.
@@ -38,7 +38,7 @@ fn reach(line: &Element) -> (Point, Point) {
 
 #[test]
 fn the_picture_of_the_documents_is_what_the_program_draws() {
-    assert!(picture(run_lattice(&[], LINES)) == KEPT);
+    assert!(text(run_lattice(&[], LINES)) == KEPT);
 }
 
 #[test]

@@ -2,7 +2,9 @@
 
 mod support;
 
+use second::predicates::{Answer, Judged, PREDICATES};
 use support::program::{drawn, run};
+use support::records;
 
 const LISTING: &[u8] = include_bytes!("../../../records/listing.gcr");
 const STALE_READ: &[u8] = include_bytes!("../../../records/stale-read.gcr");
@@ -28,6 +30,17 @@ fn the_pictures_of_the_documents_are_what_the_program_draws() {
     assert!(drawn(&["--predicate", "1", &record("opening.gcr")], &[]) == kept);
     let kept = include_str!("../../../docs/pictures/early-read.svg");
     assert!(drawn(&["--predicate", "3", &record("early-read.gcr")], &[]) == kept);
+    let kept = include_str!("../../../docs/pictures/long-way.svg");
+    assert!(drawn(&["--predicate", "10", &record("long-way.gcr")], &[]) == kept);
+}
+
+#[test]
+fn the_record_of_a_long_way_is_as_it_is_made_here() {
+    let long_way = records::long_way();
+    assert!(long_way.to_bytes() == include_bytes!("../../../records/long-way.gcr"));
+    let judged = Judged::new(&long_way);
+    let broken: Vec<u32> = PREDICATES.filter(|&predicate| judged.answer(predicate) != Answer::Met).collect();
+    assert_eq!(broken, [2, 5, 9, 10, 13]);
 }
 
 #[test]

@@ -15,8 +15,17 @@ fn pictures() -> &'static [(String, Drawing)] {
     PICTURES.get_or_init(|| {
         let shipped = records::shipped().into_iter().zip(0..);
         let shipped = shipped.flat_map(|(record, number)| of(record, number, "shipped"));
-        shipped.chain(records::random().flat_map(|(seed, record)| of(record, seed, "seed"))).collect()
+        let random = records::random().flat_map(|(seed, record)| of(record, seed, "seed"));
+        shipped.chain(random).chain(with_ways()).collect()
     })
+}
+
+/// Pictures with long ways.
+fn with_ways() -> impl Iterator<Item = (String, Drawing)> {
+    let chained = records::chained().step_by(2).map(|(seed, record)| (format!("chain {seed}"), record));
+    let longest = records::longest().into_iter().filter(|(name, _)| !name.contains("ladder"));
+    let drawn = |(name, record): (String, Record)| (format!("{name}, predicate 10"), asked(10, &record));
+    chained.chain(longest).map(drawn)
 }
 
 fn of(record: Record, number: u64, name: &str) -> [(String, Drawing); 3] {
@@ -117,7 +126,7 @@ fn everything_stands_inside_the_picture() {
         assert!(drawing.named("text").all(|text| size.holds(&text.frame())), "{name}");
         assert!(drawing.marks().iter().all(|mark| size.holds(mark)), "{name}");
         let inside = |arrow: &Element| arrow.pieces().iter().all(|&(from, _)| size.holds(&at(from)));
-        assert!(drawing.arrows().all(inside), "{name}");
+        assert!(drawing.arrows().chain(drawing.steps()).all(inside), "{name}");
     }
 }
 

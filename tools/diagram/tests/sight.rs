@@ -5,7 +5,7 @@ mod support;
 use second::record::Record;
 use second::relations::Relations;
 use support::drawing::Drawing;
-use support::program::drawing;
+use support::program::{asked, drawing};
 use support::records;
 
 /// What each event sees, read off the picture by the legend's words: an arrow leads from an event to one that sees it,
@@ -89,4 +89,16 @@ fn pointing_at_a_mark_shows_what_its_event_sees() {
         drawing.named("title").filter(|title| title.event.is_some()).map(|title| title.text.as_str()).collect();
     assert_eq!(titles[0], "event 0: W 5=100, site 0, start 0, returned 1, arbitration 0, sees nothing");
     assert_eq!(titles[4], "event 4: R 5→200, site 0, start 8, returned 9, arbitration 4, sees 0, 1 and 3");
+}
+
+/// A step of a way has an arrow also where others tell it; that tells nothing more.
+#[test]
+fn what_events_see_can_be_read_off_where_a_way_is_drawn() {
+    let chained = records::chained().filter(|(_, record)| record.events.len() < 80);
+    for (seed, record) in records::random().chain(chained) {
+        for predicate in [5, 10] {
+            let drawing = asked(predicate, &record);
+            assert!(read_off(&drawing, record.events.len()) == said(&record), "seed {seed}, predicate {predicate}");
+        }
+    }
 }

@@ -65,7 +65,25 @@ impl Drawing {
 
     /// The lines between two events, of any kind.
     pub fn arrows(&self) -> impl Iterator<Item = &Element> {
+        self.between_events().filter(|path| !path.is_step())
+    }
+
+    /// The bands under the steps of a way, which may pass behind marks.
+    pub fn steps(&self) -> Vec<&Element> {
+        self.between_events().filter(|path| path.is_step()).collect()
+    }
+
+    fn between_events(&self) -> impl Iterator<Item = &Element> {
         self.named("path").filter(|path| path.attributes.contains_key("data-from"))
+    }
+
+    /// Where each event's time ends: at the end of the line after its mark, or of the mark where it has none.
+    pub fn returns(&self) -> Vec<f64> {
+        let mut ends: Vec<f64> = self.marks().iter().map(|mark| mark.right).collect();
+        for line in self.named("line").filter(|line| line.class() == "until") {
+            line.event.iter().for_each(|&event| ends[event] = line.number("x2"));
+        }
+        ends
     }
 
     /// The ends of the lines whose class begins so.
@@ -77,6 +95,10 @@ impl Drawing {
 impl Element {
     pub fn class(&self) -> &str {
         self.attributes.get("class").map_or("", String::as_str)
+    }
+
+    fn is_step(&self) -> bool {
+        self.class().starts_with("step")
     }
 
     fn number(&self, attribute: &str) -> f64 {

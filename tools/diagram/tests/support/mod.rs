@@ -4,6 +4,7 @@
 pub mod drawing;
 pub mod frame;
 pub mod letters;
+pub mod lines;
 pub mod program;
 pub mod records;
 pub mod truth;

@@ -14,6 +14,16 @@ pub fn run_lattice(words: &[&str], lines: &str) -> Output {
     run_program(env!("CARGO_BIN_EXE_lattice"), words, lines.as_bytes())
 }
 
+/// The same of the program that tells of breaks in words.
+pub fn run_explain(words: &[&str], input: &[u8]) -> Output {
+    run_program(env!("CARGO_BIN_EXE_explain"), words, input)
+}
+
+/// What it writes.
+pub fn explained(words: &[&str], input: &[u8]) -> String {
+    text(run_explain(words, input))
+}
+
 fn run_program(program: &str, words: &[&str], input: &[u8]) -> Output {
     let mut command = Command::new(program);
     command.args(words).stdin(Stdio::piped()).stdout(Stdio::piped()).stderr(Stdio::piped());
@@ -24,13 +34,13 @@ fn run_program(program: &str, words: &[&str], input: &[u8]) -> Output {
 }
 
 pub fn drawn(words: &[&str], input: &[u8]) -> String {
-    picture(run(words, input))
+    text(run(words, input))
 }
 
-/// What a program drew.
-pub fn picture(output: Output) -> String {
+/// What a program that succeeded has written.
+pub fn text(output: Output) -> String {
     assert!(output.status.success(), "{}", String::from_utf8_lossy(&output.stderr));
-    String::from_utf8(output.stdout).expect("a picture is text")
+    String::from_utf8(output.stdout).expect("it is text")
 }
 
 /// The picture of a record, read back.

@@ -1,7 +1,7 @@
 //! Records to draw.
 
 use second::generate::random::Random;
-use second::generate::{openings, shapes};
+use second::generate::{chains, openings, shapes};
 use second::record::{Event, Record};
 use second::store::{Call, Store};
 
@@ -30,6 +30,17 @@ fn of_seed(seed: u64) -> Record {
             shapes::of_either_edition(&mut random, n)
         }
     }
+}
+
+/// Records in which an event leads to another, or round to itself, by many steps; some are as large as any.
+pub fn chained() -> impl Iterator<Item = (u64, Record)> {
+    (0..60).map(|seed| (seed, chains::record(&mut Random::new(seed))))
+}
+
+/// The longest chains and rings, and the widest ladders on which every chain is equally short.
+pub fn longest() -> Vec<(String, Record)> {
+    let fixed = chains::fixed().into_iter().filter(|(name, _)| name.ends_with("-falling"));
+    fixed.map(|(name, bytes)| (name, Record::from_bytes(&bytes))).collect()
 }
 
 /// What a store leaves after random calls, begun with random openings.
@@ -70,6 +81,21 @@ pub fn write_then_read(sees: bool) -> Record {
     Record::in_order(1, vec![Event::write(0, 0, 7).at(0, 1), read])
 }
 
+/// `records/long-way.gcr`. Site 1 has read the figure of event 0 and writes a note of it, which site 2 reads before it
+/// reads the figure, in event 3, and finds none. The way 0, 1, 4, 5, 6, 3 begins with a lower event and is longer.
+pub fn long_way() -> Record {
+    let events = vec![
+        Event::write(0, 5, 100).at(0, 1),
+        Event::write(0, 7, 1).at(2, 3).sees(&[0]),
+        Event::read(1, 5, Some(100)).at(4, 5).sees(&[0]),
+        Event::read(2, 5, None).at(12, 13),
+        Event::read(1, 7, Some(1)).at(6, 7).sees(&[1]),
+        Event::write(1, 6, 2).at(8, 9),
+        Event::read(2, 6, Some(2)).at(10, 11).sees(&[5]),
+    ];
+    Record::in_order(3, events).with_positions(&[0, 1, 2, 6, 3, 4, 5]).apart(0)
+}
+
 /// The records that ship.
 pub fn shipped() -> Vec<Record> {
     let listing = include_bytes!("../../../../records/listing.gcr");
@@ -81,7 +107,10 @@ pub fn shipped() -> Vec<Record> {
     let clocks = include_bytes!("../../../../records/clocks.gcr");
     let early_read = include_bytes!("../../../../records/early-read.gcr");
     let never_returned = include_bytes!("../../../../records/never-returned.gcr");
-    let all = [&listing[..], stale_read, stale_value, empty, opening, stale_opening, clocks, early_read, never_returned];
+    let long_way = include_bytes!("../../../../records/long-way.gcr");
+    let all =
+        [&listing[..], stale_read, stale_value, empty, opening, stale_opening, clocks, early_read, never_returned];
+    let all = all.into_iter().chain([&long_way[..]]);
     let separating = second::samples::separating().map(|sample| Record::from_bytes(&sample.bytes));
-    all.into_iter().map(Record::from_bytes).chain(separating).collect()
+    all.map(Record::from_bytes).chain(separating).collect()
 }

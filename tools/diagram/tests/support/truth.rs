@@ -16,13 +16,13 @@ struct Facts<'a> {
     subject: usize,
 }
 
-fn numbers(text: &str) -> Vec<usize> {
+pub fn numbers(text: &str) -> Vec<usize> {
     let words = text.split(|letter: char| !letter.is_ascii_digit());
     words.filter(|word| !word.is_empty()).map(|word| word.parse().expect("a number")).collect()
 }
 
 /// The text with # for each number.
-fn shape(text: &str) -> String {
+pub fn shape(text: &str) -> String {
     let mut shape = String::new();
     for letter in text.chars() {
         match letter.is_ascii_digit() {

@@ -28,7 +28,7 @@ fn main() -> ExitCode {
         Err(error) => return failed(&format!("cannot read standard input: {error}")),
     };
     match Table::read(&lines) {
-        Ok(table) => written(&picture::draw(&table)),
+        Ok(table) => written("the picture", &picture::draw(&table)),
         Err(why) => failed(&why),
     }
 }

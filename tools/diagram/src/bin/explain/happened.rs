@@ -1,0 +1,30 @@
+//! What happened in an event.
+
+use diagram::breach::value;
+use diagram::event::Event;
+
+/// `site 0 wrote 100 to object 5, from 1 to 2`. What has not returned is told as going on.
+pub fn happened(event: &Event) -> String {
+    let (site, object, held) = (event.site, event.object, value(event.value));
+    let did = match (event.is_write, event.is_pending()) {
+        (true, false) => format!("wrote {held} to object {object}"),
+        (true, true) => format!("writes {held} to object {object}"),
+        (false, false) => format!("read {held} from object {object}{}", opening(event)),
+        (false, true) => format!("reads object {object}"),
+    };
+    format!("site {site} {did}, {}", when(event))
+}
+
+fn opening(event: &Event) -> &'static str {
+    match event.holds_opening {
+        true => " (its opening)",
+        false => "",
+    }
+}
+
+fn when(event: &Event) -> String {
+    match event.end {
+        Some(end) => format!("from {} to {end}", event.start),
+        None => format!("pending since {}", event.start),
+    }
+}
