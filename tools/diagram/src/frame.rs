@@ -33,6 +33,11 @@ impl Frame {
         across && self.top <= inner.top && inner.bottom <= self.bottom
     }
 
+    pub fn overlaps(&self, other: &Frame) -> bool {
+        let across = self.left < other.right && other.left < self.right;
+        across && self.top < other.bottom && other.top < self.bottom
+    }
+
     /// Whether a straight line from one point to the other has a point inside.
     pub fn is_met(&self, from: Point, to: Point) -> bool {
         let across = inside(from.x, to.x, self.left, self.right);

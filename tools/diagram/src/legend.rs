@@ -22,7 +22,8 @@ pub const OPENING: &str =
     "(opening): the read sees no write on its object and holds the object's opening, the figure that it starts with.";
 /// Of the way from one event of a breaking pair to the other.
 pub const WAY: &str = "The way goes along arrows, to an event that sees the one before, and along a site's line, to a \
-    later event of the site; a mark without a ring that it passes behind is no part of it.";
+    later event of the site; a mark without a ring that it passes behind is no part of it. A number over a mark is that of \
+    the step to it.";
 const SHARED: &str = "Arrows from one event, or to one, may share a line; lines that cross have nothing in common.";
 
 #[derive(Clone, Copy, Debug, PartialEq, Eq)]

@@ -5,6 +5,7 @@ mod axis;
 mod bands;
 mod columns;
 mod combs;
+mod counts;
 mod gaps;
 mod heading;
 mod lanes;

@@ -4,6 +4,7 @@ use crate::across::Across;
 use crate::arrow::Says;
 use crate::asked::Finding;
 use crate::breach::Breach;
+use crate::counts::counts;
 use crate::heading::{Heading, Told};
 use crate::layout::Layout;
 use crate::legend::{self, Legend, Sign};
@@ -93,12 +94,16 @@ impl Scene<'_> {
     /// Last, so that nothing covers it; the note is at the first of its arrows.
     fn breaking(&self, svg: &mut Svg) {
         let Some(breach) = self.breach else { return };
+        let mut counts = counts(self.layout, &breach.steps);
         let arrows = self.web.arrows.iter().zip(&self.layout.routes);
         let breaking: Vec<_> = arrows.filter(|(arrow, _)| arrow.says.is_of_break()).collect();
         for (arrow, route) in &breaking {
             svg.between(arrow.says.class(), (arrow.from, arrow.to), &rounded(&route.points), &arrow.words());
         }
-        breaking.first().iter().for_each(|(arrow, route)| signs::draw(svg, self.layout, arrow, route, &breach.note));
+        for (arrow, route) in breaking.into_iter().take(1) {
+            signs::draw(svg, self.layout, (arrow, route), &breach.note, &mut counts);
+        }
+        counts.iter().for_each(|count| count.draw(svg));
     }
 
     /// The signs that the legend explains.

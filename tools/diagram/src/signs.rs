@@ -2,6 +2,7 @@
 
 use crate::across::LEFT;
 use crate::arrow::Arrow;
+use crate::counts::Count;
 use crate::frame::Frame;
 use crate::layout::{level_of_note, Layout};
 use crate::page::MARGIN;
@@ -22,13 +23,15 @@ struct Place {
     note: Frame,
 }
 
-/// Where fewest lines run through the note.
-pub fn draw(svg: &mut Svg, layout: &Layout, arrow: &Arrow, route: &Route, note: &str) {
+/// Off these counts, as far as can be, and where fewest lines run through the note. The counts that stay in its way are
+/// left out.
+pub fn draw(svg: &mut Svg, layout: &Layout, (arrow, route): (&Arrow, &Route), note: &str, counts: &mut Vec<Count>) {
     let size = (bold_width(note, FONT), 1.2 * FONT);
-    let bounds = bounds(layout, arrow);
-    let places = places(route, size, &bounds);
-    let fewest = places.into_iter().min_by_key(|place| layout.lines_through(&place.note));
-    let Some(place) = fewest else { return };
+    let covered = |place: &Place| counts.iter().filter(|count| count.frame.overlaps(&place.note)).count();
+    let places = places(route, size, &bounds(layout, arrow)).into_iter();
+    let best = places.min_by_key(|place| (covered(place), layout.lines_through(&place.note)));
+    let Some(place) = best else { return };
+    counts.retain(|count| !count.frame.overlaps(&place.note));
     if arrow.says.is_missing() {
         svg.path("cross", &cross(place.on));
     }

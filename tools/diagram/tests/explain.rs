@@ -42,8 +42,8 @@ fn number_of(heading: &str) -> u32 {
     number.and_then(|number| number.parse().ok()).expect("a predicate's number")
 }
 
-/// Which words lead to an event, by the predicate: a step that is of both kinds is told as visibility, but by a read it is
-/// site order that counts.
+/// Whether the right words lead to an event, by the predicate. A step of a chain that is of both kinds is told as
+/// visibility; from the read of 5 and 8 it is site order that counts.
 fn is_kind(predicate: u32, at: usize, line: &Line, is_seen: bool) -> bool {
     let lead = line.lead.unwrap_or("");
     let begins = |words: &str| lead.starts_with(words);

@@ -175,9 +175,34 @@ fn a_chain_passes_behind_no_mark_that_is_on_it() {
         let (marks, (from, to), pieces) = (drawing.marks(), step.ends(), step.pieces());
         let on_it = drawing.steps().into_iter().map(|step| step.ends().0);
         let is_passed = |&event: &usize| event != from && event != to && marks[event].is_crossed(pieces[0]);
-        let passed = on_it.filter(is_passed).next().filter(|_| pieces.len() == 1);
+        let passed = on_it.filter(|_| pieces.len() == 1).find(is_passed);
         assert_eq!(passed, None, "{}: {from} to {to}", case.name);
     }
+}
+
+/// The mark at whose upper left corner a number stands.
+fn numbered(marks: &[Frame], count: &Element) -> Option<usize> {
+    let frame = count.frame();
+    let is_under = |mark: &Frame| (0.0..8.0).contains(&(mark.top - frame.bottom));
+    marks.iter().position(|mark| (mark.left - frame.right).abs() < 3.0 && is_under(mark))
+}
+
+/// Few are left out: those that the note leaves no room for.
+#[test]
+fn the_numbers_of_steps_stand_at_the_marks_that_they_lead_to() {
+    let (mut numbers, mut due) = (0, 0);
+    for case in cases() {
+        for (predicate, way, drawing) in &case.pictures {
+            let marks = drawing.marks();
+            for count in drawing.named("text").filter(|text| text.class() == "count") {
+                let number: usize = count.text.parse().expect("a number");
+                assert_eq!(numbered(&marks, count), Some(way[number]), "{}, predicate {predicate}", case.name);
+                numbers += 1;
+            }
+            due += way.len().saturating_sub(1);
+        }
+    }
+    assert!(numbers <= due && 100 * (due - numbers) < due, "{numbers} of {due}");
 }
 
 #[test]

@@ -1,0 +1,35 @@
+//! The numbers of a way's steps, each over the mark that its step leads to.
+
+use crate::chain::Step;
+use crate::frame::Frame;
+use crate::layout::Layout;
+use crate::scale::text_width;
+use crate::svg::{at, Svg};
+
+/// Around a number, which has a seam of the bands' colour.
+const BESIDE: f64 = 2.0;
+
+pub struct Count {
+    number: usize,
+    size: f64,
+    pub frame: Frame,
+}
+
+/// Beside the mark's upper left corner, over its ring: no arrow enters there.
+pub fn counts(layout: &Layout, steps: &[Step]) -> Vec<Count> {
+    let size = 0.86 * layout.scale.font;
+    let count = |(number, step): (usize, &Step)| {
+        let mark = &layout.marks[step.to].frame;
+        let (right, bottom) = (mark.left, mark.top - layout.scale.beside_mark() - 1.0);
+        let left = right - text_width(&number.to_string(), size) - 2.0 * BESIDE;
+        Count { number, size, frame: Frame { left, top: bottom - size - 1.0, right, bottom } }
+    };
+    (1..).zip(steps).map(count).collect()
+}
+
+impl Count {
+    pub fn draw(&self, svg: &mut Svg) {
+        let base = at((self.frame.left + self.frame.right) / 2.0, self.frame.bottom - 0.24 * self.size);
+        svg.centred("count", base, self.size, &self.number.to_string());
+    }
+}
