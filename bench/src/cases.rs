@@ -61,7 +61,6 @@ fn explanations() -> Vec<Case> {
     let told = [
         (Predicate::CausalVisibility, SIZES.map(inputs::chain_ends_first)),
         (Predicate::CausalArbitration, SIZES.map(inputs::ties)),
-        (Predicate::CausalArbitration, SIZES.map(inputs::ties_ends_first)),
         (Predicate::MonotonicReads, SIZES.map(inputs::lapse)),
         (Predicate::Pram, SIZES.map(inputs::lapse)),
     ];
@@ -139,20 +138,13 @@ fn judge_model(input: &Rc<Input>) -> Case {
     )
 }
 
-/// The proved side gives what it wrote in a vector of its own.
 fn explain(predicate: Predicate, input: &Rc<Input>) -> Case {
     let number = predicate.number();
     Case::new(
         &format!("explain {number}"),
         input,
-        move |input, _| gcr::explain(predicate, &input.bytes),
-        |answer, lent| match answer {
-            Ok(events) => {
-                lent.events[..events.len()].copy_from_slice(&events);
-                events.len() as u64
-            }
-            Err(refusal) => packed(Err(refusal)),
-        },
+        move |input, lent| gcr::explain_into(predicate, &input.bytes, &mut lent.events),
+        |answer, _| answer.map_or_else(|refusal| packed(Err(refusal)), |count| count as u64),
         move |input, lent| explaining::explain(number, &input.bytes, &mut lent.events),
     )
 }

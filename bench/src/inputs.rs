@@ -157,11 +157,6 @@ pub fn ties(n: usize) -> Rc<Input> {
     Input::new("ties", n, layers(n, n / 2 - 1).to_bytes())
 }
 
-/// The same numbered with the ends first, so that work which goes by number meets the last event too early.
-pub fn ties_ends_first(n: usize) -> Rc<Input> {
-    Input::new("ties, ends first", n, ends_first(&layers(n, n / 2 - 1)).to_bytes())
-}
-
 /// Layers of so many events, and one event alone at each end. An event sees the layer before it and the earlier ones of
 /// its own. All overlap in time; the last one is arbitrated first, and the others as they come.
 fn layers(n: usize, width: usize) -> Record {
@@ -319,7 +314,6 @@ mod tests {
             let all: Vec<usize> = (2..=last).chain([1]).collect();
             assert_eq!(explained(&chain_ends_first(n), 10), all);
             assert_eq!(explained(&ties(n), 11), [1, half, last]);
-            assert_eq!(explained(&ties_ends_first(n), 11), [2, half + 1, 1]);
             assert_eq!(explained(&lapse(n), 5), [half + 1, last]);
             assert_eq!(explained(&lapse(n), 9), [last]);
         }

@@ -2,8 +2,8 @@
 
 use crate::{ffi, Predicate, Refusal};
 
-/// The entries that the call asks for, so that 41 never refuses it here, and the most that it writes.
-const ENTRIES: usize = 256;
+/// The entries that [`explain_into`] asks for, and the most that it writes.
+pub const EXPLAIN_ENTRIES: usize = 256;
 
 /// Tells what happened where a predicate is broken: the events after a, b last, where (a, b) is the pair that
 /// [`judge_predicate`](crate::judge_predicate) finds.
@@ -32,7 +32,24 @@ const ENTRIES: usize = 256;
 /// # Ok::<(), gcr::Refusal>(())
 /// ```
 pub fn explain(predicate: Predicate, record: &[u8]) -> Result<Vec<u16>, Refusal> {
-    let mut events = [0; ENTRIES];
-    let count = ffi::explain(predicate.number(), record, &mut events).count()?;
+    let mut events = [0; EXPLAIN_ENTRIES];
+    let count = explain_into(predicate, record, &mut events)?;
     Ok(events[..count].to_vec())
+}
+
+/// The same over the front of a slice, and how many events there are. Entries beyond them stay, and a refusal writes
+/// none. A slice of fewer than [`EXPLAIN_ENTRIES`] is refused by 41, before the questions of the record.
+///
+/// ```
+/// use gcr::{explain_into, Predicate, EXPLAIN_ENTRIES};
+///
+/// let record = include_bytes!("../../../records/stale-read.gcr");
+/// let mut events = [9; EXPLAIN_ENTRIES];
+/// assert_eq!(explain_into(Predicate::MonotonicReads, record, &mut events)?, 2);
+/// assert_eq!(events[..3], [1, 2, 9]);
+/// assert_eq!(explain_into(Predicate::MonotonicReads, record, &mut events[1..]).unwrap_err().number, 41);
+/// # Ok::<(), gcr::Refusal>(())
+/// ```
+pub fn explain_into(predicate: Predicate, record: &[u8], events: &mut [u16]) -> Result<usize, Refusal> {
+    ffi::explain(predicate.number(), record, events).count()
 }

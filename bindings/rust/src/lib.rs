@@ -57,7 +57,7 @@ mod rehearsal;
 pub use answer::{answers, Answer};
 pub use call::{script, Call};
 pub use clocks::{difference, with_difference};
-pub use explaining::explain;
+pub use explaining::{explain, explain_into, EXPLAIN_ENTRIES};
 pub use judging::{judge_all, judge_model, judge_predicate, Verdict};
 pub use model::Model;
 pub use openings::{Openings, OPENINGS_BYTES};

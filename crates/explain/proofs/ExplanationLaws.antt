@@ -8,6 +8,7 @@ use borrow.Author.Tests.{eq-eqb, ne-eqb, le-leb, lt-leb}
 use Rattle.record.specs.Layout.{editionOf}
 use Rattle.record.specs.History.{History, historyOf, Agree}
 use Rattle.record.specs.Questions.{numberOf, questions}
+use Rattle.record.specs.Words.{workAfter}
 use Rattle.record.specs.declared.Reading.{Reading}
 use Rattle.record.specs.declared.Reading.the-variants.{ShortWork}
 use Rattle.consistency.specs.Predicates.{numbered, verdict}
@@ -16,9 +17,10 @@ use Rattle.consistency.specs.declared.Verdict.{Verdict}
 use Rattle.consistency.specs.declared.Verdict.the-variants.{Met, Broken}
 use Rattle.consistency.proofs.SameVerdict.{verdict-same}
 use Rattle.consistency.proofs.ExplainedLaws.{explained-same}
-use Rattle.explain.specs.Explanations.{eventsTold, answerTo, explainedRecord, explanation, over, entriesAfter, workLeft}
+use Rattle.record.proofs.QuestionsAnswered.{number-most}
+use Rattle.explain.specs.Explanations.{refusalNumber, eventsTold, answerTo, explainedRecord, explanation, over, entriesAfter, workLeft}
 use Rattle.explain.specs.declared.Explanation.{Explanation}
-use Rattle.explain.specs.declared.Explanation.the-variants.{Told, NoSuchNumber, FewEntries, Refused}
+use Rattle.explain.specs.declared.Explanation.the-variants.{NoSuchNumber, FewEntries, Refused}
 
 -- ---- questions 1, 2 and 41
 
@@ -55,6 +57,15 @@ module _ (number : ℕ) (s : List ℕ) (r : Reading) (asked : r ≡ questions (e
   unfolding explainedRecord
   record-passed z = rw (← asked, eq-eqb (numberOf r) 0 z)
 
+  -- the slices: a refusal by 3 to 10 leaves them as it does for a judgment
+  pub entries-refused : numberOf r ≢ 0 → (out : List ℕ) → out ≡ entriesAfter (editionOf s) (numberOf r) number s out
+  unfolding entriesAfter
+  entries-refused f out = rw (ne-eqb (numberOf r) 0 f)
+
+  pub work-refused : (work : List ℕ) → workAfter (editionOf s) (numberOf r) s work ≡ workLeft (editionOf s) (numberOf r) s work
+  unfolding workLeft
+  work-refused work = rw (ne-eqb (numberOf r) 41 (λ e. omega (arith, number-most r)), ne-eqb (numberOf r) 42 (λ e. omega (arith, number-most r)))
+
 -- ---- 42, and what is told
 
 -- the slices, for the answer to a verdict
@@ -63,19 +74,20 @@ module _ (p : ℕ) (s : List ℕ) where
   judged = verdict (numbered p) (historyOf (editionOf s) s)
 
   pub entries-told : (r : Explanation) → r ≡ answerTo (numbered p) (historyOf (editionOf s) s) judged → (out : List ℕ)
-      → over (eventsTold (numbered p) (historyOf (editionOf s) s) judged) out ≡ entriesAfter (editionOf s) p s r out
+      → over (eventsTold (numbered p) (historyOf (editionOf s) s) judged) out ≡ entriesAfter (editionOf s) (refusalNumber r) p s out
   unfolding entriesAfter
   entries-told r e out = rw e (go judged refl)
     where
-      go : (v : Verdict) → judged ≡ v → over (eventsTold (numbered p) (historyOf (editionOf s) s) v) out ≡ entriesAfter (editionOf s) p s (answerTo (numbered p) (historyOf (editionOf s) s) v) out
+      go : (v : Verdict) → judged ≡ v
+          → over (eventsTold (numbered p) (historyOf (editionOf s) s) v) out ≡ entriesAfter (editionOf s) (refusalNumber (answerTo (numbered p) (historyOf (editionOf s) s) v)) p s out
       go Met f = refl
       go (Broken a b) f = rw f refl
 
-  pub work-told : (r : Explanation) → r ≡ answerTo (numbered p) (historyOf (editionOf s) s) judged → (work : List ℕ) → workLeft (editionOf s) s (Told 0) work ≡ workLeft (editionOf s) s r work
+  pub work-told : (r : Explanation) → r ≡ answerTo (numbered p) (historyOf (editionOf s) s) judged → (work : List ℕ) → workAfter (editionOf s) 0 s work ≡ workLeft (editionOf s) (refusalNumber r) s work
   unfolding workLeft
   work-told r e work = rw e (go judged)
     where
-      go : (v : Verdict) → workLeft (editionOf s) s (Told 0) work ≡ workLeft (editionOf s) s (answerTo (numbered p) (historyOf (editionOf s) s) v) work
+      go : (v : Verdict) → workAfter (editionOf s) 0 s work ≡ workLeft (editionOf s) (refusalNumber (answerTo (numbered p) (historyOf (editionOf s) s) v)) s work
       go Met = refl
       go (Broken a b) = refl
 

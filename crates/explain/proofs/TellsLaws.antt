@@ -1,5 +1,5 @@
 -- What an explanation tells beside the judgment of the same predicate, for every record, number and length of slices; and the same of the hosts' numbers. Assumes nothing.
-use mathlib.Core.Path.{_≡_, refl}
+use mathlib.Core.Path.{_≡_, refl, ap, _∙_}
 use mathlib.Core.Bool.{Bool, true, false}
 use mathlib.Core.List.{List, [], _∷_}
 use Prim.Native.Nat.{ℕ, _^_, _<_, _≤_}
@@ -10,21 +10,24 @@ use lib.ListN.{length}
 use Rattle.record.specs.Layout.{Layout, editionOf, workWords}
 use Rattle.record.specs.History.{History, historyOf}
 use Rattle.record.specs.Questions.{numberOf, placeOf, ask, questions}
+use Rattle.record.specs.Answers.{Passes}
 use Rattle.record.specs.declared.Reading.the-variants.{Passed, ShortWork}
-use Rattle.record.proofs.QuestionsAnswered.{number-passed, number-most, passed-count}
+use Rattle.record.proofs.QuestionsAnswered.{number-passed, number-most, passed-count, answer-of}
 use Rattle.consistency.specs.Predicates.{numbered, verdict}
 use Rattle.consistency.specs.Models.{orElse, firstBroken}
 use Rattle.consistency.specs.Explained.{explained}
 use Rattle.consistency.specs.declared.Verdict.{Verdict}
 use Rattle.consistency.specs.declared.Verdict.the-variants.{Met, Broken}
-use Rattle.consistency.specs.declared.Outcome.the-variants.{AllMet}
+use Rattle.consistency.specs.declared.Outcome.{Outcome}
+use Rattle.consistency.specs.declared.Outcome.the-variants.{AllMet, BrokenAt}
 use Rattle.consistency.proofs.ExplainedLaws.{explains, explained-fits}
 use Rattle.judge.specs.Judgments.{isNumber, pick, judgedList, judged, predicateJudgment, packedJudgment}
-use Rattle.judge.specs.Means.{Admitted}
+use Rattle.judge.specs.Means.{Admitted, Means}
+use Rattle.judge.proofs.MeansLaws.{to-outcome, predicate-exact}
 use Rattle.judge.specs.declared.Judgment.{Judgment}
 use Rattle.judge.specs.declared.Judgment.the-variants as judgment
 use Rattle.judge.proofs.ReadsBack.{Fitting}
-use Rattle.explain.specs.Explanations.{answerTo, explainedRecord, explanation, entriesAfter, packedExplanation}
+use Rattle.explain.specs.Explanations.{answerTo, explainedRecord, explanation, refusalNumber, entriesAfter, packedExplanation}
 use Rattle.explain.specs.Means.{TellsWhy, TellsHostsWhy}
 use Rattle.explain.specs.Means as means
 use Rattle.explain.specs.declared.Explanation.{Explanation}
@@ -39,29 +42,35 @@ module _ (words p : ℕ) (s out : List ℕ) where
 
   -- a judgment, the answer beside it, and the slice after that answer
   abbrev T : Judgment → Explanation → Type 0
-  T j r = TellsWhy words p s out j r (entriesAfter L p s r out)
+  T j r = TellsWhy words p s out j r (entriesAfter L (refusalNumber r) p s out)
 
-  verdict-tells : questions L s ≡ Passed → 256 ≤ length out → (v : Verdict) → verdict (numbered p) h ≡ v → T (judgment.Judged (orElse p v AllMet)) (answerTo (numbered p) h v)
-  unfolding entriesAfter historyOf
-  verdict-tells q room Met e = means.met room
-  verdict-tells q room (Broken a b) e =
-      rw e (means.broken a b (explained (numbered p) h a b) room (explains (numbered p) h a b e) (explained-fits (numbered p) h a b e 256 (passed-count s q) (omega arith)))
+  -- what the second demand says of a record that passes
+  exactly : Admitted L words p → Passes L s → (o : Outcome) → firstBroken (p ∷ []) h ≡ o → Means L words p (p ∷ []) s (judgment.Judged o)
+  unfolding predicateJudgment
+  exactly a r o e = predicate-exact L words p s .exactly (judgment.Judged o) .0 (to-outcome L words p (p ∷ []) s a r ∙ ap judgment.Judged e)
 
-  record-tells : 256 ≤ length out → T (judgedList L s (p ∷ [])) (explainedRecord L p s)
+  verdict-tells : Admitted L words p → questions L s ≡ Passed → 256 ≤ length out → (v : Verdict) → verdict (numbered p) h ≡ v → T (judgment.Judged (orElse p v AllMet)) (answerTo (numbered p) h v)
+  unfolding entriesAfter historyOf firstBroken
+  verdict-tells a q room Met e = means.met room (exactly a (answer-of L s Passed q) AllMet (ap (λ (v : Verdict). orElse p v AllMet) e) .2 .0)
+  verdict-tells a q room (Broken x y) e =
+      rw e (means.broken x y (explained (numbered p) h x y) room (exactly a (answer-of L s Passed q) (BrokenAt p x y) (ap (λ (v : Verdict). orElse p v AllMet) e) .3)
+      (explains (numbered p) h x y e) (explained-fits (numbered p) h x y e 256 (passed-count s q) (omega arith)))
+
+  record-tells : Admitted L words p → 256 ≤ length out → T (judgedList L s (p ∷ [])) (explainedRecord L p s)
   unfolding entriesAfter judgedList explainedRecord firstBroken
-  record-tells room = go (eqb (numberOf (questions L s)) 0) refl
+  record-tells a room = go (eqb (numberOf (questions L s)) 0) refl
     where
       go : (t : Bool) → eqb (numberOf (questions L s)) 0 ≡ t
           → T (pick t (judgment.Judged (orElse p (verdict (numbered p) h) AllMet)) (judgment.Refused (questions L s))) (ask t (Refused (questions L s)) (answerTo (numbered p) h (verdict (numbered p) h)))
-      go true e = verdict-tells (number-passed (questions L s) (eqb-true (numberOf (questions L s)) 0 e)) room (verdict (numbered p) h) refl
-      go false e = means.refused room
+      go true e = verdict-tells a (number-passed (questions L s) (eqb-true (numberOf (questions L s)) 0 e)) room (verdict (numbered p) h) refl
+      go false e = rw e (means.refused room)
 
   all-tells : T (predicateJudgment L words p s) (explanation L words (length out) p s)
   unfolding entriesAfter predicateJudgment judged explanation
   all-tells = work (leb (workWords L) words) refl
     where
       entries : Admitted L words p → (t : Bool) → leb 256 (length out) ≡ t → T (judgedList L s (p ∷ [])) (ask t FewEntries (explainedRecord L p s))
-      entries a true e = record-tells (leb-true 256 (length out) e)
+      entries a true e = record-tells a (leb-true 256 (length out) e)
       entries a false e = means.few a (leb-false 256 (length out) e)
 
       numbers : workWords L ≤ words → (t : Bool) → isNumber p ≡ t → T (pick t (judgedList L s (p ∷ [])) judgment.NoSuchNumber) (ask t NoSuchNumber (ask (leb 256 (length out)) FewEntries (explainedRecord L p s)))
@@ -71,27 +80,27 @@ module _ (words p : ℕ) (s out : List ℕ) where
       work : (t : Bool) → leb (workWords L) words ≡ t
           → T (pick t (pick (isNumber p) (judgedList L s (p ∷ [])) judgment.NoSuchNumber) (judgment.Refused ShortWork)) (ask t (Refused ShortWork) (ask (isNumber p) NoSuchNumber (ask (leb 256 (length out)) FewEntries (explainedRecord L p s))))
       work true e = numbers (leb-true (workWords L) words e) (isNumber p) refl
-      work false e = means.short-work
+      work false e = means.short-work (leb-false (workWords L) words e)
 
   -- of an answer that code gives, and the slice that it leaves
-  pub tells-why : (r : Explanation) (out' : List ℕ) → r ≡ explanation L words (length out) p s → out' ≡ entriesAfter L p s r out → TellsWhy words p s out (predicateJudgment L words p s) r out'
+  pub tells-why : (r : Explanation) (out' : List ℕ) → r ≡ explanation L words (length out) p s → out' ≡ entriesAfter L (refusalNumber r) p s out → TellsWhy words p s out (predicateJudgment L words p s) r out'
   tells-why r out' e f = rw (f, e) all-tells
 
 -- ---- the hosts' numbers
 
 pub tells-hosts : (p : ℕ) (s out : List ℕ) {j : Judgment} {r : Explanation} {out' : List ℕ} → TellsWhy 1024 p s out j r out' → TellsHostsWhy p s out (packedJudgment j) (packedExplanation r) out'
-tells-hosts p s out means.short-work = means.refused 1 0
-tells-hosts p s out means.no-such-number = means.refused 2 0
+tells-hosts p s out (means.short-work m) = absurd (omega arith)
+tells-hosts p s out means.no-such-number = means.no-such-number
 tells-hosts p s out (means.few a m) = means.few (a .inRange) m
-tells-hosts p s out (means.refused {r} m) = means.refused (numberOf r) (placeOf r)
-tells-hosts p s out (means.met m) = means.met m
-tells-hosts p s out (means.broken a b l m e f) = means.broken a b l m e f
+tells-hosts p s out (means.refused {r} m) = means.refused (numberOf r) (placeOf r) m
+tells-hosts p s out (means.met m e) = means.met m e
+tells-hosts p s out (means.broken a b l m x e f) = means.broken a b l m x e f
 
 -- they fit where the judgment's do
 pub why-small : {words p : ℕ} {s out : List ℕ} {j : Judgment} {r : Explanation} {out' : List ℕ} → TellsWhy words p s out j r out' → Fitting j → packedExplanation r < 2 ^ 32
-why-small means.short-work f = omega arith
+why-small (means.short-work m) f = omega arith
 why-small means.no-such-number f = omega arith
 why-small (means.few a m) f = omega arith
 why-small (means.refused {r} m) f = omega (arith, f, number-most r)
-why-small (means.met m) f = omega arith
-why-small (means.broken a b l m e fits) f = omega arith
+why-small (means.met m e) f = omega arith
+why-small (means.broken a b l m x e fits) f = omega arith

@@ -1,4 +1,5 @@
 -- The explaining call: questions 1, 2 and 41, then the record's, then 42; what it writes and leaves; and the host's number for its answer.
+use mathlib.Core.Bool.{cond}
 use mathlib.Core.List.{List, [], _++_}
 use Prim.Native.Nat.{ℕ}
 use lib.Dec.{eqb, leb}
@@ -48,26 +49,33 @@ explanation L words entries p s =
 abbrev pub over : List ℕ → List ℕ → List ℕ
 over l out = l ++ drop (length l) out
 
--- the slice of entries after an answer: a refusal writes none
-unfoldable pub entriesAfter : Layout → ℕ → List ℕ → Explanation → List ℕ → List ℕ
-entriesAfter L p s (Told k) out = over (eventsTold (numbered p) (historyOf L s) (verdict (numbered p) (historyOf L s))) out
-entriesAfter L p s NoSuchNumber out = out
-entriesAfter L p s FewEntries out = out
-entriesAfter L p s NoBreak out = out
-entriesAfter L p s (Refused r) out = out
+-- the number of the question that refused, 0 where none did, and its place
+abbrev pub refusalNumber : Explanation → ℕ
+refusalNumber (Told k) = 0
+refusalNumber NoSuchNumber = 2
+refusalNumber FewEntries = 41
+refusalNumber NoBreak = 42
+refusalNumber (Refused r) = numberOf r
 
--- the work slice after it: unchanged where 1, 2 or 41 refused, zero where 3 to 10 did, else the visible sets
-unfoldable pub workLeft : Layout → List ℕ → Explanation → List ℕ → List ℕ
-workLeft L s (Told k) work = workAfter L 0 s work
-workLeft L s NoSuchNumber work = work
-workLeft L s FewEntries work = work
-workLeft L s NoBreak work = workAfter L 0 s work
-workLeft L s (Refused r) work = workAfter L (numberOf r) s work
+abbrev pub refusalPlace : Explanation → ℕ
+refusalPlace (Told k) = 0
+refusalPlace NoSuchNumber = 0
+refusalPlace FewEntries = 0
+refusalPlace NoBreak = 0
+refusalPlace (Refused r) = placeOf r
+
+-- the slice of entries after an explanation: a refusal, whatever its number, writes none
+unfoldable pub entriesAfter : Layout → ℕ → ℕ → List ℕ → List ℕ → List ℕ
+entriesAfter L number p s out = cond (eqb number 0) (over (eventsTold (numbered p) (historyOf L s) (verdict (numbered p) (historyOf L s))) out) out
+
+-- the work slice after it: as after a judgment, but that 41, which is asked before 3, leaves it unchanged, and 42, which is asked after 10, with the visible sets
+unfoldable pub workLeft : Layout → ℕ → List ℕ → List ℕ → List ℕ
+workLeft L number s work = cond (eqb number 41) work (cond (eqb number 42) (workAfter L 0 s work) (workAfter L number s work))
 
 -- the host's number: the entries that were written, or 2,097,152 + 1,024 × number + place refused
 abbrev pub packedExplanation : Explanation → ℕ
 packedExplanation (Told k) = k
-packedExplanation NoSuchNumber = packedRefusal 2 0
-packedExplanation FewEntries = packedRefusal 41 0
-packedExplanation NoBreak = packedRefusal 42 0
-packedExplanation (Refused r) = packedRefusal (numberOf r) (placeOf r)
+packedExplanation NoSuchNumber = packedRefusal (refusalNumber NoSuchNumber) (refusalPlace NoSuchNumber)
+packedExplanation FewEntries = packedRefusal (refusalNumber FewEntries) (refusalPlace FewEntries)
+packedExplanation NoBreak = packedRefusal (refusalNumber NoBreak) (refusalPlace NoBreak)
+packedExplanation (Refused r) = packedRefusal (refusalNumber (Refused r)) (refusalPlace (Refused r))

@@ -13,7 +13,7 @@ ghost use Rattle.record.specs.Questions.{questions};
 ghost use Rattle.record.specs.Words.{visibleWords};
 ghost use Rattle.consistency.specs.Predicates.{numbered, verdict};
 ghost use Rattle.judge.specs.Judgments.{predicateJudgment};
-ghost use Rattle.explain.specs.Explanations.{answerTo, eventsTold, over, explainedRecord, explanation, entriesAfter, workLeft};
+ghost use Rattle.explain.specs.Explanations.{answerTo, eventsTold, over, explainedRecord, explanation, refusalNumber, entriesAfter, workLeft};
 ghost use Rattle.explain.specs.Means.{TellsWhy};
 
 // The answer of an explaining call: how many entries were written, or what refused it.
@@ -45,8 +45,8 @@ fn explain_passed(number: usize, s: &[u8], v: &[u64], entries: &mut [u16]) -> Ex
 fn explain_record(number: usize, s: &[u8], work: &mut [u64], entries: &mut [u16]) -> Explanation
     requires { ⌜ (1024 ≤ length (now work)) × (1 ≤ number) × (number ≤ 13) × (256 ≤ length (now entries)) ⌝ }
     ensures { λ r. ⌜ r ≡ explainedRecord (editionOf (now (s .entry))) number (now (s .entry)) ⌝ }
-    ensures { λ r. ⌜ now (entries .exit) ≡ entriesAfter (editionOf (now (s .entry))) number (now (s .entry)) r (now (entries .entry)) ⌝ }
-    ensures { λ r. ⌜ now (work .exit) ≡ workLeft (editionOf (now (s .entry))) (now (s .entry)) r (now (work .entry)) ⌝ }
+    ensures { λ r. ⌜ now (entries .exit) ≡ entriesAfter (editionOf (now (s .entry))) (refusalNumber r) number (now (s .entry)) (now (entries .entry)) ⌝ }
+    ensures { λ r. ⌜ now (work .exit) ≡ workLeft (editionOf (now (s .entry))) (refusalNumber r) (now (s .entry)) (now (work .entry)) ⌝ }
 {
     let reading = reader::ask(s, work);
     if record::number(reading) != 0 {
@@ -58,8 +58,8 @@ fn explain_record(number: usize, s: &[u8], work: &mut [u64], entries: &mut [u16]
 // Tells what happened where a predicate, by its number, breaks.
 pub fn explain(number: usize, s: &[u8], work: &mut [u64], entries: &mut [u16]) -> Explanation
     ensures { λ r. ⌜ r ≡ explanation (editionOf (now (s .entry))) (length (now (work .entry))) (length (now (entries .entry))) number (now (s .entry)) ⌝ }
-    ensures { λ r. ⌜ now (entries .exit) ≡ entriesAfter (editionOf (now (s .entry))) number (now (s .entry)) r (now (entries .entry)) ⌝ }
-    ensures { λ r. ⌜ now (work .exit) ≡ workLeft (editionOf (now (s .entry))) (now (s .entry)) r (now (work .entry)) ⌝ }
+    ensures { λ r. ⌜ now (entries .exit) ≡ entriesAfter (editionOf (now (s .entry))) (refusalNumber r) number (now (s .entry)) (now (entries .entry)) ⌝ }
+    ensures { λ r. ⌜ now (work .exit) ≡ workLeft (editionOf (now (s .entry))) (refusalNumber r) (now (s .entry)) (now (work .entry)) ⌝ }
     ensures { λ r. ⌜ TellsWhy (length (now (work .entry))) number (now (s .entry)) (now (entries .entry)) (predicateJudgment (editionOf (now (s .entry))) (length (now (work .entry))) number (now (s .entry))) r (now (entries .exit)) ⌝ }
 {
     if work.len() < 1024 {

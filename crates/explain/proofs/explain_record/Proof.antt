@@ -1,5 +1,6 @@
 -- `explain::explain_record` meets its contract: the reader's answer, or the predicate's where no question got a no. Assumes nothing.
-use mathlib.Core.Path.{_≡_, refl, sym, _∙_}
+use mathlib.Core.Path.{_≡_, sym, _∙_}
+use mathlib.Core.Logic.{_≢_}
 use mathlib.Core.List.{List}
 use Prim.Native.Nat.{ℕ}
 use borrow.Author.Needs.{needs}
@@ -8,8 +9,7 @@ use Rattle.record.specs.Questions.{numberOf, questions}
 use Rattle.record.specs.declared.Reading.the-variants.{Passed}
 use Rattle.record.proofs.QuestionsAnswered.{number-passed}
 use Rattle.judge.proofs.RecordLaws.{work-visible}
-use Rattle.explain.specs.Explanations.{entriesAfter, workLeft}
-use Rattle.explain.proofs.ExplanationLaws.{record-refused, record-passed, entries-told, work-told}
+use Rattle.explain.proofs.ExplanationLaws.{record-refused, record-passed, entries-refused, work-refused, entries-told, work-told}
 use Rattle.explain.proofs.explain_record.Statement.{statement}
 use Rattle.explain.proofs.explain_record.Tie as tie
 
@@ -40,11 +40,14 @@ same-length : tie.Need-same-length
 same-length c = search needs
 
 returns : tie.Need-returns
-unfolding entriesAfter workLeft
 returns c =
     let n = c .before in
     let a = asked n in
-    (record-refused (start n .args .number) (bytes n) (a .ask .result) (a .ask .ensures .0) (λ z. c .if1 .taken (n .number .ensures ∙ z)), (refl, a .ask .ensures .1))
+    let s = start n in
+    let r = a .ask .result in
+    let q = a .ask .ensures .0 in
+    let no : numberOf r ≢ 0 = λ z. c .if1 .taken (n .number .ensures ∙ z) in
+    (record-refused (s .args .number) (bytes n) r q no, (entries-refused (s .args .number) (bytes n) r q no (s .args .entries .now), a .ask .ensures .1 ∙ work-refused (s .args .number) (bytes n) r q (s .args .work .now)))
 
 explain-passed-requires : tie.Need-explain-passed-requires
 explain-passed-requires c κs =
@@ -61,7 +64,6 @@ same-length-3 : tie.Need-same-length-3
 same-length-3 c = search needs
 
 returns-2 : tie.Need-returns-2
-unfolding workLeft
 returns-2 c =
     let f = c .before .before in
     let e = f .before .before .before in

@@ -3,7 +3,7 @@ use mathlib.Core.Path.{ap, _∙_}
 use borrow.Author.Needs.{needs}
 use Rattle.record.specs.Layout.{editionOf}
 use Rattle.judge.proofs.JudgmentLaws.{predicate-fits}
-use Rattle.explain.specs.Explanations.{entriesAfter, packedExplanation}
+use Rattle.explain.specs.Explanations.{refusalNumber, entriesAfter, packedExplanation}
 use Rattle.explain.specs.declared.Explanation.{Explanation}
 use Rattle.explain.proofs.TellsLaws.{tells-hosts, why-small}
 use Rattle.gcr.proofs.explaining.gcr_explain.Statement.{statement}
@@ -29,7 +29,7 @@ returns c =
     let e = c .before .before .before .before in
     let a = start e .args in
     let s = a .s .now in
-    (c .pack .ensures ∙ ap packedExplanation (e .explain .ensures .0), (e .explain .ensures .1 .0 ∙ ap (λ (r : Explanation). entriesAfter (editionOf s) (a .predicate) s r (a .events .now)) (e .explain .ensures .0), rw (c .pack .ensures) (tells-hosts (a .predicate) s (a .events .now) (e .explain .ensures .1 .1 .1))))
+    (c .pack .ensures ∙ ap packedExplanation (e .explain .ensures .0), (e .explain .ensures .1 .0 ∙ ap (λ (r : Explanation). entriesAfter (editionOf s) (refusalNumber r) (a .predicate) s (a .events .now)) (e .explain .ensures .0), rw (c .pack .ensures) (tells-hosts (a .predicate) s (a .events .now) (e .explain .ensures .1 .1 .1))))
 
 pub gcr-explain-spec : {M : Type 1} → statement M
 gcr-explain-spec =
