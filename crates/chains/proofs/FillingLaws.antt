@@ -3,14 +3,16 @@
 use mathlib.Core.Path.{_≡_, refl, sym, ap, ap₂, _∙_}
 use mathlib.Core.Bool.{true, false, _||_}
 use mathlib.Core.List.{List}
-use Prim.Native.Nat.{ℕ, suc, _+_, _*_, _<_, _≤_}
+use Prim.Native.Nat.{ℕ, suc, _+_, _*_, _<_}
 use native.Mathlib.Omega.{arith}
 use native.Mathlib.Decide.{ℕ-discrete}
+use borrow.Author.Tests.{ltb-true, ltb-false}
+use lib.Dec.{ltb}
 use lib.ListN.{length, take, drop, replicate, length-replicate}
 use Rattle.rows.specs.Row.{has, orRow, rowAt, Row, RowPut}
 use Rattle.rows.specs.Relation.{reaches, related, Graph}
-use Rattle.rows.specs.Shortest.{distance}
-use Rattle.rows.proofs.Tests.{tell}
+use Rattle.rows.specs.Shortest.{leads, distance}
+use Rattle.rows.proofs.Tests.{split, tell}
 use Rattle.rows.proofs.LowestLaws.{some-of}
 use Rattle.rows.proofs.RowLaws.{length-or, row-has}
 use Rattle.rows.proofs.ShortestLaws.{reached-near, at-distance}
@@ -20,7 +22,6 @@ use Rattle.chains.proofs.JoiningLaws.{brought}
 use Rattle.chains.proofs.NearLaws.{within-none, distance-found, near-one, near-none, near-more, near-done}
 
 pub record Filling (g : List ℕ) (n w a b : ℕ) (near₀ near done next : List ℕ) (k : ℕ) : Type 0 where
-  pub upto : k ≤ n
   pub long : length near ≡ length near₀
   pub deep : length done ≡ w
   pub wide : length next ≡ w
@@ -37,7 +38,6 @@ module _ {g : List ℕ} {n w a b : ℕ} (graph : Graph g n w) (right : b < n) wh
       let flat : length z ≡ w = ap length f ∙ length-replicate w 0 in
       let joined : next ≡ orRow (replicate w 0) (rowAt g w b) = q ∙ ap₂ (λ (y : List ℕ) (k : ℕ). orRow y (take k (drop (b * w) g))) f flat in
       record {
-        upto = omega arith;
         long = refl;
         deep = deep;
         wide = ap length joined ∙ length-or (replicate w 0) (rowAt g w b) ∙ length-replicate w 0;
@@ -59,13 +59,12 @@ module _ {g : List ℕ} {n w a b : ℕ} (graph : Graph g n w) (right : b < n) wh
       row-now : rowAt near' w (k + 1) ≡ next
       row-now = p .same ∙ row-alone next w (i .wide)
 
-      pub filling-turn : {done' next' l : List ℕ} {v : ℕ} → k < n → length done' ≡ length done → length next' ≡ length next → l ≡ next → v ≡ w
+      pub filling-turn : {done' next' l : List ℕ} {v : ℕ} → length done' ≡ length done → length next' ≡ length next → l ≡ next → v ≡ w
           → ((x : ℕ) → has next' x ≡ has next x || brought g n v l done x) → ((x : ℕ) → has done' x ≡ has done x || has l x)
           → Filling g n w a b near₀ near' done' next' (k + 1)
-      filling-turn {done'} {next'} h d e q u joined taken =
+      filling-turn {done'} {next'} d e q u joined taken =
           let one : k + 1 ≡ suc k = omega arith in
           record {
-            upto = omega arith;
             long = p .size ∙ i .long;
             deep = d ∙ i .deep;
             wide = e ∙ i .wide;
@@ -84,9 +83,11 @@ module _ {g : List ℕ} {n w a b : ℕ} (graph : Graph g n w) (right : b < n) wh
     pub filling-found : has next a ≡ true → k < n → k ≡ distance n (related g w) a b
     filling-found hit h = sym (distance-found n (related g w) b k a h (i .far) (sym at-next ∙ hit))
 
-    -- before all numbers of steps were tried
-    pub filling-end : reaches n (related g w) a b ≡ true → n ≤ k → ⊥
-    filling-end e h =
-        let all : k ≡ n = omega (arith, i .upto) in
+    -- a turn comes while fewer steps were tried than a needs, so before n were
+    pub filling-below : reaches n (related g w) a b ≡ true → k < n
+    filling-below e =
+        let d : ℕ = distance n (related g w) a b in
         let near = reached-near n (related g w) b right a e in
-        tell (within n (related g w) b n a) (some-of n _ (distance n (related g w) a b) near (at-distance n (related g w) b right a near)) (rw all at (i .far))
+        split (ltb d k)
+        (λ t. absurd (tell (within n (related g w) b k a) (some-of k (λ j. leads n (related g w) j a b) d (ltb-true d k t) (at-distance n (related g w) b right a near)) (i .far)))
+        (λ t. omega (arith, ltb-false d k t, near))

@@ -54,16 +54,17 @@ fn fill_near(
     rows::clear(next);
     table_rows::put_row(near, w, 0, done, 0);
     rows::union_at(next, table, b * w);
-    for k in 0..n {
+    let mut k = 0;
+    loop {
         if rows::test(next, a) {
             return k;
         }
-        table_rows::put_row(near, w, k + 1, next, 0);
-        let at = (k + 1) * w;
+        k += 1;
+        table_rows::put_row(near, w, k, next, 0);
+        let at = k * w;
         let end = at + w;
         join_rows(table, n, &near[at..end], done, next);
     }
-    n
 }
 
 // `lowest_after`, with `tried` for `without`: what is tried in vain joins it.

@@ -10,7 +10,7 @@ use Rattle.rows.proofs.RowLaws.{row-in}
 use Rattle.rows.proofs.SliceLaws.{sliceAt, slice-row}
 use Rattle.rows.proofs.ReachLaws.{graph-room}
 use Rattle.chains.proofs.RoomLaws.{near-room, row-alone}
-use Rattle.chains.proofs.FillingLaws.{Filling, filling-begin, filling-turn, filling-found, filling-end}
+use Rattle.chains.proofs.FillingLaws.{Filling, filling-begin, filling-turn, filling-found, filling-below}
 use Rattle.chains.proofs.fill_near.Statement.{statement}
 use Rattle.chains.proofs.fill_near.Tie as tie
 
@@ -39,11 +39,8 @@ joining c = c .before .before .before .before
 abbrev entry : tie.After-union-at-arg Inv-loop μ-loop → tie.Start Inv-loop μ-loop
 entry c = start (cleared (cleared-both c))
 
-abbrev turning : tie.After-test Inv-loop μ-loop → tie.In-loop Inv-loop μ-loop
-turning c = c .before .before
-
 abbrev at-loop : tie.After-test Inv-loop μ-loop → tie.At-loop Inv-loop μ-loop
-at-loop c = turning c .before
+at-loop c = c .before .before
 
 abbrev tested : tie.After-put-row2 Inv-loop μ-loop → tie.After-test Inv-loop μ-loop
 tested c = c .before .before .before .before
@@ -72,14 +69,17 @@ kept-near c = c .loop .inv .long ∙ first (joining c) .put-row .ensures .size
 kept-done : (c : tie.At-loop Inv-loop μ-loop) → length (c .loop .done) ≡ length (entry (joining c) .args .done .now)
 kept-done c = c .loop .inv .deep ∙ sym (entry (joining c) .pre .0 .1)
 
+-- fewer steps were tried than there are events
+below : (c : tie.At-loop Inv-loop μ-loop) → c .loop .k < entry (joining c) .args .n
+below c = let s = entry (joining c) in filling-below (s .pre .0 .0) (s .pre .1 .0 .1) (c .loop .inv) (s .pre .1 .0 .0) (s .pre .1 .1)
+
 -- there is room for the row of a turn
-room : (c : tie.In-loop Inv-loop μ-loop) → let l = c .before in let w = length (entry (joining l) .args .next .now) in
+room : (l : tie.At-loop Inv-loop μ-loop) → let w = length (entry (joining l) .args .next .now) in
     ((l .loop .k + 1) * w + w ≤ length (l .loop .near)) × (length (l .loop .near) * 8 < 2 ^ 64)
-room c =
-    let l = c .before in
+room l =
     let s = entry (joining l) in
     let a = s .args in (
-      near-room (a .n) (length (a .next .now)) (l .loop .k) (length (l .loop .near)) (c .loop-test .taken) (omega (arith, kept-near l, s .pre .1 .0 .2)),
+      near-room (a .n) (length (a .next .now)) (l .loop .k) (length (l .loop .near)) (below l) (omega (arith, kept-near l, s .pre .1 .0 .2)),
       omega (arith, kept-near l, s .good),
     )
 
@@ -122,7 +122,7 @@ loop-holds c =
 
 test-requires : tie.Need-test-requires Inv-loop μ-loop
 test-requires c κs =
-    let l = c .before .before in
+    let l = c .before in
     let s = entry (joining l) in
     omega (arith, l .loop .inv .wide, s .pre .0 .0 .wide, s .pre .1 .0 .0)
 
@@ -140,33 +140,28 @@ returns c =
     let t = c .before in
     let l = at-loop t in
     let s = entry (joining l) in
-    let below = turning t .loop-test .taken in
+    let below = below (at-loop t) in
     let found = filling-found (s .pre .0 .0) (s .pre .1 .0 .1) (l .loop .inv) (s .pre .1 .0 .0) (sym (t .test .ensures) ∙ c .if1 .taken) below in
     ((found, below), (l .loop .inv .nears, kept-near l))
 
-add-put-row : tie.Need-add-put-row Inv-loop μ-loop
-add-put-row c =
-    let t = c .before .before in
-    omega (arith, turning t .loop-test .taken, entry (joining (at-loop t)) .good)
+add-k : tie.Need-add-k Inv-loop μ-loop
+add-k c =
+    let l = at-loop (c .before) in
+    omega (arith, below l, entry (joining l) .good)
 
 put-row-requires-2 : tie.Need-put-row-requires-2 Inv-loop μ-loop
 put-row-requires-2 c κs =
     let t = c .before .before .before in
-    (room (turning t) .0, omega (arith, at-loop t .loop .inv .wide))
-
-add-at : tie.Need-add-at Inv-loop μ-loop
-add-at c =
-    let t = tested (c .before .before) in
-    omega (arith, turning t .loop-test .taken, entry (joining (at-loop t)) .good)
+    (room (at-loop t) .0, omega (arith, at-loop t .loop .inv .wide))
 
 mul-at : tie.Need-mul-at Inv-loop μ-loop
-mul-at c = let r = room (turning (tested (c .before .before))) in omega (arith, r .0, r .1)
+mul-at c = let r = room (at-loop (tested (c .before .before))) in omega (arith, r .0, r .1)
 
 add-end : tie.Need-add-end Inv-loop μ-loop
-add-end c = let r = room (turning (tested (c .before .before))) in omega (arith, r .0, r .1)
+add-end c = let r = room (at-loop (tested (c .before .before))) in omega (arith, r .0, r .1)
 
 mul-join-rows : tie.Need-mul-join-rows Inv-loop μ-loop
-mul-join-rows c = let r = room (turning (tested (c .before .before))) in omega (arith, r .0, r .1)
+mul-join-rows c = let r = room (at-loop (tested (c .before .before))) in omega (arith, r .0, r .1)
 
 sub-join-rows : tie.Need-sub-join-rows Inv-loop μ-loop
 sub-join-rows c = omega arith
@@ -177,7 +172,7 @@ part-join-rows-start c = search needs
 part-join-rows-end : tie.Need-part-join-rows-end Inv-loop μ-loop
 part-join-rows-end c =
     let p = c .before .before .before in
-    omega (arith, room (turning (tested p)) .0, p .put-row2 .ensures .size)
+    omega (arith, room (at-loop (tested p)) .0, p .put-row2 .ensures .size)
 
 join-rows-requires : tie.Need-join-rows-requires Inv-loop μ-loop
 join-rows-requires c κs =
@@ -189,13 +184,8 @@ join-rows-requires c κs =
       ((ap length (turn-row p), i .deep ∙ sym (i .wide)), λ x m. row-in (s .args .n) _ (l .loop .next) (i .nexts) x (rw (turn-row p) at m) .0),
     )
 
-add-k : tie.Need-add-k Inv-loop μ-loop
-add-k c =
-    let t = tested (lent (joined c .before)) in
-    omega (arith, turning t .loop-test .taken, entry (joining (at-loop t)) .good)
-
 loop-less : tie.Need-loop-less Inv-loop μ-loop
-loop-less c = search needs
+loop-less c = omega (arith, below (at-loop (tested (lent (joined c .before)))))
 
 loop-again : tie.Need-loop-again Inv-loop μ-loop
 loop-again c =
@@ -205,23 +195,7 @@ loop-again c =
     let s = entry (joining l) in
     let deep : length (j .last .1 .1 .1 .0) ≡ length (l .loop .done) = search needs in
     let wide : length (j .last .1 .1 .1 .1 .0) ≡ length (l .loop .next) = search needs in
-    filling-turn (s .pre .0 .0) (s .pre .1 .0 .1) (l .loop .inv) (s .pre .1 .0 .0) (missed p) (p .put-row2 .ensures)
-    (turning (tested p) .loop-test .taken) deep wide (turn-row p) (l .loop .inv .wide) (j .ensures .0) (j .ensures .1)
-
-same-length-4 : tie.Need-same-length-4 Inv-loop μ-loop
-same-length-4 c = kept-near (c .before)
-
-same-length-5 : tie.Need-same-length-5 Inv-loop μ-loop
-same-length-5 c = kept-done (c .before)
-
-same-length-6 : tie.Need-same-length-6 Inv-loop μ-loop
-same-length-6 c = c .before .loop .inv .wide
-
-returns-2 : tie.Need-returns-2 Inv-loop μ-loop
-returns-2 c =
-    let l = c .before in
-    let s = entry (joining l) in
-    absurd (filling-end (s .pre .0 .0) (s .pre .1 .0 .1) (l .loop .inv) (s .pre .1 .0 .0) (s .pre .1 .1) (omega (arith, c .loop-test .left)))
+    filling-turn (s .pre .0 .0) (s .pre .1 .0 .1) (l .loop .inv) (s .pre .1 .0 .0) (missed p) (p .put-row2 .ensures) deep wide (turn-row p) (l .loop .inv .wide) (j .ensures .0) (j .ensures .1)
 
 pub fill-near-spec : {M : Type 1} → statement M
 fill-near-spec =
@@ -240,9 +214,8 @@ fill-near-spec =
     same-length-2
     same-length-3
     returns
-    add-put-row
+    add-k
     put-row-requires-2
-    add-at
     mul-at
     add-end
     mul-join-rows
@@ -250,10 +223,5 @@ fill-near-spec =
     part-join-rows-start
     part-join-rows-end
     join-rows-requires
-    add-k
     loop-less
-    loop-again
-    same-length-4
-    same-length-5
-    same-length-6
-    returns-2)
+    loop-again)
