@@ -14,7 +14,7 @@ use Rattle.rows.proofs.Tests.{tell, same-test, or-elim, or-left, or-right, and-
 use Rattle.rows.proofs.LowestLaws.{some-of, some-at}
 use Rattle.rows.proofs.RowLaws.{has-or, has-within, length-insert, length-or, only-some, only-below}
 use Rattle.rows.proofs.TableLaws.{length-row-le}
-use Rattle.chains.proofs.FreshLaws.{Fresh, fresh-first, has-fresh}
+use Rattle.rows.proofs.FreshLaws.{Fresh, fresh-first, has-fresh}
 
 -- the rows of those members of l that m lacks have x
 abbrev pub brought : List ℕ → ℕ → ℕ → List ℕ → List ℕ → ℕ → Bool

@@ -1,6 +1,5 @@
 -- What belongs to no one function.
 pub mod RoomLaws
-pub mod FreshLaws
 pub mod JoiningLaws
 pub mod NearLaws
 pub mod FillingLaws

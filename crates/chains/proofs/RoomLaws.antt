@@ -3,14 +3,10 @@ use mathlib.Core.Path.{_≡_}
 use mathlib.Core.List.{List}
 use Prim.Native.Nat.{ℕ, _+_, _*_, _<_, _≤_}
 use native.Mathlib.Omega.{arith}
-use lib.ListN.{length, take, replicate, length-replicate}
-use lib.Seq.{take-all, length-take-le}
+use lib.ListN.{length}
+use lib.Seq.{take-all}
 use Rattle.rows.specs.Row.{rowAt}
 use Rattle.rows.proofs.TableLaws.{row-room}
-
--- a scratch row of k words is cut to the width
-pub length-cut : (k w : ℕ) → w ≤ k → length (take {A = ℕ} w (replicate k 0)) ≡ w
-length-cut k w h = length-take-le w (replicate k 0) (omega (arith, length-replicate {A = ℕ} k 0))
 
 -- a row by itself is row 0 of a table
 pub row-alone : (l : List ℕ) (w : ℕ) → length l ≡ w → rowAt l w 0 ≡ l

@@ -14,7 +14,7 @@ use Rattle.rows.specs.Relation.{related}
 use Rattle.rows.proofs.Tests.{tell, never, or-elim, or-left, or-right, and-both, and-left, and-right, not-of}
 use Rattle.rows.proofs.LowestLaws.{lowest-hit, lowest-none}
 use Rattle.rows.proofs.RowLaws.{has-within, length-insert, only-some, only-below}
-use Rattle.chains.proofs.FreshLaws.{Fresh, fresh-first, has-fresh}
+use Rattle.rows.proofs.FreshLaws.{Fresh, fresh-first, has-fresh}
 
 pub record Trying (g : List ℕ) (w e : ℕ) (near tried₀ tried : List ℕ) : Type 0 where
   pub long : length near ≡ w

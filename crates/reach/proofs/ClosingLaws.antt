@@ -1,6 +1,6 @@
 -- Laws of the search backwards from an event b: `found` grows by the rows of its members, and `done` has those whose rows are in. Assumes nothing.
 use mathlib.Core.Path.{_≡_, sym, ap, _∙_}
-use mathlib.Core.Bool.{Bool, true, false, _||_}
+use mathlib.Core.Bool.{Bool, true, _||_}
 use mathlib.Core.List.{List}
 use Prim.Native.Nat.{ℕ, _-_, _*_, _^_, _≤_, _<_}
 use native.Mathlib.Omega.{arith}
@@ -12,7 +12,8 @@ use Rattle.rows.specs.Row.{has, insert, orRow, countRow, onlyFirst, rowAt, Row}
 use Rattle.rows.specs.Relation.{reaches, Steps, one, more, related, Graph}
 use Rattle.rows.proofs.Tests.{tell, or-elim, or-left, or-right}
 use Rattle.rows.proofs.LowestLaws.{lowest-low}
-use Rattle.rows.proofs.RowLaws.{has-insert, has-or, has-within, has-cleared, length-insert, length-or, count-insert, count-le, only-none, only-lowest, row-of}
+use Rattle.rows.proofs.FreshLaws.{Fresh, fresh, has-fresh, fresh-falls}
+use Rattle.rows.proofs.RowLaws.{has-or, has-within, has-cleared, length-insert, length-or, only-none, row-of}
 use Rattle.rows.proofs.TableLaws.{length-row-le}
 use Rattle.rows.proofs.ReachLaws.{steps-back, reaches-sound, reaches-complete}
 
@@ -49,26 +50,19 @@ closing-begin {w} {b} {z} graph h e p q =
 
 -- ---- a turn takes in the row of an event that is found and not done
 
-pub record Next (n : ℕ) (found done : List ℕ) (x : ℕ) : Type 0 where
-  pub member : has found x ≡ true
-  pub new : has done x ≡ false
-  pub inside : x < n
-
 module _ {g : List ℕ} {n w b : ℕ} {found done : List ℕ} (i : Closing g n w b found done) where
-  pub closing-next : {x : ℕ} → x ≡ lowest (64 * length found) (onlyFirst found done) → x < 64 * w → Next n found done x
-  closing-next {x} e h =
-      let p = only-lowest found done (64 * length found) x e (omega (arith, i .wide)) in
-      record { member = p .0; new = p .1; inside = i .sound x (p .0) .0 }
+  pub closing-next : {x : ℕ} → x ≡ lowest (64 * length found) (onlyFirst found done) → x < 64 * w → Fresh n found done x
+  closing-next e h = fresh (λ x t. i .sound x t .0) (i .wide) e h
 
-  grown : {a : ℕ} → Graph g n w → Next n found done a → Closing g n w b (orRow found (rowAt g w a)) (insert done a)
+  grown : {a : ℕ} → Graph g n w → Fresh n found done a → Closing g n w b (orRow found (rowAt g w a)) (insert done a)
   grown {a} graph p = record {
     wide = length-or found (rowAt g w a) ∙ i .wide;
     deep = length-insert done a ∙ i .deep;
     sound = λ x e. or-elim (has found x) (has (rowAt g w a) x) (sym (with-row g w found a x (i .wide)) ∙ e)
         (λ t. i .sound x t)
-        (λ t. (graph .inside a x (p .inside) t, more t (p .inside) (i .sound a (p .member) .1)));
+        (λ t. (graph .inside a x (p .below) t, more t (p .below) (i .sound a (p .member) .1)));
     base = λ x s. kept x (i .base x s);
-    closed = λ y x e s. or-elim (eqb a y) (has done y) (sym (has-insert done a y (omega (arith, i .wide, i .deep, has-within found a (p .member)))) ∙ e)
+    closed = λ y x e s. or-elim (eqb a y) (has done y) (sym (has-fresh p (i .wide) (i .deep) y) ∙ e)
         (λ t. with-row g w found a x (i .wide) ∙ or-right (has found x) (has (rowAt g w a) x) (rw (eqb-true a y t) s))
         (λ t. kept x (i .closed y x t s));
   }
@@ -76,16 +70,14 @@ module _ {g : List ℕ} {n w b : ℕ} {found done : List ℕ} (i : Closing g n w
       kept : (x : ℕ) → has found x ≡ true → has (orRow found (rowAt g w a)) x ≡ true
       kept x t = with-row g w found a x (i .wide) ∙ or-left (has found x) (has (rowAt g w a) x) t
 
-  pub closing-turn : {found' done' : List ℕ} {a : ℕ} → Graph g n w → Next n found done a
+  pub closing-turn : {found' done' : List ℕ} {a : ℕ} → Graph g n w → Fresh n found done a
       → found' ≡ orRow found (take (length found) (drop (a * w) g)) → done' ≡ insert done a → Closing g n w b found' done'
   closing-turn graph p e q = rw (e, q, i .wide) (grown graph p)
 
   -- and brings the measure down
-  pub closing-falls : {done' : List ℕ} {a : ℕ} → Next n found done a → ((k : ℕ) → getD done' k 0 < 2 ^ 64) → done' ≡ insert done a
+  pub closing-falls : {done' : List ℕ} {a : ℕ} → Fresh n found done a → ((k : ℕ) → getD done' k 0 < 2 ^ 64) → done' ≡ insert done a
       → 64 * w - countRow done' < 64 * w - countRow done
-  closing-falls {done'} {a} p words q =
-      let h : a < 64 * w = omega (arith, i .wide, has-within found a (p .member)) in
-      omega (arith, i .deep, count-insert done a (omega (arith, i .deep)) (p .new), count-le done' words, ap countRow q, ap length q, length-insert done a)
+  closing-falls p words q = fresh-falls p (i .wide) (i .deep) words q
 
   -- ---- it ends where there is none
 

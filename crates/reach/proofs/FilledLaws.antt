@@ -1,9 +1,9 @@
 -- Laws of a table whose n rows are lent, closed and given back: the words after them stay. Assumes nothing.
 use mathlib.Core.Path.{_≡_, sym, ap, _∙_}
 use mathlib.Core.List.{List, _++_}
-use Prim.Native.Nat.{ℕ, _+_, _*_, _<_, _≤_}
+use Prim.Native.Nat.{ℕ, _+_, _*_, _<_}
 use native.Mathlib.Omega.{arith}
-use lib.ListN.{length, take, drop, replicate, length-append, length-drop, length-replicate, take-append-drop}
+use lib.ListN.{length, take, drop, length-append, length-drop, take-append-drop}
 use lib.Seq.{length-take-le, drop-at}
 use Rattle.rows.specs.Row.{has, rowAt}
 use Rattle.rows.specs.Relation.{Rel, reaches, related, Table, Graph, Rows, Filled}
@@ -16,10 +16,6 @@ use Rattle.rows.proofs.ReachLaws as laws
 -- what `close` ensures, of a relation that the caller knows by another name
 pub table-closed : (n w : ℕ) (r : Rel) (g g′ : List ℕ) → Table n w r g → Filled n w (reaches n (related g w)) g g′ → Table n w (reaches n r) g′
 table-closed n w r g g′ t f b h = table-row n w r g t b (rowAt g′ w b) h (f .table b h)
-
--- a scratch row of k words is cut to the width
-pub length-cut : (k w : ℕ) → w ≤ k → length (take {A = ℕ} w (replicate k 0)) ≡ w
-length-cut k w h = length-take-le w (replicate k 0) (omega (arith, length-replicate {A = ℕ} k 0))
 
 module _ {g : List ℕ} {n w : ℕ} (m : Graph g n w) where
   pub part-long : length (take (n * w) g) ≡ n * w

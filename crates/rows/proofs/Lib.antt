@@ -5,6 +5,7 @@ pub mod Digits
 pub mod FrontLaws
 pub mod StoredLaws
 pub mod RowLaws
+pub mod FreshLaws
 pub mod CountLaws
 pub mod JoinLaws
 pub mod TableLaws

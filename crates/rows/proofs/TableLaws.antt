@@ -10,7 +10,7 @@ use native.Mathlib.Decide.{ℕ-discrete, decLt}
 use borrow.Author.Tests.{eq-eqb, ne-eqb}
 use lib.Dec.{eqb}
 use lib.Bits.{bitOr}
-use lib.ListN.{length, getD, set, take, drop, replicate, length-take, length-drop, length-append, List·getD-append, List·getD-eq-default}
+use lib.ListN.{length, getD, set, take, drop, replicate, length-take, length-drop, length-append, length-replicate, List·getD-append, List·getD-eq-default}
 use lib.Seq.{length-take-le, take-append-le, drop-append-le, getD-take, getD-drop, getD-set-other, getD-append-add, take-set-lt, drop-set-add, take-at, drop-at, ext-getD}
 use Rattle.rows.specs.Row.{bitOf, has, insert, orRow, orPart, rowAt}
 use Rattle.rows.proofs.Tests.{tell, never}
@@ -29,6 +29,10 @@ rows-apart w b c i j ne h k e = elim (decLt b c) [
   | yes l ↦ omega (arith, mul-le-mul-right w l)
   | no g ↦ let l : c < b = omega arith in omega (arith, mul-le-mul-right w l)
 ]
+
+-- a scratch row of k words is cut to the width
+pub length-cut : (k w : ℕ) → w ≤ k → length (take {A = ℕ} w (replicate k 0)) ≡ w
+length-cut k w h = length-take-le w (replicate k 0) (omega (arith, length-replicate {A = ℕ} k 0))
 
 module _ (g : List ℕ) (w b : ℕ) where
   pub length-row-le : length (rowAt g w b) ≤ w

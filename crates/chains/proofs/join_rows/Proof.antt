@@ -4,7 +4,7 @@ use Prim.Native.Nat.{_*_, _-_}
 use native.Mathlib.Omega.{arith}
 use Rattle.rows.specs.Row.{countRow}
 use Rattle.rows.proofs.ReachLaws.{graph-room}
-use Rattle.chains.proofs.FreshLaws.{Fresh, fresh, fresh-falls}
+use Rattle.rows.proofs.FreshLaws.{Fresh, fresh, fresh-falls}
 use Rattle.chains.proofs.JoiningLaws.{Joining, joining-begin, joining-turn, joined-next, joined-done}
 use Rattle.chains.proofs.join_rows.Statement.{statement}
 use Rattle.chains.proofs.join_rows.Tie as tie

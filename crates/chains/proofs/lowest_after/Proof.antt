@@ -5,7 +5,7 @@ use native.Mathlib.Omega.{arith}
 use borrow.Author.Needs.{needs}
 use lib.ListN.{length, take, replicate}
 use Rattle.rows.proofs.SliceLaws.{copy-over}
-use Rattle.chains.proofs.RoomLaws.{length-cut}
+use Rattle.rows.proofs.TableLaws.{length-cut}
 use Rattle.chains.proofs.lowest_after.Statement.{statement}
 use Rattle.chains.proofs.lowest_after.Tie as tie
 

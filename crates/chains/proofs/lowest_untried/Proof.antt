@@ -8,7 +8,7 @@ use Rattle.rows.specs.Row.{countRow}
 use Rattle.rows.specs.Relation.{related}
 use Rattle.rows.proofs.SliceLaws.{slice-row, length-slice}
 use Rattle.rows.proofs.ReachLaws.{graph-room}
-use Rattle.chains.proofs.FreshLaws.{Fresh, fresh, fresh-falls}
+use Rattle.rows.proofs.FreshLaws.{Fresh, fresh, fresh-falls}
 use Rattle.chains.proofs.TryingLaws.{Trying, trying-begin, tried-all, tried-hit, trying-more}
 use Rattle.chains.proofs.lowest_untried.Statement.{statement}
 use Rattle.chains.proofs.lowest_untried.Tie as tie

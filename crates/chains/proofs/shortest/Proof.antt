@@ -8,7 +8,8 @@ use lib.ListN.{length, set, take, replicate, length-set, length-replicate}
 use Rattle.rows.specs.Relation.{related}
 use Rattle.rows.specs.Shortest.{distance}
 use Rattle.chains.specs.Near.{Near}
-use Rattle.chains.proofs.RoomLaws.{length-cut, near-room}
+use Rattle.rows.proofs.TableLaws.{length-cut}
+use Rattle.chains.proofs.RoomLaws.{near-room}
 use Rattle.chains.proofs.WritingLaws.{Writing, writing-begin, next-far, writing-more, writing-end, row-below, next-is}
 use Rattle.chains.proofs.shortest.Statement.{statement}
 use Rattle.chains.proofs.shortest.Tie as tie

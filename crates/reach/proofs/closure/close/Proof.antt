@@ -6,8 +6,9 @@ use native.Mathlib.Omega.{arith}
 use borrow.Author.Needs.{needs}
 use borrow.Author.Tests.{not-false}
 use lib.ListN.{length, take, replicate}
+use Rattle.rows.proofs.TableLaws.{length-cut}
 use Rattle.reach.proofs.ClosedLaws.{between-closure}
-use Rattle.reach.proofs.FilledLaws.{length-cut, part-long, part-rows, part-filled}
+use Rattle.reach.proofs.FilledLaws.{part-long, part-rows, part-filled}
 use Rattle.reach.proofs.closure.close.Statement.{statement}
 use Rattle.reach.proofs.closure.close.Tie as tie
 

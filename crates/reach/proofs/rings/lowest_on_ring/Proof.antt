@@ -6,7 +6,7 @@ use borrow.Author.Needs.{needs}
 use lib.ListN.{length, take, replicate}
 use Rattle.rows.specs.Relation.{reaches, related}
 use Rattle.rows.proofs.LowestLaws.{lowest-none}
-use Rattle.reach.proofs.FilledLaws.{length-cut}
+use Rattle.rows.proofs.TableLaws.{length-cut}
 use Rattle.reach.proofs.rings.lowest_on_ring.Statement.{statement}
 use Rattle.reach.proofs.rings.lowest_on_ring.Tie as tie
 

@@ -7,7 +7,8 @@ use lib.ListN.{length, replicate, length-replicate}
 use Rattle.rows.specs.Row.{countRow, Row}
 use Rattle.rows.specs.Relation.{reaches, related, Graph}
 use Rattle.rows.proofs.ReachLaws.{graph-room}
-use Rattle.reach.proofs.ClosingLaws.{Closing, Next, closing-begin, closing-next, closing-turn, closing-end, closing-falls}
+use Rattle.rows.proofs.FreshLaws.{Fresh}
+use Rattle.reach.proofs.ClosingLaws.{Closing, closing-begin, closing-next, closing-turn, closing-end, closing-falls}
 use Rattle.reach.proofs.rings.reaching.Statement.{statement}
 use Rattle.reach.proofs.rings.reaching.Tie as tie
 
@@ -42,7 +43,7 @@ graph c = rw (width c) (start c .pre .0)
 
 -- the event of this turn
 next : (c : tie.Else1 Inv-loop μ-loop)
-    → Next (start (entered (at-loop (c .before))) .args .n) (at-loop (c .before) .loop .found) (at-loop (c .before) .loop .done) (c .before .lowest-difference .result)
+    → Fresh (start (entered (at-loop (c .before))) .args .n) (at-loop (c .before) .loop .found) (at-loop (c .before) .loop .done) (c .before .lowest-difference .result)
 next c = closing-next (at-loop (c .before) .loop .inv) (c .before .lowest-difference .ensures) (omega arith)
 
 clear-requires : tie.Need-clear-requires Inv-loop μ-loop
@@ -101,13 +102,13 @@ mul-union-at-2 : tie.Need-mul-union-at-2 Inv-loop μ-loop
 mul-union-at-2 c =
     let e = c .before .before .before .before .before in
     let z = entered (at-loop (e .before)) in
-    omega (arith, graph-room (e .before .lowest-difference .result) (graph z) (next e .inside), start z .good)
+    omega (arith, graph-room (e .before .lowest-difference .result) (graph z) (next e .below), start z .good)
 
 union-at-requires-2 : tie.Need-union-at-requires-2 Inv-loop μ-loop
 union-at-requires-2 c κs =
     let e = c .before .before .before .before .before in
     let l = at-loop (e .before) in
-    omega (arith, graph-room (e .before .lowest-difference .result) (graph (entered l)) (next e .inside), l .loop .inv .wide)
+    omega (arith, graph-room (e .before .lowest-difference .result) (graph (entered l)) (next e .below), l .loop .inv .wide)
 
 loop-less : tie.Need-loop-less Inv-loop μ-loop
 loop-less c =
