@@ -43,9 +43,7 @@ pub fn in_words(record: &Record, steps: &[Step]) -> Option<String> {
     if steps.len() > TOLD {
         let between: Vec<String> = between(steps).iter().map(usize::to_string).collect();
         let through = between.join(", ");
-        return Some(format!(
-            "event {first} leads to event {last} by visibility and site order through events {through}"
-        ));
+        return Some(format!("event {first} leads to event {last} by {} through events {through}", kinds(steps)));
     }
     let step = |step: &Step| match step.by {
         By::Sight => format!("is seen by event {}", step.to),
@@ -53,4 +51,14 @@ pub fn in_words(record: &Record, steps: &[Step]) -> Option<String> {
     };
     let steps: Vec<String> = steps.iter().map(step).collect();
     Some(format!("event {first} {}", steps.join(", which ")))
+}
+
+/// What the steps are of.
+fn kinds(steps: &[Step]) -> &'static str {
+    let has = |by: By| steps.iter().any(|step| step.by == by);
+    match (has(By::Sight), has(By::SiteOrder)) {
+        (true, true) => "visibility and site order",
+        (true, false) => "visibility",
+        _ => "site order",
+    }
 }

@@ -6,7 +6,7 @@ use crate::layout::Layout;
 use crate::scale::text_width;
 use crate::svg::{at, Svg};
 
-/// Around a number, which has a seam of the bands' colour.
+/// Around a number, on its ground.
 const BESIDE: f64 = 2.0;
 
 pub struct Count {
@@ -28,7 +28,10 @@ pub fn counts(layout: &Layout, steps: &[Step]) -> Vec<Count> {
 }
 
 impl Count {
+    /// On a ground of its own, so that what passes there does not seem to be the step.
     pub fn draw(&self, svg: &mut Svg) {
+        let Frame { left, top, right, bottom } = self.frame;
+        svg.rectangle("ground", at(left, top), at(right, bottom), 0.5 * (bottom - top).min(right - left));
         let base = at((self.frame.left + self.frame.right) / 2.0, self.frame.bottom - 0.24 * self.size);
         svg.centred("count", base, self.size, &self.number.to_string());
     }

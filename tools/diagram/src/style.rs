@@ -45,7 +45,7 @@ const RULES: &str = "\
 .break { fill: none; stroke: #d55e00; stroke-width: 3; marker-end: url(#break); }
 .break.unseen, .break.unplaced { stroke-dasharray: 9 5; }
 .break.placed { stroke-dasharray: 0.1 6; stroke-linecap: round; }
-.count { paint-order: stroke; stroke: #ffd24d; stroke-width: 4px; stroke-linejoin: round; }
+.ground { fill: #ffd24d; stroke: #ffffff; stroke-width: 1.5; }
 .cross { fill: none; stroke: #d55e00; stroke-width: 3; }
 .said { font-weight: 600; fill: #b04a00; paint-order: stroke; stroke: #ffffff; stroke-width: 4px; stroke-linejoin: round; }
 ";

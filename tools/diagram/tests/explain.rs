@@ -24,6 +24,8 @@ fn all() -> Vec<(String, Record)> {
 struct Told<'a> {
     heading: &'a str,
     sentence: &'a str,
+    /// By how much clocks may differ, where they may.
+    clocks: Option<&'a str>,
     lines: Vec<Line<'a>>,
 }
 
@@ -32,9 +34,10 @@ fn read(text: &str) -> Vec<Told<'_>> {
 }
 
 fn of_block(block: &str) -> Told<'_> {
-    let mut lines = block.lines();
+    let mut lines = block.lines().peekable();
     let (heading, sentence) = (lines.next().expect("a heading"), lines.next().expect("a sentence"));
-    Told { heading, sentence, lines: lines.map(Line::read).collect() }
+    let clocks = lines.next_if(|line| !line.starts_with("  "));
+    Told { heading, sentence, clocks, lines: lines.map(Line::read).collect() }
 }
 
 fn number_of(heading: &str) -> u32 {
@@ -57,6 +60,11 @@ fn is_kind(predicate: u32, at: usize, line: &Line, is_seen: bool) -> bool {
     }
 }
 
+fn clocks(record: &Record) -> Option<String> {
+    let most = record.edition.difference();
+    (most > 0).then(|| format!("times are by each site's own clock, and clocks may differ by {most} ms"))
+}
+
 /// All of a break's text: the heading, the sentence of the picture, and a line for each event that is told, in order.
 fn holds(told: &Told, record: &Record, judged: &Judged, predicate: u32) -> bool {
     let due = judged.explanation(predicate).expect("it is broken");
@@ -64,6 +72,7 @@ fn holds(told: &Told, record: &Record, judged: &Judged, predicate: u32) -> bool 
     let pair = if a == b { format!("event {a}") } else { format!("events {a} and {b}") };
     assert!(told.heading.ends_with(&format!(" is broken at {pair}")), "{}", told.heading);
     assert!(is_true(told.sentence, record), "{}", told.sentence);
+    assert_eq!(told.clocks, clocks(record).as_deref());
     let mut way = [vec![a], due.events].concat();
     way.drain(..usize::from(predicate == 1 && a == b));
     assert_eq!(told.lines.iter().map(|line| line.event).collect::<Vec<_>>(), way);
@@ -159,50 +168,54 @@ fn records_that_ship_are_told_of_in_these_words() {
 const STALE_READ: &str = "\
 stale-read.gcr: predicate 5 MonotonicReads is broken at events 0 and 2
 event 2 does not see event 0, though event 1, an earlier read at event 2's site, sees event 0
-  event 0: site 0 wrote 7 to object 0, from 0 to 1
-  event 1: site 1 read 7 from object 0, from 2 to 3; it saw event 0
-  event 2: site 1 read none from object 0, from 4 to 5; it came after event 1 at the same site, but did not see event 0
+  event 0: site 0 wrote 7 to object 0, from 0 ms to 1 ms
+  event 1: site 1 read 7 from object 0, from 2 ms to 3 ms; it saw event 0
+  event 2: site 1 read none from object 0, from 4 ms to 5 ms; it came after event 1 at the same site, but did not see \
+event 0
 ";
 
 const LONG_WAY: &str = "\
 long-way.gcr: model 4 Causal is broken by predicate 10 CausalVisibility at events 0 and 3
 event 3 does not see event 0, though event 0 is seen by event 2, which is before event 5 at site 1, which is seen by \
 event 6, which is before event 3 at site 2
-  event 0: site 0 wrote 100 to object 5, from 0 to 1
-  event 2: site 1 read 100 from object 5, from 4 to 5; it saw event 0
-  event 5: site 1 wrote 2 to object 6, from 8 to 9; it came after event 2 at the same site
-  event 6: site 2 read 2 from object 6, from 10 to 11; it saw event 5
-  event 3: site 2 read none from object 5, from 12 to 13; it came after event 6 at the same site, but did not see event 0
+  event 0: site 0 wrote 100 to object 5, from 0 ms to 1 ms
+  event 2: site 1 read 100 from object 5, from 4 ms to 5 ms; it saw event 0
+  event 5: site 1 wrote 2 to object 6, from 8 ms to 9 ms; it came after event 2 at the same site
+  event 6: site 2 read 2 from object 6, from 10 ms to 11 ms; it saw event 5
+  event 3: site 2 read none from object 5, from 12 ms to 13 ms; it came after event 6 at the same site, but did not see \
+event 0
 ";
 
 const EARLY_READ: &str = "\
 early-read.gcr: predicate 3 RealTime is broken at events 0 and 1
 event 1 is placed before event 0 in arbitration, though event 0 returned at 110, more than 39 ms before event 1 started \
 at 150
-  event 0: site 0 wrote 7 to object 0, from 100 to 110
-  event 1: site 1 read none from object 0, from 150 to 155; it started more than 39 ms after event 0 returned, but is at \
-0 in arbitration, before event 0 at 1
+times are by each site's own clock, and clocks may differ by 39 ms
+  event 0: site 0 wrote 7 to object 0, from 100 ms to 110 ms
+  event 1: site 1 read none from object 0, from 150 ms to 155 ms; it started more than 39 ms after event 0 returned, but \
+is at 0 in arbitration, before event 0 at 1
 
 early-read.gcr: predicate 4 RealTimeWrites is broken at events 0 and 1
 event 1 is placed before event 0 in arbitration, though event 0, a write, returned at 110, more than 39 ms before event \
 1 started at 150
-  event 0: site 0 wrote 7 to object 0, from 100 to 110
-  event 1: site 1 read none from object 0, from 150 to 155; it started more than 39 ms after event 0 returned, but is at \
-0 in arbitration, before event 0 at 1
+times are by each site's own clock, and clocks may differ by 39 ms
+  event 0: site 0 wrote 7 to object 0, from 100 ms to 110 ms
+  event 1: site 1 read none from object 0, from 150 ms to 155 ms; it started more than 39 ms after event 0 returned, but \
+is at 0 in arbitration, before event 0 at 1
 ";
 
 const STALE_VALUE: &str = "\
 stale-value.gcr: predicate 1 RVal is broken at events 2 and 1
 event 2 holds 7, not 8: of the writes on object 0 that it sees, event 1 is the last in arbitration
-  event 2: site 0 read 7 from object 0, from 4 to 5
-  event 1: site 0 wrote 8 to object 0, from 2 to 3; event 2 saw it, and should have held 8
+  event 2: site 0 read 7 from object 0, from 4 ms to 5 ms
+  event 1: site 0 wrote 8 to object 0, from 2 ms to 3 ms; event 2 saw it, and should have held 8
 ";
 
 const LISTING: &str = "\
 listing.gcr: predicate 13 PerObjectSingleOrder is broken at events 0 and 1
 event 1 does not see event 0, though arbitration places event 0 before event 1, both on object 5
-  event 0: site 0 wrote 100 to object 5, from 0 to 1
-  event 1: site 1 wrote 200 to object 5, from 2 to 3; it is at 1 in arbitration, after event 0 at 0, but did not see \
+  event 0: site 0 wrote 100 to object 5, from 0 ms to 1 ms
+  event 1: site 1 wrote 200 to object 5, from 2 ms to 3 ms; it is at 1 in arbitration, after event 0 at 0, but did not see \
 event 0
 ";
 
@@ -215,14 +228,15 @@ fn a_ring_is_told_round_and_an_opening_once() {
     assert_eq!(
         lines,
         [
-            "  event 0: site 0 read none from object 0, from 0 to 1",
-            "  event 1: site 0 wrote 7 to object 0, from 2 to 3; it came after event 0 at the same site",
-            "  event 0: site 0 read none from object 0, from 0 to 1; it saw event 1, and so would have to see itself",
+            "  event 0: site 0 read none from object 0, from 0 ms to 1 ms",
+            "  event 1: site 0 wrote 7 to object 0, from 2 ms to 3 ms; it came after event 0 at the same site",
+            "  event 0: site 0 read none from object 0, from 0 ms to 1 ms; it saw event 1, and so would have to see itself",
         ]
     );
     let opening = Record::in_order(1, vec![Event::read(0, 3, Some(40)).at(0, 1)]);
     let text = explained(&[], &opening.to_bytes());
-    assert!(text.ends_with("opening\n  event 0: site 0 read 40 from object 3, from 0 to 1; it should have held none\n"));
+    assert!(text
+        .ends_with("opening\n  event 0: site 0 read 40 from object 3, from 0 ms to 1 ms; it should have held none\n"));
 }
 
 #[test]

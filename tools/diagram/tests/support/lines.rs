@@ -51,22 +51,22 @@ impl Events<'_> {
         let of = |is_write: bool, pending: bool| (event.1.is_write(), event.1.pending()) == (is_write, pending);
         let times = |start: u64, end: u64| (event.1.start, event.1.end) == (start, Some(end));
         match (shape(words).as_str(), &numbers[..]) {
-            ("site # wrote # to object #, from # to #", &[s, v, o, start, end]) => {
+            ("site # wrote # to object #, from # ms to # ms", &[s, v, o, start, end]) => {
                 of(true, false) && (s, Some(v), o) == (site, value, object) && times(start, end)
             }
-            ("site # writes # to object #, pending since #", &[s, v, o, start]) => {
+            ("site # writes # to object #, pending since # ms", &[s, v, o, start]) => {
                 of(true, true) && (s, Some(v), o, start) == (site, value, object, event.1.start)
             }
-            ("site # reads object #, pending since #", &[s, o, start]) => {
+            ("site # reads object #, pending since # ms", &[s, o, start]) => {
                 of(false, true) && (s, o, start) == (site, object, event.1.start)
             }
-            ("site # read none from object #, from # to #", &[s, o, start, end]) => {
+            ("site # read none from object #, from # ms to # ms", &[s, o, start, end]) => {
                 of(false, false) && (s, None, o) == (site, value, object) && times(start, end)
             }
-            ("site # read # from object #, from # to #", &[s, v, o, start, end]) => {
+            ("site # read # from object #, from # ms to # ms", &[s, v, o, start, end]) => {
                 of(false, false) && (s, Some(v), o) == (site, value, object) && times(start, end)
             }
-            ("site # read # from object # (its opening), from # to #", &[s, v, o, start, end]) => {
+            ("site # read # from object # (its opening), from # ms to # ms", &[s, v, o, start, end]) => {
                 let is_opening = self.sees_no_write(event.0) && self.opening(event.0) == value;
                 of(false, false) && (s, Some(v), o) == (site, value, object) && times(start, end) && is_opening
             }

@@ -105,9 +105,7 @@ impl Facts<'_> {
                 "event #, a write, returned at #, more than # ms before event # started at #",
                 &[a, end, by, b, start],
             ) => events[a].is_write() && self.times((a, end), (b, start), by),
-            (shape, numbers) if shape.starts_with("event # leads to event # by visibility and site order through") => {
-                self.leads(numbers)
-            }
+            (shape, numbers) if shape.starts_with("event # leads to event # by ") => self.leads(shape, numbers),
             _ => return None,
         })
     }
@@ -169,9 +167,15 @@ impl Facts<'_> {
     }
 
     /// First, last, and those between.
-    fn leads(&self, numbers: &[usize]) -> bool {
+    fn leads(&self, shape: &str, numbers: &[usize]) -> bool {
         let way = [&numbers[..1], &numbers[2..], &numbers[1..2]].concat();
-        way.windows(2).all(|pair| self.is_step(pair[0], pair[1]))
+        let seen: Vec<bool> = way.windows(2).map(|pair| self.relations.vis.has(pair[0], pair[1])).collect();
+        let kinds = match (seen.contains(&true), seen.contains(&false)) {
+            (true, true) => " by visibility and site order through ",
+            (true, false) => " by visibility through ",
+            _ => " by site order through ",
+        };
+        shape.contains(kinds) && way.windows(2).all(|pair| self.is_step(pair[0], pair[1]))
     }
 
     /// `event 0 is seen by event 1, which is before event 2 at site 1`

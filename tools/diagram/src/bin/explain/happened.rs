@@ -3,7 +3,7 @@
 use diagram::breach::value;
 use diagram::event::Event;
 
-/// `site 0 wrote 100 to object 5, from 1 to 2`. What has not returned is told as going on.
+/// `site 0 wrote 100 to object 5, from 1 ms to 2 ms`. What has not returned is told as going on.
 pub fn happened(event: &Event) -> String {
     let (site, object, held) = (event.site, event.object, value(event.value));
     let did = match (event.is_write, event.is_pending()) {
@@ -24,7 +24,7 @@ fn opening(event: &Event) -> &'static str {
 
 fn when(event: &Event) -> String {
     match event.end {
-        Some(end) => format!("from {} to {end}", event.start),
-        None => format!("pending since {}", event.start),
+        Some(end) => format!("from {} ms to {end} ms", event.start),
+        None => format!("pending since {} ms", event.start),
     }
 }

@@ -12,7 +12,16 @@ pub fn text(name: &str, record: &Record, finding: &Finding) -> String {
     let Some(broken) = &finding.broken else { return heading("met".to_string()) };
     let breach = Breach::new(record, broken);
     let verdict = format!("broken{} at {}", finding.by, pair(broken));
-    format!("{}{}\n{}", heading(verdict), breach.sentence(), events(record, broken, &breach))
+    let (heading, sentence) = (heading(verdict), breach.sentence());
+    format!("{heading}{sentence}\n{}{}", clocks(record), events(record, broken, &breach))
+}
+
+/// Two sites' times are not to be compared as they stand.
+fn clocks(record: &Record) -> String {
+    match record.difference {
+        0 => String::new(),
+        most => format!("times are by each site's own clock, and clocks may differ by {most} ms\n"),
+    }
 }
 
 /// `events 0 and 2`, or `event 1` where both are one.
