@@ -23,8 +23,8 @@ impl Copies {
             Answer::Put { .. } => self.puts += 1,
             Answer::Delivered => self.by_deliveries += 1,
             Answer::Closed { copies } => self.by_closes += u64::from(copies),
-            Answer::Get { .. } => (),
             Answer::Refused(_) => self.refused_calls += 1,
+            _ => (), // a get, or a later kind that moves no copy
         }
     }
 }

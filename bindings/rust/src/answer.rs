@@ -5,6 +5,7 @@ use crate::Refusal;
 
 /// The answer of one call, by the kind of the call.
 #[derive(Clone, Copy, Debug, PartialEq, Eq, Hash)]
+#[non_exhaustive]
 pub enum Answer {
     /// The call is a put that was done.
     Put {

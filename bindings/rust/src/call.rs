@@ -1,5 +1,7 @@
 //! The calls of a script.
 
+use alloc::vec::Vec;
+
 /// Byte 0 of a call.
 pub(crate) mod kind {
     pub const PUT: u8 = 1;
@@ -10,6 +12,7 @@ pub(crate) mod kind {
 
 /// One call of a rehearsal's script.
 #[derive(Clone, Copy, Debug, PartialEq, Eq, Hash)]
+#[non_exhaustive]
 pub enum Call {
     /// Puts a value into an object.
     Put {

@@ -1,12 +1,11 @@
 //! By how much the clocks of a record's sites may differ.
 
-use std::ops::Range;
+use crate::blocks::{seal, BLOCK};
+use alloc::vec::Vec;
+use core::ops::Range;
 
 const GCR2: &[u8] = b"GCR2";
 const DIFFERENCE: Range<usize> = 8..12;
-/// Block 0, and what of it its check is made of.
-const BLOCK: usize = 512;
-const CHECKED: usize = 508;
 
 /// The milliseconds by which the clocks of two sites may differ, of a record that passed its questions. In edition
 /// `GCR1`, which has none, it is 0.
@@ -62,18 +61,6 @@ pub fn with_difference(record: &[u8], difference: u32) -> Option<Vec<u8>> {
     }
     let mut record = record.to_vec();
     record[DIFFERENCE].copy_from_slice(&difference.to_le_bytes());
-    let (a, b) = check(&record[..CHECKED]);
-    record[CHECKED..CHECKED + 2].copy_from_slice(&a.to_le_bytes());
-    record[CHECKED + 2..BLOCK].copy_from_slice(&b.to_le_bytes());
+    seal(&mut record[..BLOCK]);
     Some(record)
-}
-
-/// A and B of block 0.
-fn check(words: &[u8]) -> (u16, u16) {
-    let (mut a, mut b) = (1, 0);
-    for word in words.chunks_exact(2) {
-        a = (a + u32::from(word[0]) + 256 * u32::from(word[1])) % 65521;
-        b = (b + a) % 65521;
-    }
-    (a as u16, b as u16)
 }

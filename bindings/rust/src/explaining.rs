@@ -1,6 +1,7 @@
 //! Telling what happened where a predicate is broken.
 
 use crate::{ffi, Predicate, Refusal};
+use alloc::vec::Vec;
 
 /// The entries that [`explain_into`] asks for, and the most that it writes.
 pub const EXPLAIN_ENTRIES: usize = 256;
@@ -16,7 +17,11 @@ pub const EXPLAIN_ENTRIES: usize = 256;
 ///   middle event, then b. It is a read of b's site that sees a and returned before b started.
 /// - All others: b alone.
 ///
-/// There are 1 to 256 of them. A predicate that is met is refused by 42, after the questions of the record.
+/// There are 1 to 256 of them.
+///
+/// # Errors
+///
+/// By 3 to 10, where the record does not pass its questions, and then by 42, where the predicate is met.
 ///
 /// In the record of a stale read, event 1 is a read that sees write 0, and event 2 a later read of its site that does
 /// not:
@@ -38,7 +43,11 @@ pub fn explain(predicate: Predicate, record: &[u8]) -> Result<Vec<u16>, Refusal>
 }
 
 /// The same over the front of a slice, and how many events there are. Entries beyond them stay, and a refusal writes
-/// none. A slice of fewer than [`EXPLAIN_ENTRIES`] is refused by 41, before the questions of the record.
+/// none.
+///
+/// # Errors
+///
+/// By 41, where the slice has fewer than [`EXPLAIN_ENTRIES`], and then as [`explain`] has them.
 ///
 /// ```
 /// use gcr::{explain_into, Predicate, EXPLAIN_ENTRIES};

@@ -75,6 +75,8 @@ pub fn rehearse(sites: u32, openings: &[u8], script: &[u8], record: &mut [u8], a
 mod tests {
     use super::*;
     use crate::Refusal;
+    use alloc::vec;
+    use alloc::vec::Vec;
 
     const LISTING: &[u8] = include_bytes!("../../../records/listing.gcr");
 

@@ -2,7 +2,7 @@
 
 use crate::packing::Judgment;
 use crate::{ffi, Model, Predicate, Refusal};
-use std::fmt;
+use core::fmt;
 
 /// What the judge finds of a record that passes the questions.
 #[derive(Clone, Copy, Debug, PartialEq, Eq, Hash)]
@@ -33,6 +33,10 @@ impl fmt::Display for Verdict {
 /// Where a model is met, so is every model that it covers, and where it is broken, so is every model that covers it:
 /// the 43 pairs are in README.md, 'Which model covers which'.
 ///
+/// # Errors
+///
+/// By 3 to 10, where the record does not pass its questions.
+///
 /// ```
 /// use gcr::{judge_model, Model};
 ///
@@ -45,6 +49,10 @@ pub fn judge_model(model: Model, record: &[u8]) -> Result<Verdict, Refusal> {
 
 /// Judges one predicate.
 ///
+/// # Errors
+///
+/// By 3 to 10, where the record does not pass its questions.
+///
 /// ```
 /// use gcr::{judge_predicate, Predicate};
 ///
@@ -55,8 +63,11 @@ pub fn judge_predicate(predicate: Predicate, record: &[u8]) -> Result<Verdict, R
     ffi::judge_predicate(predicate.number(), record).verdict()
 }
 
-/// Judges all thirteen predicates, reading the record once. Predicate k's verdict stands at k - 1. A refused record has
-/// no verdicts.
+/// Judges all thirteen predicates, reading the record once. Predicate k's verdict stands at k - 1.
+///
+/// # Errors
+///
+/// By 3 to 10, where the record does not pass its questions: it has no verdicts.
 ///
 /// ```
 /// use gcr::{judge_all, Predicate, Verdict};

@@ -25,7 +25,8 @@
 //! [`Openings`] are the figures that objects start the day with: here none has one. [`difference()`] is by how much the
 //! sites' clocks may differ, of a record that was read or judged.
 //!
-//! What led to a break is told by [`explain`]: the events after the pair's first, up to its second.
+//! What led to a break is told by [`explain`]: the events after the pair's first, up to its second. What a record says
+//! is a [`Record`], with its [`Event`]s: read from bytes, or filled in and encoded.
 //!
 //! A record or a script that is refused is an `Err`, of every call: no [`Verdict`] stands for it. What the calls of a
 //! script were answered is taken from its buffer by [`answers()`]: a typed [`Answer`] for each.
@@ -33,15 +34,24 @@
 //! The library has no static state and keeps nothing that it is lent, so every call here may run on several threads
 //! at once. 128 KB of the thread's stack are enough for any of them.
 
+//!
+//! Nothing here needs `std`; there must be an allocator.
+
+#![no_std]
 #![deny(unsafe_code)]
 #![warn(missing_docs)]
+
+extern crate alloc;
 
 #[macro_use]
 mod numbered;
 
 mod answer;
+mod blocks;
 mod call;
 mod clocks;
+mod edition;
+mod event;
 mod explaining;
 #[allow(unsafe_code)]
 mod ffi;
@@ -51,17 +61,24 @@ mod openings;
 mod packing;
 mod predicate;
 mod reading;
+mod record;
 mod refusal;
 mod rehearsal;
+mod visible;
 
 pub use answer::{answers, Answer};
 pub use call::{script, Call};
 pub use clocks::{difference, with_difference};
+pub use edition::Edition;
+pub use event::{Event, Kind};
 pub use explaining::{explain, explain_into, EXPLAIN_ENTRIES};
 pub use judging::{judge_all, judge_model, judge_predicate, Verdict};
 pub use model::Model;
+pub use numbered::UnknownName;
 pub use openings::{Openings, OPENINGS_BYTES};
 pub use predicate::Predicate;
 pub use reading::{is_visible, read, RECORD_MOST, WORK_WORDS};
+pub use record::Record;
 pub use refusal::Refusal;
 pub use rehearsal::{rehearse, rehearse_raw, Rehearsed, SCRIPT_MOST};
+pub use visible::VisibleSet;

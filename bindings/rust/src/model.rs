@@ -1,5 +1,7 @@
 //! The thirteen models.
 
+use crate::Predicate;
+
 numbered! {
     /// A consistency model: a list of predicates.
     ///
@@ -9,6 +11,8 @@ numbered! {
     /// assert_eq!(Model::Causal.number(), 4);
     /// assert_eq!(Model::ALL.len(), 13);
     /// assert_eq!(Model::try_from(13)?.to_string(), "SlowMemory");
+    /// assert_eq!("real-time causal".parse(), Ok(Model::RealTimeCausal));
+    /// assert!("casual".parse::<Model>().is_err());
     /// # Ok::<(), gcr::Refusal>(())
     /// ```
     Model:
@@ -25,4 +29,33 @@ numbered! {
     11 MonotonicWrites "A site's writes are arbitrated in the site's order."
     12 WritesFollowReads "A write is arbitrated after the writes that an earlier read of its site has seen."
     13 SlowMemory "An event sees the earlier events of its site on its object."
+}
+
+impl Model {
+    /// The predicates that it asks, in its order: it is met where all of them are, and breaks at the first that breaks.
+    ///
+    /// ```
+    /// use gcr::{Model, Predicate};
+    ///
+    /// let causal = [Predicate::CausalVisibility, Predicate::CausalArbitration, Predicate::RVal];
+    /// assert_eq!(Model::Causal.predicates(), causal);
+    /// ```
+    pub const fn predicates(self) -> &'static [Predicate] {
+        use Predicate::*;
+        match self {
+            Model::Linearizable => &[SingleOrder, RealTime, RVal],
+            Model::Regular => &[SingleOrder, RealTimeWrites, RVal],
+            Model::Sequential => &[SingleOrder, Pram, RVal],
+            Model::Causal => &[CausalVisibility, CausalArbitration, RVal],
+            Model::RealTimeCausal => &[CausalVisibility, CausalArbitration, RealTime, RVal],
+            Model::Processor => &[PerObjectSingleOrder, Pram, RVal],
+            Model::PerObjectSequential => &[PerObjectSingleOrder, PerObjectPram, RVal],
+            Model::Pram => &[Pram],
+            Model::MonotonicReads => &[MonotonicReads],
+            Model::ReadYourWrites => &[ReadYourWrites],
+            Model::MonotonicWrites => &[MonotonicWrites],
+            Model::WritesFollowReads => &[WritesFollowReads],
+            Model::SlowMemory => &[PerObjectPram],
+        }
+    }
 }

@@ -32,6 +32,8 @@ macro_rules! numbered {
             }
         }
 
+        /// # Errors
+        ///
         /// A number that is none is refused as the library refuses it, by question 2.
         impl TryFrom<u32> for $kind {
             type Error = $crate::Refusal;
@@ -42,10 +44,46 @@ macro_rules! numbered {
             }
         }
 
-        impl std::fmt::Display for $kind {
-            fn fmt(&self, f: &mut std::fmt::Formatter<'_>) -> std::fmt::Result {
+        /// From its name or its number. Large and small letters are the same, and what is neither letter nor digit is left
+        /// out, so that a name may be written as in a sentence.
+        ///
+        /// # Errors
+        ///
+        /// Where none has this name or number.
+        impl core::str::FromStr for $kind {
+            type Err = $crate::UnknownName;
+
+            fn from_str(word: &str) -> Result<$kind, $crate::UnknownName> {
+                let is_it = |each: &&$kind| $crate::numbered::same_name(each.name(), word);
+                let named = $kind::ALL.iter().find(is_it).copied();
+                let numbered = || word.parse::<u32>().ok().and_then(|number| $kind::try_from(number).ok());
+                named.or_else(numbered).ok_or($crate::UnknownName)
+            }
+        }
+
+        impl core::fmt::Display for $kind {
+            fn fmt(&self, f: &mut core::fmt::Formatter<'_>) -> core::fmt::Result {
                 f.write_str(self.name())
             }
         }
     };
 }
+
+/// Whether these are the same but for how they are written.
+pub(crate) fn same_name(one: &str, other: &str) -> bool {
+    let is_kept = |letter: &char| letter.is_alphanumeric();
+    let letters = |name| str::chars(name).filter(is_kept).map(|letter| letter.to_ascii_lowercase());
+    letters(one).eq(letters(other))
+}
+
+/// A word that is the name of nothing that was looked for.
+#[derive(Clone, Copy, Debug, PartialEq, Eq, Hash)]
+pub struct UnknownName;
+
+impl core::fmt::Display for UnknownName {
+    fn fmt(&self, f: &mut core::fmt::Formatter<'_>) -> core::fmt::Result {
+        f.write_str("no such name or number")
+    }
+}
+
+impl core::error::Error for UnknownName {}

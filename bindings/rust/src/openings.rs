@@ -1,6 +1,6 @@
 //! Openings: the figures that objects start the day with.
 
-use std::fmt;
+use core::fmt;
 
 /// The bytes of [`Openings`].
 pub const OPENINGS_BYTES: usize = 132;

@@ -9,6 +9,8 @@ numbered! {
     /// let predicate = Predicate::try_from(5)?;
     /// assert_eq!((predicate.name(), predicate.number()), ("MonotonicReads", 5));
     /// assert_eq!(Predicate::try_from(14).unwrap_err().number, 2);
+    /// assert_eq!("monotonic reads".parse(), Ok(predicate));
+    /// assert_eq!("5".parse(), Ok(predicate));
     /// # Ok::<(), gcr::Refusal>(())
     /// ```
     Predicate:

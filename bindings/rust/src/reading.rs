@@ -10,8 +10,10 @@ pub const RECORD_MOST: usize = 19_456;
 
 /// Asks the questions of a record, and lays its visible sets into `work` where all are answered yes.
 ///
-/// Refusal 1 leaves `work` unchanged; refusals 3 to 10 leave its first [`WORK_WORDS`] words zero. Words beyond those
-/// never change.
+/// # Errors
+///
+/// By 1, where `work` has fewer than [`WORK_WORDS`] words, which leaves it unchanged; by 3 to 10, where the record does
+/// not pass, which leaves its first [`WORK_WORDS`] words zero. Words beyond those never change.
 ///
 /// ```
 /// let mut work = [7; gcr::WORK_WORDS];
@@ -24,6 +26,10 @@ pub fn read(record: &[u8], work: &mut [u64]) -> Result<(), Refusal> {
 }
 
 /// Whether event `a` is visible to event `b`, by the words that a [`read`] which passed has filled.
+///
+/// # Panics
+///
+/// Where `work` has no such word: `a` and `b` are below 256, and the words [`WORK_WORDS`] or more.
 ///
 /// ```
 /// # use gcr::{is_visible, read, rehearse, script, Call, Openings, RECORD_MOST, WORK_WORDS};

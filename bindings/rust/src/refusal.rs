@@ -1,6 +1,6 @@
 //! Refusals: the scope's numbers, each with a sentence.
 
-use std::fmt;
+use core::fmt;
 
 /// Why something was not judged, explained, rehearsed or done.
 #[derive(Clone, Copy, Debug, PartialEq, Eq, Hash)]
@@ -78,4 +78,4 @@ impl fmt::Display for Refusal {
     }
 }
 
-impl std::error::Error for Refusal {}
+impl core::error::Error for Refusal {}

@@ -7,6 +7,7 @@ pub const SCRIPT_MOST: usize = 32_768;
 
 /// What a rehearsal that was not refused has come to.
 #[derive(Clone, Copy, Debug, PartialEq, Eq, Hash)]
+#[non_exhaustive]
 pub struct Rehearsed {
     /// The bytes of the record, from the start of its buffer.
     pub length: usize,
@@ -18,8 +19,12 @@ pub struct Rehearsed {
 /// Runs a script over a store of so many sites, at each of which objects start with their openings. The record of it,
 /// of edition `GCR2` and with a [`difference`](crate::difference()) of 0, goes to `record`, which has
 /// [`RECORD_MOST`](crate::RECORD_MOST) bytes or more, and an answer for each call to `answers`, which is at least as
-/// long as the script; bytes beyond what is written stay. A refusal leaves both as they were. A call that is refused
-/// changes only its own answer.
+/// long as the script; bytes beyond what is written stay. A call that is refused changes only its own answer.
+///
+/// # Errors
+///
+/// By 20 to 23: other sites than 1 to 8, a script that is no row of at most 4,096 calls, a record buffer or an answer
+/// buffer that is too short. Both buffers are then as they were.
 ///
 /// A get finds the object's opening where its site knows no put of the object; every put replaces it. Here the put of
 /// site 0 has not come to site 1:
@@ -91,8 +96,11 @@ pub fn rehearse(
     rehearse_raw(sites, openings.as_bytes(), script, record, answers)
 }
 
-/// The same with openings as bytes that may be anything, such as a file's. Those that are no [`Openings`] are refused
-/// by 40, which is asked after 20 to 23.
+/// The same with openings as bytes that may be anything, such as a file's.
+///
+/// # Errors
+///
+/// By 20 to 23 as [`rehearse`] has them, and then by 40, where the openings are no [`Openings`].
 ///
 /// ```
 /// use gcr::{rehearse_raw, RECORD_MOST};
