@@ -1,0 +1,33 @@
+//! The commands, in the order in which they are told.
+
+use crate::ending::{Ending, Failure};
+use crate::nearest::hint;
+use crate::printable::printable;
+use crate::words::{Opt, Words};
+use crate::{draw, explain, judge, make, rehearse, show};
+use std::ffi::OsStr;
+
+pub struct Command {
+    pub name: &'static str,
+    /// What it does, in one line.
+    pub about: &'static str,
+    /// How it is used, with an example.
+    pub help: &'static str,
+    /// Beside `--help`, which all have.
+    pub options: &'static [Opt],
+    pub run: fn(&Words) -> Result<Ending, Failure>,
+}
+
+pub const ALL: &[Command] =
+    &[judge::COMMAND, show::COMMAND, make::COMMAND, explain::COMMAND, rehearse::COMMAND, draw::COMMAND];
+
+impl Command {
+    pub fn named(word: &OsStr) -> Result<&'static Command, Failure> {
+        let word = printable(&word.to_string_lossy());
+        let unknown = || {
+            let hint = hint(&word, ALL.iter().map(|command| command.name));
+            Failure::unclear(format!("there is no command {word}{hint} (gcr --help tells them all)"))
+        };
+        ALL.iter().find(|command| command.name == word).ok_or_else(unknown)
+    }
+}

@@ -1,0 +1,16 @@
+//! draws a record as a space-time diagram
+
+use crate::commands::Command;
+use crate::ending::{Ending, Failure};
+use crate::words::{Opt, Words};
+
+pub const COMMAND: Command =
+    Command { name: "draw", about: "draws a record as a space-time diagram", help: HELP, options: OPTIONS, run };
+
+const OPTIONS: &[Opt] = &[];
+
+const HELP: &str = "";
+
+fn run(words: &Words) -> Result<Ending, Failure> {
+    Err(words.unclear("not there yet"))
+}

@@ -1,0 +1,48 @@
+//! `gcr`: one command over the proved library. Everything that it decides comes from the library's calls; it reads
+//! files, asks, and writes what it was told.
+
+mod commands;
+mod draw;
+mod ending;
+mod explain;
+mod help;
+mod judge;
+mod make;
+mod nearest;
+mod output;
+mod printable;
+mod rehearse;
+mod show;
+mod source;
+mod text;
+mod words;
+
+use commands::Command;
+use ending::{Ending, Failure};
+use std::ffi::OsString;
+use std::process::ExitCode;
+
+fn main() -> ExitCode {
+    let words: Vec<OsString> = std::env::args_os().skip(1).collect();
+    match run(&words) {
+        Ok(ending) => ending.into(),
+        Err(failure) => failure.told(),
+    }
+}
+
+fn run(words: &[OsString]) -> Result<Ending, Failure> {
+    let Some((first, rest)) = words.split_first() else { return Err(Failure::unclear(help::overview())) };
+    match first.to_str() {
+        Some("--help" | "-h") => help::written(&help::overview()),
+        Some("help") => help::asked(rest),
+        Some("--version" | "-V") => help::written(&help::version()),
+        _ => {
+            let command = Command::named(first)?;
+            let words = words::Words::read(command, rest)?;
+            match words.has("--help") {
+                true => help::written(&help::of(command)),
+                false => (command.run)(&words),
+            }
+        }
+    }
+}

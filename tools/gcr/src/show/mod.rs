@@ -1,0 +1,16 @@
+//! writes a record as text
+
+use crate::commands::Command;
+use crate::ending::{Ending, Failure};
+use crate::words::{Opt, Words};
+
+pub const COMMAND: Command =
+    Command { name: "show", about: "writes a record as text", help: HELP, options: OPTIONS, run };
+
+const OPTIONS: &[Opt] = &[];
+
+const HELP: &str = "";
+
+fn run(words: &Words) -> Result<Ending, Failure> {
+    Err(words.unclear("not there yet"))
+}
