@@ -8,6 +8,7 @@ mod explain;
 mod help;
 mod judge;
 mod make;
+mod named;
 mod nearest;
 mod output;
 mod printable;
@@ -31,7 +32,9 @@ fn main() -> ExitCode {
 }
 
 fn run(words: &[OsString]) -> Result<Ending, Failure> {
-    let Some((first, rest)) = words.split_first() else { return Err(Failure::unclear(help::overview())) };
+    let Some((first, rest)) = words.split_first() else {
+        return Err(Failure::unclear(format!("name a command\n\n{}", help::overview())));
+    };
     match first.to_str() {
         Some("--help" | "-h") => help::written(&help::overview()),
         Some("help") => help::asked(rest),

@@ -3,7 +3,9 @@
 use crate::commands::Command;
 use crate::ending::Failure;
 use crate::nearest::hint;
+use crate::source::Source;
 use std::ffi::{OsStr, OsString};
+use std::io::{self, IsTerminal};
 
 /// An option that a command has.
 pub struct Opt {
@@ -89,12 +91,20 @@ impl Words {
         }
     }
 
-    /// The one file, or standard input where none is named.
-    pub fn file(&self) -> Result<&OsStr, Failure> {
+    /// The one file that it is given.
+    pub fn file(&self) -> Result<Source, Failure> {
         match self.files.as_slice() {
-            [] => Ok(OsStr::new("-")),
-            [file] => Ok(file),
+            [] => self.standard_input(),
+            [file] => Ok(Source::named(file)),
             _ => Err(self.unclear("it takes one file")),
+        }
+    }
+
+    /// Where no file is named: nobody who types a command wants it to wait for a record's bytes from the keyboard.
+    pub fn standard_input(&self) -> Result<Source, Failure> {
+        match io::stdin().is_terminal() {
+            true => Err(self.unclear("name a file, or - for standard input")),
+            false => Ok(Source::StandardInput),
         }
     }
 
@@ -108,7 +118,6 @@ impl Words {
     }
 
     pub fn unclear(&self, message: &str) -> Failure {
-        let name = self.command.name;
-        Failure::unclear(format!("{name}: {message} (gcr {name} --help tells more)"))
+        Failure::unclear(format!("{message} (gcr {} --help tells more)", self.command.name))
     }
 }

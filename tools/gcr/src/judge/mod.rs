@@ -1,16 +1,95 @@
-//! judges records against models or predicates
+//! Judges records: a line, an object or rows for each, in the order in which they were named.
+
+mod asked;
+mod cores;
+mod csv;
+mod form;
+mod found;
+mod json;
+mod lines;
+mod progress;
+mod records;
+mod summary;
 
 use crate::commands::Command;
 use crate::ending::{Ending, Failure};
+use crate::output::Output;
 use crate::words::{Opt, Words};
+use asked::Question;
+use form::Form;
+use found::Found;
+use progress::Progress;
+use summary::Summary;
 
-pub const COMMAND: Command =
-    Command { name: "judge", about: "judges records against models or predicates", help: HELP, options: OPTIONS, run };
+pub const COMMAND: Command = Command {
+    name: "judge",
+    about: "judges records, files or a folder's, against models or predicates",
+    help: HELP,
+    options: &[
+        Opt::with("--model", 1),
+        Opt::with("--predicate", 1),
+        Opt::flag("--all"),
+        Opt::flag("--json"),
+        Opt::flag("--csv"),
+        Opt::flag("--quiet"),
+    ],
+    run,
+};
 
-const OPTIONS: &[Opt] = &[];
+const HELP: &str = "
+gcr judge [--model M]... [--predicate P]... [--all] [--json | --csv] [--quiet] [FILE | FOLDER | -]...
 
-const HELP: &str = "";
+Judges each record and writes a line for it: met, or what is broken and at which events, or why it was
+refused. A folder stands for its files that end in .gcr; - or no file is standard input.
+
+  --model M      a model by name or number; without any option it is Causal, the house's rule
+  --predicate P  a predicate by name or number
+  --all          all thirteen predicates
+  --json         an object for each record, a line each
+  --csv          rows for each record
+  --quiet        nothing of records that are met
+
+Exit status: 0 all met, 1 something broken, 2 something refused, 3 something not read, the highest that applies.
+
+  gcr judge records/clocks.gcr records/stale-read.gcr
+  records/clocks.gcr: met
+  records/stale-read.gcr: broken: Causal by CausalVisibility at events 0 and 2
+  2 records against Causal: 1 met, 1 broken, 0 refused, 0 not read
+";
 
 fn run(words: &Words) -> Result<Ending, Failure> {
-    Err(words.unclear("not there yet"))
+    let questions = asked::questions(words)?;
+    let form = Form::asked(words)?;
+    let records = records::named(words)?;
+    let is_quiet = words.has("--quiet");
+    let mut output = Output::standard();
+    let mut progress = Progress::of(records.len());
+    let mut summary = Summary::default();
+    output.put(form.head())?;
+    cores::in_order(
+        records.len(),
+        |k| Found::of(&records[k], &questions),
+        |found| {
+            summary.count(&found);
+            if !(is_quiet && found.ending() == Ending::Well) {
+                progress.clear();
+                output.put(&form.of(&found))?;
+            }
+            progress.step(&mut output)
+        },
+    )?;
+    progress.clear();
+    if form == Form::Lines {
+        output.put(&summary.line(&names(&questions)))?;
+    }
+    output.finish()?;
+    Ok(summary.ending)
+}
+
+/// `Causal`, or `RVal, SingleOrder`; of many how many.
+fn names(questions: &[Question]) -> String {
+    match questions {
+        [.., _, _, _, _] => format!("{} models or predicates", questions.len()),
+        few => few.iter().map(Question::name).collect::<Vec<_>>().join(", "),
+    }
 }

@@ -1,0 +1,56 @@
+//! An object for each record, a line each. Every object has the same keys.
+
+use super::asked::Question;
+use super::found::{Break, Found, Outcome};
+
+pub fn line(found: &Found) -> String {
+    let (verdicts, refusal, error) = match &found.outcome {
+        Outcome::Judged(verdicts) => (verdicts.iter().map(verdict).collect::<Vec<_>>().join(","), null(), null()),
+        Outcome::Refused(refusal) => {
+            let (number, place, sentence) = (refusal.number, refusal.place, string(refusal.sentence()));
+            (String::new(), format!(r#"{{"number":{number},"place":{place},"sentence":{sentence}}}"#), null())
+        }
+        Outcome::Unread(why) => (String::new(), null(), string(why)),
+    };
+    let (record, status) = (string(&found.record), string(found.status()));
+    format!(
+        "{{\"record\":{record},\"status\":{status},\"verdicts\":[{verdicts}],\"refusal\":{refusal},\"error\":{error}}}\n"
+    )
+}
+
+fn verdict((question, broken): &(Question, Option<Break>)) -> String {
+    let (kind, name) = (string(question.kind()), string(question.name()));
+    let (status, by, a, b) = match broken {
+        None => ("met", null(), null(), null()),
+        Some(Break { by, a, b }) => {
+            let by = format!(r#"{{"number":{},"name":{}}}"#, by.number(), string(by.name()));
+            ("broken", by, a.to_string(), b.to_string())
+        }
+    };
+    let number = question.number();
+    format!(r#"{{"kind":{kind},"number":{number},"name":{name},"status":"{status}","by":{by},"a":{a},"b":{b}}}"#)
+}
+
+fn null() -> String {
+    "null".to_string()
+}
+
+/// In quotes, with what JSON asks to be written otherwise.
+fn string(text: &str) -> String {
+    let letter = |letter: char| match letter {
+        '"' | '\\' => format!("\\{letter}"),
+        control if control < ' ' => format!("\\u{:04x}", control as u32),
+        other => other.to_string(),
+    };
+    format!("\"{}\"", text.chars().map(letter).collect::<String>())
+}
+
+#[cfg(test)]
+mod tests {
+    use super::string;
+
+    #[test]
+    fn strings_are_quoted_as_json_has_them() {
+        assert_eq!(string("a \"b\" \\ \n\u{1f} ä"), r#""a \"b\" \\ \u000a\u001f ä""#);
+    }
+}
