@@ -1,8 +1,24 @@
-//! runs a script of calls over the store's sites
+//! Runs a script of calls over the store's sites, by the proved rehearsal, and tells what each call was answered.
+
+mod bytes;
+mod calls;
+mod reading;
+mod rehearsal;
+mod script;
+#[cfg(test)]
+mod tests;
+mod writing;
 
 use crate::commands::Command;
 use crate::ending::{Ending, Failure};
+use crate::output;
+use crate::printable::printable;
+use crate::source::Source;
+use crate::text::letters;
 use crate::words::{Opt, Words};
+use rehearsal::Rehearsal;
+use script::Script;
+use std::ffi::OsStr;
 
 pub const COMMAND: Command = Command {
     name: "rehearse",
@@ -12,10 +28,99 @@ pub const COMMAND: Command = Command {
     run,
 };
 
-const OPTIONS: &[Opt] = &[];
+const OPTIONS: &[Opt] = &[Opt::with(RECORD, 1), Opt::flag(BYTES), Opt::with(BYTES_TO, 1)];
 
-const HELP: &str = "";
+const RECORD: &str = "-o";
+const BYTES: &str = "--bytes";
+const BYTES_TO: &str = "--bytes-to";
+
+const HELP: &str = "
+gcr rehearse [SCRIPT] [-o RECORD] [--bytes] [--bytes-to FILE]: runs a script of calls over the store's sites
+
+It writes the script with the answer of each call beside it, which is again a script. Without a file, or of -,
+it reads standard input. A line of a script is one of
+  sites N                  first: how many, 1 to 8
+  open OBJECT VALUE        what an object, 0 to 31, starts with; before the first call
+  put SITE OBJECT VALUE    an event, as is a get; events have numbers from 0
+  get SITE OBJECT
+  deliver EVENT SITE       a put's event, to a site
+  close                    delivers to each site every put that it lacks
+  call B0 B1 ... B7        any call, as its bytes in hexadecimal
+Sites have numbers from 0; # begins a remark.
+
+  -o RECORD        the record that the rehearsal leaves goes to this file
+  --bytes          the script is in the paper's form: a byte of sites, 132 bytes of openings, 8 bytes a call
+  --bytes-to FILE  the script goes to this file in that form
+To - they go to standard output, in place of the lines.
+Exit status: 0 every call was done; 2 a call, or all of the script, was refused.
+
+Example:
+  printf 'sites 2\\nput 0 5 100\\nclose\\nget 1 5\\n' | gcr rehearse -o day.gcr
+";
+
+/// The bytes of the longest text that is read. One of 4,096 calls with their answers has less than 500,000.
+const TEXT_MOST: usize = 1 << 22;
 
 fn run(words: &Words) -> Result<Ending, Failure> {
-    Err(words.unclear("not there yet"))
+    let files = Files::named(words)?;
+    let source = Source::named(words.file()?);
+    let script = match words.has(BYTES) {
+        true => bytes::read(&source.bytes(bytes::MOST + 1)?),
+        false => of_text(&source)?,
+    };
+    let refused = |refusal| Failure::refused(format!("{}: {}", source.name(), writing::refused(refusal)));
+    let rehearsal = Rehearsal::of(&script).map_err(refused)?;
+    files.save(&script, &rehearsal)?;
+    match files.is_standard_output_taken() {
+        true => ended(&source, &rehearsal),
+        false => {
+            let record = files.record.map(|name| printable(&name.to_string_lossy()));
+            output::written(writing::written(&script, &rehearsal, record.as_deref()).as_bytes())?;
+            Ok(if rehearsal.refused() == 0 { Ending::Well } else { Ending::Refused })
+        }
+    }
+}
+
+fn of_text(source: &Source) -> Result<Script, Failure> {
+    let refused = |what: String| Failure::refused(format!("{}: {what}", source.name()));
+    let bytes = source.bytes(TEXT_MOST + 1)?;
+    if bytes.len() > TEXT_MOST {
+        return Err(refused(format!("longer than {TEXT_MOST} bytes, which no script has to be")));
+    }
+    let text = letters(&bytes).map_err(|bad| refused(format!("{bad} ({BYTES} reads the paper's form)")))?;
+    reading::read(text).map_err(|bad| refused(bad.to_string()))
+}
+
+/// Where no line tells of refused calls, a message does.
+fn ended(source: &Source, rehearsal: &Rehearsal) -> Result<Ending, Failure> {
+    let (refused, calls) = (rehearsal.refused(), rehearsal.answers.len());
+    match refused {
+        0 => Ok(Ending::Well),
+        _ => Err(Failure::refused(format!("{}: of {calls} calls {refused} refused", source.name()))),
+    }
+}
+
+/// Where what was asked for goes beside the lines, or in their place.
+struct Files<'a> {
+    record: Option<&'a OsStr>,
+    bytes: Option<&'a OsStr>,
+}
+
+impl<'a> Files<'a> {
+    fn named(words: &'a Words) -> Result<Files<'a>, Failure> {
+        let files = Files { record: words.one(RECORD)?, bytes: words.one(BYTES_TO)? };
+        match files.record.is_some() && files.record == files.bytes {
+            true => Err(words.unclear(&format!("{RECORD} and {BYTES_TO} name the same file"))),
+            false => Ok(files),
+        }
+    }
+
+    fn is_standard_output_taken(&self) -> bool {
+        [self.record, self.bytes].contains(&Some(OsStr::new("-")))
+    }
+
+    fn save(&self, script: &Script, rehearsal: &Rehearsal) -> Result<(), Failure> {
+        self.record.map_or(Ok(()), |to| output::saved(to, &rehearsal.record))?;
+        self.bytes.map_or(Ok(()), |to| output::saved(to, &bytes::written(script)))
+    }
 }
