@@ -96,7 +96,7 @@ fn ended(source: &Source, rehearsal: &Rehearsal) -> Result<Ending, Failure> {
     let (refused, calls) = (rehearsal.refused(), rehearsal.answers.len());
     match refused {
         0 => Ok(Ending::Well),
-        _ => Err(Failure::refused(format!("{}: of {calls} calls {refused} refused", source.name()))),
+        _ => Err(Failure::refused(format!("{}: {refused} of {calls} calls refused", source.name()))),
     }
 }
 
