@@ -2,6 +2,7 @@
 
 mod bytes;
 mod calls;
+mod files;
 mod reading;
 mod rehearsal;
 mod script;
@@ -12,13 +13,12 @@ mod writing;
 use crate::commands::Command;
 use crate::ending::{Ending, Failure};
 use crate::output;
-use crate::printable::printable;
 use crate::source::Source;
 use crate::text::letters;
 use crate::words::{Opt, Words};
+use files::Files;
 use rehearsal::Rehearsal;
 use script::Script;
-use std::ffi::OsStr;
 
 pub const COMMAND: Command = Command {
     name: "rehearse",
@@ -28,11 +28,9 @@ pub const COMMAND: Command = Command {
     run,
 };
 
-const OPTIONS: &[Opt] = &[Opt::with(RECORD, 1), Opt::flag(BYTES), Opt::with(BYTES_TO, 1)];
+const OPTIONS: &[Opt] = &[Opt::with(files::RECORD, 1), Opt::flag(BYTES), Opt::with(files::BYTES_TO, 1)];
 
-const RECORD: &str = "-o";
 const BYTES: &str = "--bytes";
-const BYTES_TO: &str = "--bytes-to";
 
 const HELP: &str = "
 gcr rehearse [SCRIPT] [-o RECORD] [--bytes] [--bytes-to FILE]: runs a script of calls over the store's sites
@@ -74,7 +72,7 @@ fn run(words: &Words) -> Result<Ending, Failure> {
     match files.is_standard_output_taken() {
         true => ended(&source, &rehearsal),
         false => {
-            let record = files.record.map(|name| printable(&name.to_string_lossy()));
+            let record = files.record_name();
             output::written(writing::written(&script, &rehearsal, record.as_deref()).as_bytes())?;
             Ok(if rehearsal.refused() == 0 { Ending::Well } else { Ending::Refused })
         }
@@ -97,30 +95,5 @@ fn ended(source: &Source, rehearsal: &Rehearsal) -> Result<Ending, Failure> {
     match refused {
         0 => Ok(Ending::Well),
         _ => Err(Failure::refused(format!("{}: {refused} of {calls} calls refused", source.name()))),
-    }
-}
-
-/// Where what was asked for goes beside the lines, or in their place.
-struct Files<'a> {
-    record: Option<&'a OsStr>,
-    bytes: Option<&'a OsStr>,
-}
-
-impl<'a> Files<'a> {
-    fn named(words: &'a Words) -> Result<Files<'a>, Failure> {
-        let files = Files { record: words.one(RECORD)?, bytes: words.one(BYTES_TO)? };
-        match files.record.is_some() && files.record == files.bytes {
-            true => Err(words.unclear(&format!("{RECORD} and {BYTES_TO} name the same file"))),
-            false => Ok(files),
-        }
-    }
-
-    fn is_standard_output_taken(&self) -> bool {
-        [self.record, self.bytes].contains(&Some(OsStr::new("-")))
-    }
-
-    fn save(&self, script: &Script, rehearsal: &Rehearsal) -> Result<(), Failure> {
-        self.record.map_or(Ok(()), |to| output::saved(to, &rehearsal.record))?;
-        self.bytes.map_or(Ok(()), |to| output::saved(to, &bytes::written(script)))
     }
 }

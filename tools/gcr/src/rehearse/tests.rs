@@ -3,6 +3,7 @@
 use super::rehearsal::Rehearsal;
 use super::script::{Script, CALL};
 use super::{bytes, calls, reading, writing};
+use crate::text::letters;
 use gcr::{answers, rehearse_raw, OPENINGS_BYTES, RECORD_MOST};
 use second::generate::random::Random;
 use second::generate::scripts;
@@ -133,6 +134,23 @@ fn damaged_texts_are_read_or_refused_at_a_place_in_them() {
     }
     assert_eq!(taken + refused, 2_000);
     assert!(taken > 200 && refused > 200, "{taken} taken, {refused} refused");
+}
+
+/// A text with bytes of any kind put over it, as a file may come.
+#[test]
+fn any_bytes_are_a_script_or_refused() {
+    let mut told = [0; 3];
+    for seed in 0..2_000 {
+        let mut random = Random::new(seed);
+        let mut bytes = text(&noise(seed)).expect("it is not refused").into_bytes();
+        for _ in 0..random.index(3) {
+            let at = random.index(bytes.len());
+            bytes[at] = random.byte();
+        }
+        let read = letters(&bytes).map(|text| reading::read(text).is_ok());
+        told[read.map_or(2, usize::from)] += 1;
+    }
+    assert!(told.iter().all(|&times| times > 100), "no script, a script, no text: {told:?}");
 }
 
 fn bad(text: &str) -> String {
