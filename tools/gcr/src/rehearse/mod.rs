@@ -61,7 +61,7 @@ const TEXT_MOST: usize = 1 << 22;
 
 fn run(words: &Words) -> Result<Ending, Failure> {
     let files = Files::named(words)?;
-    let source = Source::named(words.file()?);
+    let source = words.file()?;
     let script = match words.has(BYTES) {
         true => bytes::read(&source.bytes(bytes::MOST + 1)?),
         false => of_text(&source)?,
