@@ -234,7 +234,7 @@ fn words_that_are_not_understood_end_with_4() {
     ];
     for (words, due) in told {
         let ran = gcr(&[&["rehearse"], words].concat(), b"sites 1\n");
-        let due = format!("gcr: rehearse: {due} (gcr rehearse --help tells more)\n");
+        let due = format!("gcr: {due} (gcr rehearse --help tells more)\n");
         assert_eq!((ran.status, ran.out(), ran.err()), (4, "", due.as_str()));
     }
 }
