@@ -38,6 +38,8 @@
 extern "C" {
 #endif
 
+#define GCR_VERSION "0.7.0" /* of both headers, both archives and the command gcr, which come together */
+
 #define GCR_RECORD_MOST 19456  /* bytes of the longest record */
 #define GCR_WORK_WORDS 1024    /* the words that gcr_read asks for */
 #define GCR_DIFFERENCE_AT 8    /* where a record has the difference of its sites' clocks */
