@@ -73,10 +73,15 @@ pub fn to_closed_pipe(words: &[impl AsRef<OsStr>]) -> Ran {
 
 /// By a shell at the root, with `gcr` on its path.
 pub fn shell(line: &str) -> Ran {
+    shell_in(&root(), line)
+}
+
+/// The same in another folder.
+pub fn shell_in(at: &Path, line: &str) -> Ran {
     let folder = Path::new(env!("CARGO_BIN_EXE_gcr")).parent().expect("it is in a folder");
     let path = format!("{}:{}", folder.display(), std::env::var("PATH").unwrap_or_default());
     let mut command = Command::new("sh");
-    command.arg("-c").arg(line).env("PATH", path).current_dir(root()).stdin(Stdio::null());
+    command.arg("-c").arg(line).env("PATH", path).current_dir(at).stdin(Stdio::null());
     Ran::of(command.output().expect("there is a shell"))
 }
 
