@@ -15,6 +15,7 @@ mod printable;
 mod rehearse;
 mod show;
 mod source;
+mod table;
 mod text;
 mod words;
 

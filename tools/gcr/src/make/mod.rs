@@ -1,16 +1,48 @@
-//! makes a record of text
+//! Makes a record of text.
+
+mod encoding;
+
+pub use encoding::encoded;
 
 use crate::commands::Command;
 use crate::ending::{Ending, Failure};
+use crate::output;
+use crate::source::Source;
+use crate::table::Form;
 use crate::words::{Opt, Words};
+use encoding::TEXT_MOST;
+use std::ffi::OsStr;
+use std::io::{self, IsTerminal};
 
 pub const COMMAND: Command =
     Command { name: "make", about: "makes a record of text", help: HELP, options: OPTIONS, run };
 
-const OPTIONS: &[Opt] = &[];
+const OPTIONS: &[Opt] = &[Opt::with("-o", 1), Opt::flag("--csv")];
 
-const HELP: &str = "";
+const HELP: &str = "
+gcr make [FILE] [-o OUT] [--csv]: makes a record of text, as gcr show writes it, if the proved reader passes it
+
+  FILE    the text; standard input where there is none, or where it is -
+  -o OUT  writes the record to this file; else it goes to standard output
+  --csv   the text has cells with commas between them; so it is read too where FILE ends in .csv
+
+Before the columns come the number of sites and, where there are such, the difference of clocks and openings.
+The columns event and state may be left out. # begins a remark. What cannot be read is told by line and column.
+
+Example: gcr show records/stale-read.gcr > day.txt; gcr make day.txt -o day.gcr
+";
 
 fn run(words: &Words) -> Result<Ending, Failure> {
-    Err(words.unclear("not there yet"))
+    let source = Source::named(words.file()?);
+    let to = words.one("-o")?;
+    if to.is_none() && io::stdout().is_terminal() {
+        return Err(
+            words.unclear("the record's bytes are not for a terminal: name a file by -o FILE, or redirect them")
+        );
+    }
+    let form = Form::of(words.has("--csv"), source.path().map(|path| path.as_os_str()));
+    let bytes = source.bytes(TEXT_MOST + 1)?;
+    let record = encoded(form, &bytes).map_err(|what| Failure::refused(format!("{}: {what}", source.name())))?;
+    output::saved(to.unwrap_or(OsStr::new("-")), &record)?;
+    Ok(Ending::Well)
 }

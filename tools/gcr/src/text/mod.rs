@@ -1,7 +1,9 @@
 //! Text that people write: its words with the lines and columns where they stand.
 
 mod letters;
+mod parts;
+mod unknown;
 mod word;
 
 pub use letters::{after, letters};
-pub use word::{words, Bad, Word};
+pub use word::{before_remark, words, Bad, Word};

@@ -39,16 +39,25 @@ impl Word<'_> {
 
 /// The words of a line, up to a `#`, which begins a remark.
 pub fn words(line: usize, text: &str) -> Vec<Word<'_>> {
-    let text = text.split('#').next().unwrap_or("");
+    let text = before_remark(text);
     let mut words = Vec::new();
-    let mut rest = text;
-    while let Some(start) = rest.find(|letter: char| !letter.is_whitespace()) {
-        let from = text.len() - rest.len() + start;
-        let end = text[from..].find(char::is_whitespace).map_or(text.len(), |end| from + end);
-        words.push(Word { line, column: 1 + text[..from].chars().count(), text: &text[from..end] });
-        rest = &text[end..];
+    let mut begun = None;
+    let letters = text.char_indices().chain([(text.len(), ' ')]);
+    for (column, (at, letter)) in (1..).zip(letters) {
+        match begun {
+            None if !letter.is_whitespace() => begun = Some((column, at)),
+            Some((column, from)) if letter.is_whitespace() => {
+                words.push(Word { line, column, text: &text[from..at] });
+                begun = None;
+            }
+            _ => {}
+        }
     }
     words
+}
+
+pub fn before_remark(text: &str) -> &str {
+    text.split('#').next().unwrap_or("")
 }
 
 #[cfg(test)]

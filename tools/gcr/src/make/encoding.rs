@@ -1,0 +1,43 @@
+//! The record's bytes, or why there are none.
+
+use crate::table::{Form, Table};
+use crate::text::decoded;
+use gcr::{Record, Refusal};
+
+/// More than any record's text needs: the longest that `gcr show` writes is below 200 KB.
+pub const TEXT_MOST: usize = 4_000_000;
+
+/// What the text says, encoded, if the proved reader passes it; else what is wrong, and where.
+pub fn encoded(form: Form, text: &[u8]) -> Result<Vec<u8>, String> {
+    if text.len() > TEXT_MOST {
+        return Err(format!("the text is longer than {TEXT_MOST} bytes"));
+    }
+    let text = decoded(text).map_err(|bad| bad.to_string())?;
+    let table = Table::read(form, text).map_err(|bad| bad.to_string())?;
+    table.record.encode().map_err(|refusal| refused(&table, refusal))
+}
+
+/// With the line and column of what it is about, where that is an event.
+fn refused(table: &Table, refusal: Refusal) -> String {
+    let what = format!("{refusal}{}", in_rows(&table.record, refusal));
+    match table.place(refusal) {
+        Some(cell) => cell.bad(what).to_string(),
+        None => what,
+    }
+}
+
+/// What the questions about bytes that are laid out ask of a table, where the reader's sentence does not say it.
+fn in_rows(record: &Record, refusal: Refusal) -> String {
+    let (sites, events) = (record.sites, record.count());
+    match refusal.number {
+        3 | 5 => format!(
+            " There are 1 to 8 sites and at most 256 events, and in GCR1 neither clocks that differ nor openings. \
+             (The text has sites {sites}, events {events}, edition {}.)",
+            record.edition
+        ),
+        7 => " In a row the site is below the number of sites, a write has a value, a pending read has none, and the \
+               return is not below the start."
+            .to_string(),
+        _ => String::new(),
+    }
+}

@@ -1,0 +1,22 @@
+//! A record as a table: header rows, the row of columns, then a row for each event. `show` writes it, `make` reads it.
+
+mod columns;
+mod events;
+mod form;
+mod header;
+mod names;
+mod ranges;
+mod reading;
+mod rows;
+mod writing;
+
+#[cfg(test)]
+mod damaged;
+#[cfg(test)]
+mod round_trips;
+#[cfg(test)]
+mod samples;
+
+pub use form::Form;
+pub use reading::Table;
+pub use writing::written;
