@@ -10,7 +10,7 @@ pub const TEXT_MOST: usize = 4_000_000;
 /// What the text says, encoded, if the proved reader passes it; else what is wrong, and where.
 pub fn encoded(form: Form, text: &[u8]) -> Result<Vec<u8>, String> {
     if text.len() > TEXT_MOST {
-        return Err(format!("the text is longer than {TEXT_MOST} bytes"));
+        return Err("the text is longer than 4,000,000 bytes".to_string());
     }
     let text = decoded(text).map_err(|bad| bad.to_string())?;
     let table = Table::read(form, text).map_err(|bad| bad.to_string())?;

@@ -113,7 +113,8 @@ impl Columns {
 
     /// In text no cell can be empty, and in CSV no column is without a name.
     pub fn fit(&self, row: &Row) -> Result<(), Bad> {
-        match (row.filled().get(self.count()), self.named.get(row.cells.len())) {
+        let over = row.cells.iter().skip(self.count()).find(|cell| !cell.text.is_empty());
+        match (over, self.named.get(row.cells.len())) {
             (Some(cell), _) => Err(cell.bad("over this cell no column is named")),
             (None, Some(column)) if self.form == Form::Text => {
                 Err(row.end.bad(format!("the row ends before its {}", column.name())))

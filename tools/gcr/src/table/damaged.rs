@@ -135,5 +135,5 @@ fn long_lines_words_and_columns_of_text_end_soon() {
             assert!(encoded(form, text.as_bytes()).is_err_and(|what| what.len() < 300), "{part:?}");
         }
     }
-    assert_eq!(encoded(Form::Text, &vec![b' '; 4_000_001]), Err("the text is longer than 4000000 bytes".to_string()));
+    assert_eq!(encoded(Form::Text, &vec![b' '; 4_000_001]), Err("the text is longer than 4,000,000 bytes".to_string()));
 }

@@ -36,6 +36,9 @@ impl<'a> Table<'a> {
     }
 
     fn push(&mut self, row: Row<'a>) -> Result<(), Bad> {
+        if Header::has(row.first()) {
+            return Err(row.first().bad("header rows stand before the columns"));
+        }
         let event = EventRow { columns: &self.columns, row: &row }.event(self.record.count())?;
         self.record.push(event);
         self.rows.push(row);

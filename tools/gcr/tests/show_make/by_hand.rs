@@ -1,0 +1,129 @@
+//! Records that people and spreadsheets write.
+
+use crate::run::{gcr, gcr_of, shipped, Folder};
+use std::fs;
+
+const SHOWN: &str = "\
+edition GCR2
+sites 2
+clocks 40
+opening 5 300
+opening 31 0
+
+event  site  kind   object  value       state     start  return                position  sees
+0      0     write  5       100         returned  0      1                     0         -
+1      1     write  31      4294967295  pending   2      -                     2         0
+2      1     read   5       none        returned  3      18446744073709551615  1         0..1
+3      0     read   255     none        pending   1000   -                     3         0 2
+";
+
+const SHOWN_IN_CSV: &str = "\
+edition,GCR2
+sites,2
+clocks,40
+opening,5,300
+opening,31,0
+event,site,kind,object,value,state,start,return,position,sees
+0,0,write,5,100,returned,0,1,0,
+1,1,write,31,4294967295,pending,2,,2,0
+2,1,read,5,,returned,3,18446744073709551615,1,0..1
+3,0,read,255,,pending,1000,,3,0 2
+";
+
+/// The record that the texts above say.
+fn record() -> Vec<u8> {
+    gcr_of(&["make"], SHOWN.as_bytes()).done()
+}
+
+fn makes_the_same(words: &[&str], text: &str) {
+    assert!(gcr_of(words, text.as_bytes()).done() == record(), "another record of\n{text}");
+}
+
+#[test]
+fn a_record_is_shown_as_text_and_as_csv() {
+    assert_eq!(gcr_of(&["show"], &record()).text(), SHOWN);
+    assert_eq!(gcr_of(&["show", "-"], &record()).text(), SHOWN);
+    assert_eq!(gcr_of(&["show", "--csv"], &record()).text(), SHOWN_IN_CSV);
+    makes_the_same(&["make", "-"], SHOWN);
+    makes_the_same(&["make", "--csv"], SHOWN_IN_CSV);
+}
+
+#[test]
+fn a_record_of_the_first_edition_has_no_clocks() {
+    let text = "edition GCR1\nsites 2\n
+event  site  kind   object  value  state     start  return  position  sees
+0      0     write  0       7      returned  0      1       0         -
+1      1     read   0       7      returned  2      3       1         0
+2      1     read   0       none   returned  4      5       2         1
+";
+    assert_eq!(gcr(&["show", &shipped("stale-read.gcr")]).text(), text);
+    let bytes = fs::read(shipped("stale-read.gcr")).expect("it ships");
+    assert!(gcr_of(&["make"], text.as_bytes()).done() == bytes);
+}
+
+#[test]
+fn files_are_read_and_written_by_their_names() {
+    let folder = Folder::new("names");
+    let (text, csv, record) = (folder.path("day.txt"), folder.path("day.CSV"), folder.path("day.gcr"));
+    let shipped = shipped("opening.gcr");
+    gcr(&["show", &shipped, "-o", &text]).done();
+    gcr(&["show", "-o", &csv, &shipped]).done();
+    assert_eq!(fs::read_to_string(&text).unwrap(), gcr(&["show", &shipped]).text());
+    assert_eq!(fs::read_to_string(&csv).unwrap(), gcr(&["show", "--csv", &shipped]).text());
+    for made in [&text, &csv] {
+        gcr(&["make", made, "-o", &record]).done();
+        assert!(fs::read(&record).unwrap() == fs::read(&shipped).unwrap(), "{made}");
+        assert!(gcr(&["make", made]).done() == fs::read(&shipped).unwrap(), "{made}");
+    }
+    assert_eq!(folder.names(), ["day.CSV", "day.gcr", "day.txt"]);
+}
+
+#[test]
+fn what_can_be_told_may_be_left_out() {
+    let columns = "# by hand\n\topening 31 0\r\nClocks 40 # ms\nsites 2\n opening 5 300
+
+    position site kind object start return value SEES  # in another order
+    0 0 Write 5 0 1 100 -
+    2 1 write 31 2 - 4294967295 0   # pending\n
+    1 1 read 5 3 18446744073709551615 none 1 0
+    3 0 READ 255 1000 none - 2..2 0";
+    makes_the_same(&["make"], columns);
+}
+
+#[test]
+fn a_spreadsheet_may_pad_quote_and_mark_its_file() {
+    let padded = "\u{feff}\"edition\",\"GCR2\",,,,,,,,\r\nsites,2,,,,,,,,\r\nclocks,40,,,,,,,,\r\nopening,5,300,,,,,,,
+opening,31,0,,,,,,,\r\n,,,,,,,,,\r\n\"# from the log, by hand\",,,,,,,,,
+sees,event,site,kind,object,value,state,start,return,position,,\r
+,0,0,write,5,100,returned,0,1,0,,\r
+\"0\",1,1,write,31, 4294967295 ,,2,,2\r
+\"0 1\",2,1,read,5,none,returned,3,18446744073709551615,1\r
+,,,,\r
+2 0,3,0,read,255,-,pending,1000,-,3,,,,\r\n";
+    makes_the_same(&["make", "--csv"], padded);
+    makes_the_same(&["make", "--csv"], &padded.replace(',', ";").replace("log;", "log,"));
+}
+
+#[test]
+fn the_edition_is_the_second_where_none_is_said() {
+    let text = "sites 3\nsite kind object value start return position sees\n";
+    let shown = gcr_of(&["show"], &gcr_of(&["make"], text.as_bytes()).done()).text();
+    assert_eq!(shown.lines().take(3).collect::<Vec<_>>(), ["edition GCR2", "sites 3", "clocks 0"]);
+}
+
+#[test]
+fn help_has_an_example() {
+    for name in ["show", "make"] {
+        let help = gcr(&[name, "--help"]).text();
+        assert!(help.starts_with(&format!("gcr {name} ")) && help.contains("\nExample: gcr show "), "{help}");
+        assert!(help.lines().count() < 16, "{help}");
+    }
+}
+
+#[test]
+fn words_that_are_not_understood_do_nothing() {
+    let twice = gcr(&["make", "a", "b"]);
+    twice.ended(4, "make: it takes one file (gcr make --help tells more)");
+    let unknown = gcr(&["show", "--cvs", "a"]);
+    unknown.ended(4, "show: there is no option --cvs; the nearest is --csv (gcr show --help tells more)");
+}

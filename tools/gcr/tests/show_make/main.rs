@@ -1,0 +1,8 @@
+//! `gcr show` and `gcr make` as people run them.
+
+mod bad_text;
+mod by_hand;
+mod outputs;
+mod refused;
+mod round_trips;
+mod run;
