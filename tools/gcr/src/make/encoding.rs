@@ -1,7 +1,7 @@
 //! The record's bytes, or why there are none.
 
 use crate::table::{Form, Table};
-use crate::text::decoded;
+use crate::text::letters;
 use gcr::{Record, Refusal};
 
 /// More than any record's text needs: the longest that `gcr show` writes is below 200 KB.
@@ -12,7 +12,7 @@ pub fn encoded(form: Form, text: &[u8]) -> Result<Vec<u8>, String> {
     if text.len() > TEXT_MOST {
         return Err("the text is longer than 4,000,000 bytes".to_string());
     }
-    let text = decoded(text).map_err(|bad| bad.to_string())?;
+    let text = letters(text).map_err(|bad| bad.to_string())?;
     let table = Table::read(form, text).map_err(|bad| bad.to_string())?;
     table.record.encode().map_err(|refusal| refused(&table, refusal))
 }

@@ -7,7 +7,6 @@ pub use encoding::encoded;
 use crate::commands::Command;
 use crate::ending::{Ending, Failure};
 use crate::output;
-use crate::source::Source;
 use crate::table::Form;
 use crate::words::{Opt, Words};
 use encoding::TEXT_MOST;
@@ -33,7 +32,7 @@ Example: gcr show records/stale-read.gcr > day.txt; gcr make day.txt -o day.gcr
 ";
 
 fn run(words: &Words) -> Result<Ending, Failure> {
-    let source = Source::named(words.file()?);
+    let source = words.file()?;
     let to = words.one("-o")?;
     if to.is_none() && io::stdout().is_terminal() {
         return Err(

@@ -3,7 +3,6 @@
 use crate::commands::Command;
 use crate::ending::{Ending, Failure};
 use crate::output;
-use crate::source::Source;
 use crate::table::{written, Form};
 use crate::words::{Opt, Words};
 use gcr::{Record, RECORD_MOST};
@@ -29,7 +28,7 @@ Example: gcr show records/stale-read.gcr
 ";
 
 fn run(words: &Words) -> Result<Ending, Failure> {
-    let source = Source::named(words.file()?);
+    let source = words.file()?;
     let to = words.one("-o")?;
     let form = Form::of(words.has("--csv"), to);
     let bytes = source.bytes(RECORD_MOST + 1)?;

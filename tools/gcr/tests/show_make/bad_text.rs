@@ -116,7 +116,7 @@ fn cells_of_csv() {
 
 #[test]
 fn bytes_that_are_no_text() {
-    is_bad(&["make"], b"sites 2\n\xc3\xa4\xff\n", "line 2, column 2: this byte is no letter of UTF-8 text");
+    is_bad(&["make"], b"sites 2\n\xc3\xa4\xff\n", "line 2, column 2: the byte ff is no text in UTF-8");
     let record = std::fs::read(crate::run::shipped("clocks.gcr")).expect("it ships");
     let ran = gcr_of(&["make"], &record);
     assert_eq!((ran.status, ran.out.len()), (2, 0));
