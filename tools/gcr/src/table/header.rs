@@ -1,51 +1,10 @@
 //! The rows before the columns: what a record says beside its events.
 
+use super::entries::Entry;
+use super::rows::Row;
 use crate::text::{Bad, Word};
 use gcr::{Edition, Openings, Record};
 use std::str::FromStr;
-
-/// No object above it has an opening.
-const LAST_OPENED: u64 = 31;
-
-#[derive(Clone, Copy, PartialEq, Eq)]
-enum Entry {
-    Edition,
-    Sites,
-    Clocks,
-    Opening,
-}
-
-impl Entry {
-    const ALL: [Entry; 4] = [Entry::Edition, Entry::Sites, Entry::Clocks, Entry::Opening];
-
-    fn name(self) -> &'static str {
-        match self {
-            Entry::Edition => "edition",
-            Entry::Sites => "sites",
-            Entry::Clocks => "clocks",
-            Entry::Opening => "opening",
-        }
-    }
-
-    /// What comes after the name.
-    fn values(self) -> &'static [&'static str] {
-        match self {
-            Entry::Edition => &["edition"],
-            Entry::Sites => &["number of sites"],
-            Entry::Clocks => &["difference of clocks"],
-            Entry::Opening => &["object", "value"],
-        }
-    }
-
-    fn takes(self, name: Word, values: &[Word]) -> Result<(), Bad> {
-        let expected = self.values();
-        match (expected.get(values.len()), values.get(expected.len())) {
-            (Some(missing), _) => Err(name.bad(format!("after {} comes the {missing}", self.name()))),
-            (_, Some(more)) => Err(more.bad(format!("after {} this is too much", self.name()))),
-            _ => Ok(()),
-        }
-    }
-}
 
 /// What was said so far.
 #[derive(Default)]
@@ -57,20 +16,9 @@ pub struct Header {
 }
 
 impl Header {
-    pub fn names() -> impl Iterator<Item = &'static str> {
-        Entry::ALL.into_iter().map(Entry::name)
-    }
-
-    /// Whether a row that begins so belongs to it.
-    pub fn has(word: Word) -> bool {
-        Header::names().any(|name| word.is(name))
-    }
-
     /// One row more.
-    pub fn take(&mut self, row: &[Word]) -> Result<(), Bad> {
-        let Some((&name, values)) = row.split_first() else { return Ok(()) };
-        let entry = Entry::ALL.into_iter().find(|entry| name.is(entry.name()));
-        let entry = entry.ok_or_else(|| name.unknown("header word", Header::names()))?;
+    pub fn take(&mut self, entry: Entry, row: &Row) -> Result<(), Bad> {
+        let (name, values) = (row.first(), row.filled().get(1..).unwrap_or_default());
         entry.takes(name, values)?;
         match entry {
             Entry::Edition => once(&mut self.edition, name, edition(values[0])?),
@@ -81,18 +29,19 @@ impl Header {
     }
 
     fn open(&mut self, object: Word, value: Word) -> Result<(), Bad> {
-        let number = object.number("an object with an opening", LAST_OPENED)? as u8;
+        let number = object.number("an object", u8::MAX.into())? as u8;
         if self.openings.get(number).is_some() {
             return Err(object.bad(format!("object {number} has an opening already")));
         }
-        let value = value.number("an opening", u32::MAX.into())? as u32;
-        self.openings = self.openings.with(number, value).unwrap_or(self.openings);
+        let opened = self.openings.with(number, value.number("an opening", u32::MAX.into())? as u32);
+        self.openings = opened.ok_or_else(|| object.bad("only objects 0 to 31 have openings"))?;
         Ok(())
     }
 
     /// A record without events yet. How many sites there are cannot be told by those that did something.
     pub fn record(self, columns: Word) -> Result<Record, Bad> {
-        let missing = || columns.bad("before the columns comes a row for the number of sites: sites and the number");
+        let missing =
+            || columns.bad("the number of sites is missing: sites and the number stand in a row before the columns");
         let mut record = Record::new(self.edition.unwrap_or(Edition::Gcr2), self.sites.ok_or_else(missing)?);
         record.difference = self.clocks.unwrap_or(0);
         record.openings = self.openings;
@@ -131,8 +80,7 @@ pub fn rows(record: &Record) -> Vec<Vec<String>> {
     if record.edition != Edition::Gcr1 {
         rows.push(row(Entry::Clocks, &[record.difference]));
     }
-    let openings =
-        (0..=LAST_OPENED as u8).filter_map(|object| record.openings.get(object).map(|value| (object, value)));
+    let openings = (0..=u8::MAX).filter_map(|object| record.openings.get(object).map(|value| (object, value)));
     rows.extend(openings.map(|(object, value)| row(Entry::Opening, &[object.into(), value])));
     rows
 }

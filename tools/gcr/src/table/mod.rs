@@ -1,6 +1,7 @@
 //! A record as a table: header rows, the row of columns, then a row for each event. `show` writes it, `make` reads it.
 
 mod columns;
+mod entries;
 mod events;
 mod form;
 mod header;

@@ -1,6 +1,7 @@
 //! Reading a table.
 
 use super::columns::{Column, Columns};
+use super::entries::Entry;
 use super::events::EventRow;
 use super::form::Form;
 use super::header::Header;
@@ -36,7 +37,7 @@ impl<'a> Table<'a> {
     }
 
     fn push(&mut self, row: Row<'a>) -> Result<(), Bad> {
-        if Header::has(row.first()) {
+        if Entry::named(row.first()).is_some() {
             return Err(row.first().bad("header rows stand before the columns"));
         }
         let event = EventRow { columns: &self.columns, row: &row }.event(self.record.count())?;
@@ -60,12 +61,12 @@ impl<'a> Table<'a> {
 
 fn take(header: &mut Header, form: Form, row: &Row) -> Result<(), Bad> {
     let first = row.first();
-    match Header::has(first) {
-        true => header.take(row.filled()),
-        false if form == Form::Text && first.text.contains(',') => {
+    match Entry::named(first) {
+        Some(entry) => header.take(entry, row),
+        None if form == Form::Text && first.text.contains(',') => {
             Err(first.bad("rows with commas are read with --csv"))
         }
-        false => Err(first.unknown("header word or column", Header::names().chain(Column::names()))),
+        None => Err(first.unknown("header word or column", Entry::names().chain(Column::names()))),
     }
 }
 

@@ -39,7 +39,7 @@ fn header_rows() {
         ("sites 256\n", "line 1, column 7: the number of sites is a number from 0 to 255"),
         ("clocks 4294967296\n", "line 1, column 8: the difference of clocks is a number from 0 to 4294967295"),
         ("edition GCR3\n", "line 1, column 9: there is no edition GCR3; the nearest is GCR1"),
-        ("opening 32 0\n", "line 1, column 9: an object with an opening is a number from 0 to 31"),
+        ("opening 32 0\n", "line 1, column 9: only objects 0 to 31 have openings"),
         ("opening 5 -1\n", "line 1, column 11: an opening is a number from 0 to 4294967295"),
         ("opening 5 1\nopening 5 1\n", "line 2, column 9: object 5 has an opening already"),
     ] {
@@ -53,7 +53,7 @@ fn the_row_of_columns() {
     for (text, what) in [
         (
             all.to_string(),
-            "line 1, column 1: before the columns comes a row for the number of sites: sites and the number",
+            "line 1, column 1: the number of sites is missing: sites and the number stand in a row before the columns",
         ),
         (format!("sites 2\n{all} state"), "line 2, column 52: in text the column sees is the last"),
         (

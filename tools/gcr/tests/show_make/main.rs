@@ -3,6 +3,7 @@
 mod bad_text;
 mod by_hand;
 mod outputs;
+mod page;
 mod refused;
 mod round_trips;
 mod run;

@@ -1,0 +1,53 @@
+//! What header rows may say.
+
+use crate::text::{Bad, Word};
+
+#[derive(Clone, Copy, PartialEq, Eq)]
+pub enum Entry {
+    Edition,
+    Sites,
+    Clocks,
+    Opening,
+}
+
+impl Entry {
+    const ALL: [Entry; 4] = [Entry::Edition, Entry::Sites, Entry::Clocks, Entry::Opening];
+
+    /// The word that its row begins with.
+    pub fn name(self) -> &'static str {
+        match self {
+            Entry::Edition => "edition",
+            Entry::Sites => "sites",
+            Entry::Clocks => "clocks",
+            Entry::Opening => "opening",
+        }
+    }
+
+    pub fn names() -> impl Iterator<Item = &'static str> {
+        Entry::ALL.into_iter().map(Entry::name)
+    }
+
+    pub fn named(word: Word) -> Option<Entry> {
+        Entry::ALL.into_iter().find(|entry| word.is(entry.name()))
+    }
+
+    /// What comes after the name.
+    fn values(self) -> &'static [&'static str] {
+        match self {
+            Entry::Edition => &["edition"],
+            Entry::Sites => &["number of sites"],
+            Entry::Clocks => &["difference of clocks"],
+            Entry::Opening => &["object", "value"],
+        }
+    }
+
+    /// Whether these are as many as come after the name.
+    pub fn takes(self, name: Word, values: &[Word]) -> Result<(), Bad> {
+        let expected = self.values();
+        match (expected.get(values.len()), values.get(expected.len())) {
+            (Some(missing), _) => Err(name.bad(format!("after {} comes the {missing}", self.name()))),
+            (_, Some(more)) => Err(more.bad(format!("after {} this is too much", self.name()))),
+            _ => Ok(()),
+        }
+    }
+}
