@@ -30,7 +30,11 @@ static int host(int argc, char **argv, const char *name, int (*tell)(const uint8
         return LOST;
     }
     int status = tell(record, len);
-    return fflush(stdout) == 0 && !ferror(stdout) ? status : LOST;
+    if (fflush(stdout) != 0 || ferror(stdout)) {
+        fputs("the lines can't be written\n", stderr);
+        return LOST;
+    }
+    return status;
 }
 
 /* The line of what was refused, and its exit status. */
