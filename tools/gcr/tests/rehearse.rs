@@ -1,25 +1,21 @@
 //! `gcr rehearse` as people run it: on files and pipes, with good scripts and bad ones.
 
-mod running;
+mod support;
 
-use running::{gcr, gcr_in, Folder, Ran};
 use std::fs;
+use support::folder::Folder;
+use support::{bytes, gcr, piped, shell_in, to_closed_pipe, to_full_device, Ran};
 
 const PAGE: &str = include_str!("../../../docs/COMMAND.md");
 
-/// Where a script that ships, or its record, is.
-fn shipped(name: &str) -> String {
-    format!("{}/../../records/{name}", env!("CARGO_MANIFEST_DIR"))
-}
-
 /// A script on standard input.
 fn rehearsed(script: &str) -> Ran {
-    gcr(&["rehearse"], script.as_bytes())
+    piped(&["rehearse"], script.as_bytes())
 }
 
 /// The remarks beside the calls.
 fn told(ran: &Ran) -> Vec<&str> {
-    ran.out().lines().filter_map(|line| line.split_once("  # ")).map(|(_, told)| told).collect()
+    ran.text().lines().filter_map(|line| line.split_once("  # ")).map(|(_, told)| told).collect()
 }
 
 #[test]
@@ -35,8 +31,8 @@ get 1 5      # event 2, found 100
 get 1 6      # event 3, found none
 # 5 calls: 5 done, 0 refused; 4 events; 0 copies outstanding; a record of 1024 bytes
 ";
-    assert_eq!((ran.status, ran.out(), ran.err()), (0, due, ""));
-    assert_eq!(rehearsed(due).out(), due);
+    assert_eq!((ran.status, ran.text(), ran.err.as_str()), (0, due, ""));
+    assert_eq!(rehearsed(due).text(), due);
 }
 
 /// What the page shows under this name.
@@ -47,53 +43,50 @@ fn block(name: &str) -> &'static str {
 
 #[test]
 fn the_page_shows_what_is_written() {
-    let folder = Folder::new("page");
+    let folder = Folder::new();
     folder.file("day.txt", block("day.txt").as_bytes());
-    let ran = gcr_in(&folder, &["rehearse", "day.txt", "-o", "day.gcr"]);
-    assert_eq!((ran.status, ran.out(), ran.err()), (2, block("day.txt answered"), ""));
+    let ran = shell_in(folder.path(), "gcr rehearse day.txt -o day.gcr");
+    assert_eq!((ran.status, ran.text(), ran.err.as_str()), (2, block("day.txt answered"), ""));
     assert_eq!(folder.names(), ["day.gcr", "day.txt"]);
     for (right, wrong) in [("deliver", "delivr"), ("sites 2", "sites 9")] {
         folder.file("day.txt", block("day.txt").replacen(right, wrong, 1).as_bytes());
-        let ran = gcr_in(&folder, &["rehearse", "day.txt"]);
-        assert!(ran.status == 2 && PAGE.contains(&format!("\n    {}", ran.err())), "{}", ran.err());
+        let ran = shell_in(folder.path(), "gcr rehearse day.txt");
+        assert!(ran.status == 2 && PAGE.contains(&format!("\n    {}", ran.err)), "{}", ran.err);
     }
 }
 
 #[test]
 fn the_texts_that_ship_are_the_scripts_that_ship() {
     for name in ["listing", "closing", "opening"] {
-        let (text, script) = (shipped(&format!("{name}.script.txt")), shipped(&format!("{name}.script")));
-        let ran = gcr(&["rehearse", &text, "--bytes-to", "-"], b"");
-        assert_eq!((ran.status, ran.err()), (0, ""), "{name}");
-        assert_eq!(ran.out, fs::read(&script).unwrap(), "{name}");
-        let (of_text, of_bytes) = (gcr(&["rehearse", &text], b""), gcr(&["rehearse", "--bytes", &script], b""));
-        assert_eq!(of_text.out(), of_bytes.out(), "{name}");
+        let (text, script) = (format!("records/{name}.script.txt"), format!("records/{name}.script"));
+        assert_eq!(gcr(&["rehearse", &text, "--bytes-to", "-"]).done().out, bytes(&script), "{name}");
+        let (of_text, of_bytes) = (gcr(&["rehearse", &text]), gcr(&["rehearse", "--bytes", &script]));
+        assert_eq!(of_text.text(), of_bytes.text(), "{name}");
     }
 }
 
 #[test]
 fn the_records_are_those_that_ship() {
-    let folder = Folder::new("shipped");
+    let folder = Folder::new();
     for name in ["listing", "opening"] {
-        let due = fs::read(shipped(&format!("{name}.gcr"))).unwrap();
-        let (text, record) = (shipped(&format!("{name}.script.txt")), folder.path("out.gcr"));
-        let ran = gcr(&["rehearse", &text, "-o", &record], b"");
-        assert_eq!(ran.status, 0, "{name}: {}", ran.err());
+        let due = bytes(&format!("records/{name}.gcr"));
+        let (text, record) = (format!("records/{name}.script.txt"), folder.at("out.gcr"));
+        let ran = gcr(&["rehearse", &text, "-o", &record]).done();
         assert!(
-            ran.out().ends_with(&format!("a record of {} bytes, written to {record}\n", due.len())),
+            ran.text().ends_with(&format!("a record of {} bytes, written to {record}\n", due.len())),
             "{}",
-            ran.out()
+            ran.text()
         );
         assert_eq!(fs::read(&record).unwrap(), due, "{name}");
-        let bytes = fs::read(shipped(&format!("{name}.script"))).unwrap();
-        assert_eq!(gcr(&["rehearse", "--bytes", "-o", "-", "-"], &bytes).out, due, "{name}");
+        let script = bytes(&format!("records/{name}.script"));
+        assert_eq!(piped(&["rehearse", "--bytes", "-o", "-", "-"], &script).out, due, "{name}");
     }
     assert_eq!(folder.names(), ["out.gcr"]);
 }
 
 #[test]
 fn the_listings_answers_are_told() {
-    let ran = gcr(&["rehearse", &shipped("listing.script.txt")], b"");
+    let ran = gcr(&["rehearse", "records/listing.script.txt"]);
     let due = ["event 0", "event 1", "delivered", "event 2, found 200", "event 3, found 100", "delivered"];
     assert_eq!(told(&ran)[..6], due);
     assert_eq!(told(&ran)[6..], ["event 4, found 200"]);
@@ -101,11 +94,11 @@ fn the_listings_answers_are_told() {
 
 #[test]
 fn refused_calls_are_told_by_number_and_sentence_and_the_script_goes_on() {
-    let folder = Folder::new("refused");
-    let record = folder.path("day.gcr");
+    let folder = Folder::new();
+    let record = folder.at("day.gcr");
     let script = "sites 3\nput 0 5 1\ndeliver 0 1\nput 1 5 2\ncall 09 00 00 00 00 00 00 00\nget 3 5\nput 0 32 1\n\
                   deliver 2 0\ndeliver 0 1\ndeliver 1 2\nclose\n";
-    let ran = gcr(&["rehearse", "-o", &record], script.as_bytes());
+    let ran = piped(&["rehearse", "-o", &record], script.as_bytes());
     let due = [
         "refused 31: The call is not well formed.",
         "refused 32: The call's site is not below the number of sites.",
@@ -115,12 +108,12 @@ fn refused_calls_are_told_by_number_and_sentence_and_the_script_goes_on() {
         "refused 36: The site lacks a put that the delivered one needs.",
         "3 copies delivered",
     ];
-    assert_eq!((ran.status, ran.err()), (2, ""));
+    assert_eq!((ran.status, ran.err.as_str()), (2, ""));
     assert_eq!(told(&ran)[3..], due);
     let total = "# 10 calls: 4 done, 6 refused; 2 events; 0 copies outstanding; a record of 1024 bytes, written to ";
-    assert_eq!(ran.out().lines().last(), Some(format!("{total}{record}").as_str()));
+    assert_eq!(ran.text().lines().last(), Some(format!("{total}{record}").as_str()));
     let done = "sites 3\nput 0 5 1\ndeliver 0 1\nput 1 5 2\nclose\n";
-    assert_eq!(fs::read(&record).unwrap(), gcr(&["rehearse", "-o", "-"], done.as_bytes()).out);
+    assert_eq!(fs::read(&record).unwrap(), piped(&["rehearse", "-o", "-"], done.as_bytes()).out);
 }
 
 #[test]
@@ -132,16 +125,16 @@ fn the_257th_event_is_refused_by_34() {
         ["event 255, found none", "refused 34: The store has 256 events already.", "0 copies delivered"]
     );
     assert!(ran
-        .out()
+        .text()
         .contains("\n# 258 calls: 257 done, 1 refused; 256 events; 0 copies outstanding; a record of 19456 bytes\n"));
 }
 
 /// What is written then is what stood there before.
 fn refused_whole(words: &[&str], script: &[u8], due: &str) {
-    let folder = Folder::new("whole");
-    let (record, bytes) = (folder.file("day.gcr", b"as it was"), folder.path("day.script"));
-    let ran = gcr(&[&["rehearse", "-o", &record, "--bytes-to", &bytes], words].concat(), script);
-    assert_eq!((ran.status, ran.out(), ran.err()), (2, "", format!("gcr: {due}\n").as_str()));
+    let folder = Folder::new();
+    let (record, bytes) = (folder.file("day.gcr", b"as it was"), folder.at("day.script"));
+    let ran = piped(&[&["rehearse", "-o", &record, "--bytes-to", &bytes], words].concat(), script);
+    ran.ended(2, due);
     assert_eq!(fs::read(&record).unwrap(), b"as it was");
     assert_eq!(folder.names(), ["day.gcr"]);
 }
@@ -166,7 +159,7 @@ fn as_many_calls_as_there_may_be_are_done() {
     let ran = rehearsed(&format!("sites 8\n{}", "close\n".repeat(4_096)));
     assert_eq!((ran.status, told(&ran).len()), (0, 4_096));
     assert!(ran
-        .out()
+        .text()
         .ends_with("# 4096 calls: 4096 done, 0 refused; 0 events; 0 copies outstanding; a record of 512 bytes\n"));
 }
 
@@ -190,7 +183,7 @@ fn bad_text_is_refused_with_its_line_and_column() {
     );
     let long = vec![b'\n'; (1 << 22) + 1];
     refused_whole(&[], &long, "standard input: longer than 4194304 bytes, which no script has to be");
-    let folder = Folder::new("bad");
+    let folder = Folder::new();
     let script = folder.file("day.txt", b"sites 2\nopen 5 1\nopen 5 2\n");
     refused_whole(&[&script], b"", &format!("{script}: line 3, column 6: object 5 has an opening already"));
 }
@@ -198,27 +191,27 @@ fn bad_text_is_refused_with_its_line_and_column() {
 #[test]
 fn bytes_go_to_text_and_back() {
     let script = [&[2, 33, 0, 0, 0, 7][..], &[0; 127], &[1, 0, 5, 0, 0, 1, 0, 0], &[4, 0, 0, 1, 0, 0, 0, 0]].concat();
-    let ran = gcr(&["rehearse", "--bytes"], &script);
+    let ran = piped(&["rehearse", "--bytes"], &script);
     let due = "sites 2\nopen 0 7\nopen 5 0\n\nput 0 5 256                   # event 0\n\
                call 04 00 00 01 00 00 00 00  # refused 31: The call is not well formed.\n";
     assert_eq!(ran.status, 2);
-    assert!(ran.out().starts_with(due), "{}", ran.out());
-    let back = gcr(&["rehearse", "--bytes-to", "-"], &ran.out);
-    assert_eq!((back.status, back.err()), (2, "gcr: standard input: 1 of 2 calls refused\n"));
+    assert!(ran.text().starts_with(due), "{}", ran.text());
+    let back = piped(&["rehearse", "--bytes-to", "-"], &ran.out);
+    assert_eq!((back.status, back.err.as_str()), (2, "gcr: standard input: 1 of 2 calls refused\n"));
     assert_eq!(back.out, script);
 }
 
 #[test]
 fn the_record_and_the_bytes_go_to_their_files() {
-    let folder = Folder::new("files");
-    let (record, bytes) = (folder.path("day.gcr"), folder.path("day.script"));
+    let folder = Folder::new();
+    let (record, bytes) = (folder.at("day.gcr"), folder.at("day.script"));
     let script = b"sites 2\nput 1 5 200\n";
-    let ran = gcr(&["rehearse", "-o", &record, "--bytes-to", &bytes], script);
+    let ran = piped(&["rehearse", "-o", &record, "--bytes-to", &bytes], script);
     assert_eq!((ran.status, told(&ran)), (0, vec!["event 0"]));
-    assert!(ran.out().contains("; 1 event; 1 copy outstanding; "));
-    assert_eq!(gcr(&["rehearse", "-o", "-"], script).out, fs::read(&record).unwrap());
-    assert_eq!(gcr(&["rehearse", "--bytes", &bytes, "-o", "-"], b"").out, fs::read(&record).unwrap());
-    let one = gcr(&["rehearse", "-o", "-", "--bytes-to", &bytes], script);
+    assert!(ran.text().contains("; 1 event; 1 copy outstanding; "));
+    assert_eq!(piped(&["rehearse", "-o", "-"], script).out, fs::read(&record).unwrap());
+    assert_eq!(gcr(&["rehearse", "--bytes", &bytes, "-o", "-"]).out, fs::read(&record).unwrap());
+    let one = piped(&["rehearse", "-o", "-", "--bytes-to", &bytes], script);
     assert_eq!((one.status, one.out), (0, fs::read(&record).unwrap()));
 }
 
@@ -233,35 +226,33 @@ fn words_that_are_not_understood_end_with_4() {
         (&["one", "two"], "it takes one file"),
     ];
     for (words, due) in told {
-        let ran = gcr(&[&["rehearse"], words].concat(), b"sites 1\n");
-        let due = format!("gcr: {due} (gcr rehearse --help tells more)\n");
-        assert_eq!((ran.status, ran.out(), ran.err()), (4, "", due.as_str()));
+        let ran = piped(&[&["rehearse"], words].concat(), b"sites 1\n");
+        ran.ended(4, &format!("{due} (gcr rehearse --help tells more)"));
     }
 }
 
 #[test]
 fn the_help_tells_the_words_and_its_example_runs() {
-    let help = gcr(&["rehearse", "--help"], b"");
-    assert_eq!((help.status, help.err()), (0, ""));
+    let help = gcr(&["rehearse", "--help"]).done();
     for word in ["sites N", "open OBJECT VALUE", "put SITE OBJECT VALUE", "deliver EVENT SITE", "close", "--bytes-to"] {
-        assert!(help.out().contains(word), "{word}");
+        assert!(help.text().contains(word), "{word}");
     }
-    let example = help.out().lines().last().unwrap().split('\'').nth(1).unwrap().replace("\\n", "\n");
+    let example = help.text().lines().last().unwrap().split('\'').nth(1).unwrap().replace("\\n", "\n");
     assert_eq!(told(&rehearsed(&example)), ["event 0", "1 copy delivered", "event 1, found 100"]);
 }
 
 #[test]
 fn files_that_cannot_be_read_or_written_end_with_3() {
-    let folder = Folder::new("failing");
+    let folder = Folder::new();
     let script = folder.file("day.txt", b"sites 1\nclose\n");
-    let (missing, nowhere) = (folder.path("none.txt"), folder.path("none/day.gcr"));
+    let (missing, nowhere) = (folder.at("none.txt"), folder.at("none/day.gcr"));
     let failed = |words: &[&str], begins: &str| {
-        let ran = gcr(&[&["rehearse"], words].concat(), b"");
-        assert_eq!((ran.status, ran.out()), (3, ""), "{words:?}");
-        assert!(ran.err().starts_with(&format!("gcr: {begins}: ")), "{}", ran.err());
+        let ran = gcr(&[&["rehearse"], words].concat());
+        assert_eq!((ran.status, ran.text()), (3, ""), "{words:?}");
+        assert!(ran.err.starts_with(&format!("gcr: {begins}: ")), "{}", ran.err);
     };
     failed(&[&missing], &format!("cannot read {missing}"));
-    failed(&[&folder.path("")], &format!("cannot read {}", folder.path("")));
+    failed(&[&folder.at("")], &format!("cannot read {}", folder.at("")));
     failed(&[&script, "-o", &nowhere], &format!("cannot write {nowhere}"));
     failed(&[&script, "--bytes-to", &nowhere], &format!("cannot write {nowhere}"));
     failed(&[&script, "-o", "/dev/full"], "cannot write /dev/full");
@@ -270,13 +261,11 @@ fn files_that_cannot_be_read_or_written_end_with_3() {
 
 #[test]
 fn output_that_is_lost_ends_with_3() {
-    let script = shipped("listing.script.txt");
-    for words in [&["rehearse", &script][..], &["rehearse", &script, "-o", "-"], &["rehearse", "--help"]] {
-        let full = running::on_a_full_device(words);
-        assert_eq!(full.status, 3, "{words:?}");
-        assert!(full.err().starts_with("gcr: cannot write to standard output: "), "{}", full.err());
-        let closed = running::on_a_closed_pipe(words);
-        assert_eq!(closed.status, 3, "{words:?}");
-        assert!(closed.err().starts_with("gcr: cannot write to standard output: "), "{}", closed.err());
+    let script = "records/listing.script.txt";
+    for words in [&["rehearse", script][..], &["rehearse", script, "-o", "-"], &["rehearse", "--help"]] {
+        for ran in [to_full_device(words), to_closed_pipe(words)] {
+            assert_eq!(ran.status, 3, "{words:?}");
+            assert!(ran.err.starts_with("gcr: cannot write to standard output: "), "{}", ran.err);
+        }
     }
 }

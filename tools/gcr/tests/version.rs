@@ -1,13 +1,12 @@
 //! One version: that of the header, which the command tells and both packages have.
 
-use std::fs;
-use std::path::Path;
-use std::process::Command;
+mod support;
+
+use support::{bytes, gcr};
 
 /// What stands between these two in a file of the repository.
 fn between(file: &str, before: &str, after: &str) -> String {
-    let path = Path::new(env!("CARGO_MANIFEST_DIR")).join("../..").join(file);
-    let text = fs::read_to_string(&path).expect("a file of the repository");
+    let text = String::from_utf8(bytes(file)).expect("text");
     let (_, rest) = text.split_once(before).unwrap_or_else(|| panic!("{file} has no {before}"));
     let (version, _) = rest.split_once(after).expect("it ends");
     version.to_string()
@@ -19,9 +18,7 @@ fn header() -> String {
 
 #[test]
 fn the_command_tells_the_version_of_the_header() {
-    let told = Command::new(env!("CARGO_BIN_EXE_gcr")).arg("--version").output().expect("the command runs");
-    assert!(told.status.success());
-    assert_eq!(String::from_utf8(told.stdout).expect("text"), format!("gcr {}\n", header()));
+    assert_eq!(gcr(&["--version"]).done().text(), format!("gcr {}\n", header()));
 }
 
 #[test]

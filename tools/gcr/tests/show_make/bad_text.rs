@@ -1,13 +1,14 @@
 //! Text that says no record: each kind with its line and column.
 
-use crate::run::{gcr, gcr_of, Folder};
+use crate::support::folder::Folder;
+use crate::support::{bytes, gcr, piped};
 
 const HEAD: &str = "sites 2\nevent site kind object value state start return position sees\n";
 const FIRST: &str = "0 0 write 5 100 returned 0 1 0 -\n";
 
 #[track_caller]
 fn is_bad(words: &[&str], text: impl AsRef<[u8]>, what: &str) {
-    gcr_of(words, text.as_ref()).ended(2, &format!("standard input: {what}"));
+    piped(words, text.as_ref()).ended(2, &format!("standard input: {what}"));
 }
 
 #[track_caller]
@@ -17,7 +18,7 @@ fn row_is_bad(row: &str, what: &str) {
 
 #[test]
 fn the_file_is_named() {
-    let folder = Folder::new("bad");
+    let folder = Folder::new();
     let path = folder.file("bad.txt", "sites 2\n\nsite kind\n");
     gcr(&["make", &path]).ended(2, &format!("{path}: line 3, column 1: the column object is missing in this row"));
     let path = folder.file("bad.csv", "sites,2\n\n,,\nsite,kin\n");
@@ -117,8 +118,7 @@ fn cells_of_csv() {
 #[test]
 fn bytes_that_are_no_text() {
     is_bad(&["make"], b"sites 2\n\xc3\xa4\xff\n", "line 2, column 2: the byte ff is no text in UTF-8");
-    let record = std::fs::read(crate::run::shipped("clocks.gcr")).expect("it ships");
-    let ran = gcr_of(&["make"], &record);
+    let ran = piped(&["make"], &bytes("records/clocks.gcr"));
     assert_eq!((ran.status, ran.out.len()), (2, 0));
     assert!(ran.err.starts_with("gcr: standard input: line "), "{}", ran.err);
 }

@@ -1,6 +1,7 @@
 //! Records that people and spreadsheets write.
 
-use crate::run::{gcr, gcr_of, shipped, Folder};
+use crate::support::folder::Folder;
+use crate::support::{bytes, gcr, piped};
 use std::fs;
 
 const SHOWN: &str = "\
@@ -32,18 +33,18 @@ event,site,kind,object,value,state,start,return,position,sees
 
 /// The record that the texts above say.
 fn record() -> Vec<u8> {
-    gcr_of(&["make"], SHOWN.as_bytes()).done()
+    piped(&["make"], SHOWN.as_bytes()).done().out
 }
 
 fn makes_the_same(words: &[&str], text: &str) {
-    assert!(gcr_of(words, text.as_bytes()).done() == record(), "another record of\n{text}");
+    assert!(piped(words, text.as_bytes()).done().out == record(), "another record of\n{text}");
 }
 
 #[test]
 fn a_record_is_shown_as_text_and_as_csv() {
-    assert_eq!(gcr_of(&["show"], &record()).text(), SHOWN);
-    assert_eq!(gcr_of(&["show", "-"], &record()).text(), SHOWN);
-    assert_eq!(gcr_of(&["show", "--csv"], &record()).text(), SHOWN_IN_CSV);
+    assert_eq!(piped(&["show"], &record()).done().text(), SHOWN);
+    assert_eq!(piped(&["show", "-"], &record()).done().text(), SHOWN);
+    assert_eq!(piped(&["show", "--csv"], &record()).done().text(), SHOWN_IN_CSV);
     makes_the_same(&["make", "-"], SHOWN);
     makes_the_same(&["make", "--csv"], SHOWN_IN_CSV);
 }
@@ -56,24 +57,23 @@ event  site  kind   object  value  state     start  return  position  sees
 1      1     read   0       7      returned  2      3       1         0
 2      1     read   0       none   returned  4      5       2         1
 ";
-    assert_eq!(gcr(&["show", &shipped("stale-read.gcr")]).text(), text);
-    let bytes = fs::read(shipped("stale-read.gcr")).expect("it ships");
-    assert!(gcr_of(&["make"], text.as_bytes()).done() == bytes);
+    assert_eq!(gcr(&["show", "records/stale-read.gcr"]).done().text(), text);
+    assert!(piped(&["make"], text.as_bytes()).done().out == bytes("records/stale-read.gcr"));
 }
 
 #[test]
 fn files_are_read_and_written_by_their_names() {
-    let folder = Folder::new("names");
-    let (text, csv, record) = (folder.path("day.txt"), folder.path("day.CSV"), folder.path("day.gcr"));
-    let shipped = shipped("opening.gcr");
-    gcr(&["show", &shipped, "-o", &text]).done();
-    gcr(&["show", "-o", &csv, &shipped]).done();
-    assert_eq!(fs::read_to_string(&text).unwrap(), gcr(&["show", &shipped]).text());
-    assert_eq!(fs::read_to_string(&csv).unwrap(), gcr(&["show", "--csv", &shipped]).text());
+    let folder = Folder::new();
+    let (text, csv, record) = (folder.at("day.txt"), folder.at("day.CSV"), folder.at("day.gcr"));
+    let shipped = "records/opening.gcr";
+    gcr(&["show", shipped, "-o", &text]).done();
+    gcr(&["show", "-o", &csv, shipped]).done();
+    assert_eq!(fs::read_to_string(&text).unwrap(), gcr(&["show", shipped]).done().text());
+    assert_eq!(fs::read_to_string(&csv).unwrap(), gcr(&["show", "--csv", shipped]).done().text());
     for made in [&text, &csv] {
         gcr(&["make", made, "-o", &record]).done();
-        assert!(fs::read(&record).unwrap() == fs::read(&shipped).unwrap(), "{made}");
-        assert!(gcr(&["make", made]).done() == fs::read(&shipped).unwrap(), "{made}");
+        assert!(fs::read(&record).unwrap() == bytes(shipped), "{made}");
+        assert!(gcr(&["make", made]).done().out == bytes(shipped), "{made}");
     }
     assert_eq!(folder.names(), ["day.CSV", "day.gcr", "day.txt"]);
 }
@@ -107,14 +107,15 @@ sees,event,site,kind,object,value,state,start,return,position,,\r
 #[test]
 fn the_edition_is_the_second_where_none_is_said() {
     let text = "sites 3\nsite kind object value start return position sees\n";
-    let shown = gcr_of(&["show"], &gcr_of(&["make"], text.as_bytes()).done()).text();
-    assert_eq!(shown.lines().take(3).collect::<Vec<_>>(), ["edition GCR2", "sites 3", "clocks 0"]);
+    let shown = piped(&["show"], &piped(&["make"], text.as_bytes()).done().out).done();
+    assert_eq!(shown.lines()[..3], ["edition GCR2", "sites 3", "clocks 0"]);
 }
 
 #[test]
 fn help_has_an_example() {
     for name in ["show", "make"] {
-        let help = gcr(&[name, "--help"]).text();
+        let ran = gcr(&[name, "--help"]).done();
+        let help = ran.text();
         assert!(help.starts_with(&format!("gcr {name} ")) && help.contains("\nExample: gcr show "), "{help}");
         assert!(help.lines().count() < 16, "{help}");
     }
@@ -123,7 +124,7 @@ fn help_has_an_example() {
 #[test]
 fn words_that_are_not_understood_do_nothing() {
     let twice = gcr(&["make", "a", "b"]);
-    twice.ended(4, "make: it takes one file (gcr make --help tells more)");
+    twice.ended(4, "it takes one file (gcr make --help tells more)");
     let unknown = gcr(&["show", "--cvs", "a"]);
-    unknown.ended(4, "show: there is no option --cvs; the nearest is --csv (gcr show --help tells more)");
+    unknown.ended(4, "there is no option --cvs; the nearest is --csv (gcr show --help tells more)");
 }

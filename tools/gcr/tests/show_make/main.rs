@@ -6,4 +6,5 @@ mod outputs;
 mod page;
 mod refused;
 mod round_trips;
-mod run;
+#[path = "../support/mod.rs"]
+mod support;

@@ -1,6 +1,7 @@
 //! What docs/COMMAND.md shows of both commands is what they write.
 
-use crate::run::{gcr, shipped, Folder};
+use crate::support::folder::Folder;
+use crate::support::gcr;
 
 const PAGE: &str = include_str!("../../../../docs/COMMAND.md");
 
@@ -20,19 +21,20 @@ fn is_shown(text: &str) {
 
 #[test]
 fn records_as_text_and_csv() {
-    let record = shipped("never-returned.gcr");
-    is_shown(&gcr(&["show", &record]).text());
-    is_shown(&gcr(&["show", "--csv", &record]).text());
+    let record = "records/never-returned.gcr";
+    is_shown(gcr(&["show", record]).done().text());
+    is_shown(gcr(&["show", "--csv", record]).done().text());
 }
 
 #[test]
 fn a_log_and_what_is_wrong_with_others() {
-    let folder = Folder::new("page");
+    let folder = Folder::new();
     is_shown(LOG);
-    let made = folder.path("log.gcr");
+    let made = folder.at("log.gcr");
     gcr(&["make", &folder.file("log.csv", LOG), "-o", &made]).done();
-    let shown = gcr(&["show", &made]).text();
-    assert!(shown.lines().count() == 8 && shown.lines().last().is_some_and(|row| row.contains("pending")), "{shown}");
+    let shown = gcr(&["show", &made]).done();
+    let rows = shown.lines();
+    assert!(rows.len() == 8 && rows[7].contains("pending"), "{rows:?}");
     for wrong in [LOG.replace("read,5,100", "raed,5,100"), LOG.replace("3,1,0", "3,0,0")] {
         let path = folder.file("log.csv", wrong);
         let ran = gcr(&["make", &path]);

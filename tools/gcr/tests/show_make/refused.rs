@@ -1,6 +1,7 @@
 //! Texts that say what no record may: the proved reader's refusals, with the place in the text.
 
-use crate::run::{gcr, gcr_of, shipped, Folder};
+use crate::support::folder::Folder;
+use crate::support::{bytes, gcr, piped};
 use std::fs;
 
 const COLUMNS: &str = "site kind object value start return position sees\n";
@@ -16,7 +17,7 @@ const SEES: &str = "The event at this place sees itself, or an event that is not
 #[track_caller]
 fn is_refused(rows: &str, what: &str) {
     let text = format!("sites 2\n{COLUMNS}0 write 5 1 0 1 0 -\n# a remark\n{rows}");
-    gcr_of(&["make"], text.as_bytes()).ended(2, &format!("standard input: {what}"));
+    piped(&["make"], text.as_bytes()).ended(2, &format!("standard input: {what}"));
 }
 
 #[test]
@@ -45,7 +46,7 @@ fn visible_sets() {
 #[test]
 fn a_refused_event_of_csv_has_its_place_too() {
     let text = "sites,1\nsees,position,site,kind,object,value,start,return\n0,0,0,write,1,1,0,1\n";
-    gcr_of(&["make", "--csv"], text.as_bytes())
+    piped(&["make", "--csv"], text.as_bytes())
         .ended(2, &format!("standard input: line 3, column 1: refused 9 0: {SEES}"));
 }
 
@@ -64,8 +65,8 @@ fn heads_that_no_record_has() {
              {said}.)"
         )
     };
-    let made = |header: &str, count| gcr_of(&["make"], format!("{header}\n{}", events(count)).as_bytes());
-    assert_eq!(made("sites 8", 256).done().len(), 19_456);
+    let made = |header: &str, count| piped(&["make"], format!("{header}\n{}", events(count)).as_bytes());
+    assert_eq!(made("sites 8", 256).done().out.len(), 19_456);
     made("sites 1", 257).ended(2, &head("sites 1, events 257, edition GCR2"));
     made("sites 0", 0).ended(2, &head("sites 0, events 0, edition GCR2"));
     made("sites 9", 1).ended(2, &head("sites 9, events 1, edition GCR2"));
@@ -77,20 +78,20 @@ fn heads_that_no_record_has() {
 
 #[test]
 fn nothing_is_written_then() {
-    let folder = Folder::new("refused");
+    let folder = Folder::new();
     let text = folder.file("ring.txt", format!("sites 1\n{COLUMNS}0 write 5 1 0 1 0 1\n0 write 5 1 2 3 1 0\n"));
     let there = folder.file("there.gcr", "as it was");
     let ring = "line 3, column 19: refused 10 0: Visibility runs in a ring through the event at this place.";
     gcr(&["make", &text, "-o", &there]).ended(2, &format!("{text}: {ring}"));
-    gcr(&["make", &text, "-o", &folder.path("new.gcr")]).ended(2, &format!("{text}: {ring}"));
+    gcr(&["make", &text, "-o", &folder.at("new.gcr")]).ended(2, &format!("{text}: {ring}"));
     assert_eq!(fs::read_to_string(&there).unwrap(), "as it was");
     assert_eq!(folder.names(), ["ring.txt", "there.gcr"]);
 }
 
 #[test]
 fn a_record_that_is_refused_is_not_shown() {
-    let folder = Folder::new("damaged");
-    let mut bytes = fs::read(shipped("clocks.gcr")).expect("it ships");
+    let folder = Folder::new();
+    let mut bytes = bytes("records/clocks.gcr");
     bytes[600] ^= 1;
     let damaged = folder.file("damaged.gcr", &bytes);
     let there = folder.file("there.txt", "as it was");
@@ -99,6 +100,6 @@ fn a_record_that_is_refused_is_not_shown() {
     gcr(&["show", &damaged, "-o", &there]).ended(2, &format!("{damaged}: {what}"));
     assert_eq!(fs::read_to_string(&there).unwrap(), "as it was");
     let length = "refused 3 0: The record's length is not a multiple of 512 from 512 to 19,456 bytes.";
-    gcr_of(&["show"], &[]).ended(2, &format!("standard input: {length}"));
-    gcr_of(&["show"], &vec![0; 1_000_000]).ended(2, &format!("standard input: {length}"));
+    piped(&["show"], &[]).ended(2, &format!("standard input: {length}"));
+    piped(&["show"], &vec![0; 1_000_000]).ended(2, &format!("standard input: {length}"));
 }

@@ -1,25 +1,20 @@
 //! Records through the built command and back.
 
-use crate::run::{gcr, gcr_of, shipped};
+use crate::support::{gcr, piped, shipped};
 use second::generate;
-use std::fs;
 
 fn goes_and_comes(name: &str, bytes: &[u8]) {
     for form in [&[][..], &["--csv"]] {
-        let text = gcr_of(&[&["show"], form].concat(), bytes).text();
-        let made = gcr_of(&[&["make"], form].concat(), text.as_bytes()).done();
-        assert!(made == bytes, "{name}: the record is another after\n{text}");
+        let shown = piped(&[&["show"], form].concat(), bytes).done();
+        let made = piped(&[&["make"], form].concat(), &shown.out).done();
+        assert!(made.out == bytes, "{name}: the record is another after\n{}", shown.text());
     }
 }
 
 #[test]
 fn shipped_records() {
-    let names = fs::read_dir(shipped("")).expect("the folder").map(|file| file.expect("a file").file_name());
-    let records: Vec<String> =
-        names.map(|name| name.into_string().expect("text")).filter(|name| name.ends_with(".gcr")).collect();
-    assert!(records.len() >= 18, "{records:?}");
-    for name in records {
-        goes_and_comes(&name, &fs::read(shipped(&name)).expect("it ships"));
+    for (name, bytes) in shipped() {
+        goes_and_comes(&name, &bytes);
     }
 }
 
@@ -34,11 +29,12 @@ fn random_records() {
 
 #[test]
 fn what_is_changed_in_the_text_is_changed_in_the_record() {
-    let text = gcr(&["show", &shipped("stale-read.gcr")]).text();
+    let shown = gcr(&["show", "records/stale-read.gcr"]).done();
+    let text = shown.text();
     let judged = |text: &str| {
-        let record = gcr_of(&["make"], text.as_bytes()).done();
+        let record = piped(&["make"], text.as_bytes()).done().out;
         gcr::judge_predicate(gcr::Predicate::MonotonicReads, &record)
     };
-    assert_eq!(judged(&text), Ok(gcr::Verdict::Broken { a: 0, b: 2 }));
+    assert_eq!(judged(text), Ok(gcr::Verdict::Broken { a: 0, b: 2 }));
     assert_eq!(judged(&text.replace("2         1\n", "2         0..1\n")), Ok(gcr::Verdict::Met));
 }

@@ -22,11 +22,24 @@ impl Folder {
         &self.path
     }
 
+    /// Where a file of this name is, or would be.
+    pub fn at(&self, name: &str) -> String {
+        self.path.join(name).into_os_string().into_string().expect("a path of letters")
+    }
+
     /// A file of this name, written.
-    pub fn file(&self, name: &str, bytes: &[u8]) -> PathBuf {
-        let path = self.path.join(name);
+    pub fn file(&self, name: &str, bytes: impl AsRef<[u8]>) -> String {
+        let path = self.at(name);
         fs::write(&path, bytes).unwrap();
         path
+    }
+
+    /// All that is in it, by name.
+    pub fn names(&self) -> Vec<String> {
+        let names = fs::read_dir(&self.path).unwrap().map(|entry| entry.unwrap().file_name());
+        let mut names: Vec<String> = names.map(|name| name.into_string().expect("a name of letters")).collect();
+        names.sort();
+        names
     }
 }
 
