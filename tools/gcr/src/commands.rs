@@ -1,8 +1,7 @@
 //! The commands, in the order in which they are told.
 
 use crate::ending::{Ending, Failure};
-use crate::nearest::hint;
-use crate::printable::printable;
+use crate::unknown::unknown;
 use crate::words::{Opt, Words};
 use crate::{draw, explain, judge, make, rehearse, show};
 use std::ffi::OsStr;
@@ -23,10 +22,10 @@ pub const ALL: &[Command] =
 
 impl Command {
     pub fn named(word: &OsStr) -> Result<&'static Command, Failure> {
-        let word = printable(&word.to_string_lossy());
+        let word = word.to_string_lossy();
         let unknown = || {
-            let hint = hint(&word, ALL.iter().map(|command| command.name));
-            Failure::unclear(format!("there is no command {word}{hint} (gcr --help tells them all)"))
+            let unknown = unknown("command", &word, ALL.iter().map(|command| command.name));
+            Failure::unclear(format!("{unknown} (gcr --help tells them all)"))
         };
         ALL.iter().find(|command| command.name == word).ok_or_else(unknown)
     }

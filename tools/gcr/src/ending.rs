@@ -1,6 +1,6 @@
 //! How the command ends.
 
-use gcr::Refusal;
+use std::fmt::Display;
 use std::process::ExitCode;
 
 /// The exit status, the highest that applies.
@@ -44,9 +44,9 @@ impl Failure {
         Failure { ending: Ending::Failed, message: message.into() }
     }
 
-    /// A record or script of this name that the library refuses.
-    pub fn of_refusal(name: &str, refusal: Refusal) -> Failure {
-        Failure::refused(format!("{name}: {refusal}"))
+    /// A record, a script or text of this name, and why it is refused.
+    pub fn of_refusal(name: &str, why: impl Display) -> Failure {
+        Failure::refused(format!("{name}: {why}"))
     }
 
     /// On standard error. That this cannot be written cannot be told anywhere else.

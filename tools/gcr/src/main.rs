@@ -10,6 +10,7 @@ mod judge;
 mod make;
 mod named;
 mod nearest;
+mod openings;
 mod output;
 mod printable;
 mod rehearse;
@@ -17,6 +18,7 @@ mod show;
 mod source;
 mod table;
 mod text;
+mod unknown;
 mod words;
 
 use commands::Command;

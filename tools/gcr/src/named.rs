@@ -1,8 +1,7 @@
 //! Predicates and models by the words of a command line: their names or numbers.
 
 use crate::ending::Failure;
-use crate::nearest::hint;
-use crate::printable::printable;
+use crate::unknown::unknown;
 use crate::words::Words;
 use gcr::{Model, Predicate};
 use std::ffi::{OsStr, OsString};
@@ -27,10 +26,7 @@ fn all<T: FromStr + Copy + 'static>(
 ) -> Result<Vec<T>, Failure> {
     let one = |word: &OsStr| {
         let word = word.to_string_lossy();
-        let unknown = |_| {
-            let hint = hint(&word, right.iter().map(|&each| name(each)));
-            words.unclear(&format!("there is no {kind} {}{hint}", printable(&word)))
-        };
+        let unknown = |_| words.unclear(&unknown(kind, &word, right.iter().map(|&each| name(each))));
         word.parse::<T>().map_err(unknown)
     };
     words.all(option).into_iter().flatten().map(OsString::as_os_str).map(one).collect()

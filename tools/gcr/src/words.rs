@@ -2,8 +2,8 @@
 
 use crate::commands::Command;
 use crate::ending::Failure;
-use crate::nearest::hint;
 use crate::source::Source;
+use crate::unknown::unknown;
 use std::ffi::{OsStr, OsString};
 use std::io::{self, IsTerminal};
 
@@ -59,8 +59,7 @@ impl Words {
         };
         let options = || self.command.options.iter().chain([&HELP]);
         let Some(option) = options().find(|option| option.name == name) else {
-            let hint = hint(name, options().map(|option| option.name));
-            return Err(self.unclear(&format!("there is no option {name}{hint}")));
+            return Err(self.unclear(&unknown("option", name, options().map(|option| option.name))));
         };
         let mut values: Vec<OsString> = joined.into_iter().collect();
         values.extend(rest.take(option.values.saturating_sub(values.len())).cloned());

@@ -174,15 +174,15 @@ fn bad_text_is_refused_with_its_line_and_column() {
     refused_whole(
         &[],
         b"sites 2\n  clsoe\n",
-        "standard input: line 2, column 3: no line begins with clsoe; the nearest is close",
+        "standard input: line 2, column 3: there is no word clsoe; the nearest is close",
     );
     refused_whole(
         &[],
         b"sites 2\n# \xff\n",
         "standard input: line 2, column 3: the byte ff is no text in UTF-8 (--bytes reads the paper's form)",
     );
-    let long = vec![b'\n'; (1 << 22) + 1];
-    refused_whole(&[], &long, "standard input: longer than 4194304 bytes, which no script has to be");
+    refused_whole(&[], &vec![b'\n'; 4_000_001], "standard input: the text is longer than 4,000,000 bytes");
+    refused_whole(&[], &vec![b'\n'; 4_000_000], "standard input: line 4000001, column 1: sites N is missing");
     let folder = Folder::new();
     let script = folder.file("day.txt", b"sites 2\nopen 5 1\nopen 5 2\n");
     refused_whole(&[&script], b"", &format!("{script}: line 3, column 6: object 5 has an opening already"));

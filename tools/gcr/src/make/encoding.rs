@@ -1,18 +1,10 @@
 //! The record's bytes, or why there are none.
 
 use crate::table::{Form, Table};
-use crate::text::letters;
 use gcr::{Record, Refusal};
 
-/// More than any record's text needs: the longest that `gcr show` writes is below 200 KB.
-pub const TEXT_MOST: usize = 4_000_000;
-
 /// What the text says, encoded, if the proved reader passes it; else what is wrong, and where.
-pub fn encoded(form: Form, text: &[u8]) -> Result<Vec<u8>, String> {
-    if text.len() > TEXT_MOST {
-        return Err("the text is longer than 4,000,000 bytes".to_string());
-    }
-    let text = letters(text).map_err(|bad| bad.to_string())?;
+pub fn encoded(form: Form, text: &str) -> Result<Vec<u8>, String> {
     let table = Table::read(form, text).map_err(|bad| bad.to_string())?;
     table.record.encode().map_err(|refusal| refused(&table, refusal))
 }

@@ -8,8 +8,8 @@ use crate::commands::Command;
 use crate::ending::{Ending, Failure};
 use crate::output;
 use crate::table::Form;
+use crate::text;
 use crate::words::{Opt, Words};
-use encoding::TEXT_MOST;
 use std::ffi::OsStr;
 use std::io::{self, IsTerminal};
 
@@ -40,8 +40,8 @@ fn run(words: &Words) -> Result<Ending, Failure> {
         );
     }
     let form = Form::of(words.has("--csv"), source.path().map(|path| path.as_os_str()));
-    let bytes = source.bytes(TEXT_MOST + 1)?;
-    let record = encoded(form, &bytes).map_err(|what| Failure::refused(format!("{}: {what}", source.name())))?;
+    let text = text::read(&source, "")?;
+    let record = encoded(form, &text).map_err(|what| Failure::of_refusal(&source.name(), what))?;
     output::saved(to.unwrap_or(OsStr::new("-")), &record)?;
     Ok(Ending::Well)
 }

@@ -14,7 +14,7 @@ use crate::commands::Command;
 use crate::ending::{Ending, Failure};
 use crate::output;
 use crate::source::Source;
-use crate::text::letters;
+use crate::text;
 use crate::words::{Opt, Words};
 use files::Files;
 use rehearsal::Rehearsal;
@@ -56,9 +56,6 @@ Example:
   printf 'sites 2\\nput 0 5 100\\nclose\\nget 1 5\\n' | gcr rehearse -o day.gcr
 ";
 
-/// The bytes of the longest text that is read. One of 4,096 calls with their answers has less than 500,000.
-const TEXT_MOST: usize = 1 << 22;
-
 fn run(words: &Words) -> Result<Ending, Failure> {
     let files = Files::named(words)?;
     let source = words.file()?;
@@ -66,7 +63,7 @@ fn run(words: &Words) -> Result<Ending, Failure> {
         true => bytes::read(&source.bytes(bytes::MOST + 1)?),
         false => of_text(&source)?,
     };
-    let refused = |refusal| Failure::refused(format!("{}: {}", source.name(), writing::refused(refusal)));
+    let refused = |refusal| Failure::of_refusal(&source.name(), writing::refused(refusal));
     let rehearsal = Rehearsal::of(&script).map_err(refused)?;
     files.save(&script, &rehearsal)?;
     match files.is_standard_output_taken() {
@@ -80,13 +77,8 @@ fn run(words: &Words) -> Result<Ending, Failure> {
 }
 
 fn of_text(source: &Source) -> Result<Script, Failure> {
-    let refused = |what: String| Failure::refused(format!("{}: {what}", source.name()));
-    let bytes = source.bytes(TEXT_MOST + 1)?;
-    if bytes.len() > TEXT_MOST {
-        return Err(refused(format!("longer than {TEXT_MOST} bytes, which no script has to be")));
-    }
-    let text = letters(&bytes).map_err(|bad| refused(format!("{bad} ({BYTES} reads the paper's form)")))?;
-    reading::read(text).map_err(|bad| refused(bad.to_string()))
+    let text = text::read(source, &format!(" ({BYTES} reads the paper's form)"))?;
+    reading::read(&text).map_err(|bad| Failure::of_refusal(&source.name(), bad))
 }
 
 /// Where no line tells of refused calls, a message does.
@@ -94,6 +86,6 @@ fn ended(source: &Source, rehearsal: &Rehearsal) -> Result<Ending, Failure> {
     let (refused, calls) = (rehearsal.refused(), rehearsal.answers.len());
     match refused {
         0 => Ok(Ending::Well),
-        _ => Err(Failure::refused(format!("{}: {refused} of {calls} calls refused", source.name()))),
+        _ => Err(Failure::of_refusal(&source.name(), format!("{refused} of {calls} calls refused"))),
     }
 }

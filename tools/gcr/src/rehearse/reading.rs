@@ -2,20 +2,13 @@
 
 use super::calls::{read_raw, Form, FORMS, RAW, RAW_NAMES};
 use super::script::{Script, CALL};
-use crate::nearest::hint;
-use crate::printable::printable;
+use crate::openings;
 use crate::text::{after, words, Bad, Word};
 use gcr::Openings;
 
 /// The words that a line begins with beside those of calls.
 const SITES: &str = "sites";
 const OPEN: &str = "open";
-
-/// The highest object that may have an opening.
-const OPENED_MOST: u64 = 31;
-
-/// The letters of an unknown word that are shown.
-const SHOWN: usize = 24;
 
 pub fn read(text: &str) -> Result<Script, Bad> {
     let mut reader = Reader { sites: None, openings: Openings::none(), calls: Vec::new() };
@@ -41,7 +34,7 @@ impl Reader {
             OPEN => self.opening(first, taken(first, rest, &["OBJECT", "VALUE"])?),
             RAW => self.call(first, read_raw(taken(first, rest, &RAW_NAMES)?)?),
             word => {
-                let form = Form::named(word).ok_or_else(|| unknown(first))?;
+                let form = Form::named(word).ok_or_else(|| first.unknown("word", right()))?;
                 self.call(first, form.read(taken(first, rest, &form.names())?)?)
             }
         }
@@ -59,12 +52,7 @@ impl Reader {
         if !self.calls.is_empty() {
             return Err(first.bad("openings come before the first call"));
         }
-        let object = words[0].number("the object of an opening", OPENED_MOST)? as u8;
-        let value = words[1].number("a value", u32::MAX.into())? as u32;
-        if self.openings.get(object).is_some() {
-            return Err(words[0].bad(format!("object {object} has an opening already")));
-        }
-        self.openings = self.openings.with(object, value).expect("objects 0 to 31 may have one");
+        self.openings = openings::opened(self.openings, words[0], words[1])?;
         Ok(())
     }
 
@@ -91,11 +79,7 @@ fn taken<'a, 't>(first: &Word, rest: &'a [Word<'t>], names: &[&str]) -> Result<&
     }
 }
 
-fn unknown(word: &Word) -> Bad {
-    let mut shown: String = printable(word.text).chars().take(SHOWN).collect();
-    let hint = hint(&shown, [SITES, OPEN, RAW].into_iter().chain(FORMS.iter().map(|form| form.word)));
-    if word.text.chars().nth(SHOWN).is_some() {
-        shown.push('…');
-    }
-    word.bad(format!("no line begins with {shown}{hint}"))
+/// The words that lines begin with.
+fn right() -> impl Iterator<Item = &'static str> {
+    [SITES, OPEN, RAW].into_iter().chain(FORMS.iter().map(|form| form.word))
 }

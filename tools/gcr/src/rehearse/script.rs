@@ -1,5 +1,6 @@
 //! What a script says: the sites, the openings and the calls.
 
+use crate::openings;
 use gcr::{Openings, OPENINGS_BYTES};
 
 /// The bytes of a call.
@@ -16,8 +17,6 @@ pub struct Script {
 impl Script {
     /// The objects that have an opening, each with it; of openings that are refused there are none to tell.
     pub fn opened(&self) -> Vec<(u8, u32)> {
-        let openings = Openings::from_bytes(&self.openings).unwrap_or_default();
-        let opening = |object| openings.get(object).map(|value| (object, value));
-        (0..=u8::MAX).filter_map(opening).collect()
+        openings::all(&Openings::from_bytes(&self.openings).unwrap_or_default()).collect()
     }
 }

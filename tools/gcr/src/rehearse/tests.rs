@@ -171,8 +171,8 @@ fn bad_text_is_told_with_its_line_and_column() {
         ("sites 2 3", "line 1, column 9: nothing comes after sites N"),
         ("sites two", "line 1, column 7: the number of sites is a number from 0 to 255"),
         ("sites 256", "line 1, column 7: the number of sites is a number from 0 to 255"),
-        ("sites 2\nopen 32 1", "line 2, column 6: the object of an opening is a number from 0 to 31"),
-        ("sites 2\nopen 5 4294967296", "line 2, column 8: a value is a number from 0 to 4294967295"),
+        ("sites 2\nopen 32 1", "line 2, column 6: only objects 0 to 31 have openings"),
+        ("sites 2\nopen 5 4294967296", "line 2, column 8: an opening is a number from 0 to 4294967295"),
         ("open 5 1\nopen 05 1", "line 2, column 6: object 5 has an opening already"),
         ("sites 2\nclose\nopen 5 1", "line 3, column 1: openings come before the first call"),
         ("sites 2\nput 0 5 # 1", "line 2, column 8: VALUE is missing: put SITE OBJECT VALUE"),
@@ -185,10 +185,10 @@ fn bad_text_is_told_with_its_line_and_column() {
         ("sites 2\ncall 09 00", "line 2, column 11: B2 is missing: call B0 B1 B2 B3 B4 B5 B6 B7"),
         ("sites 2\ncall 9 00 00 00 00 00 00 00", "line 2, column 6: a byte is two hexadecimal digits, 00 to ff"),
         ("sites 2\ncall 00 +1 00 00 00 00 00 00", "line 2, column 9: a byte is two hexadecimal digits, 00 to ff"),
-        ("site 2", "line 1, column 1: no line begins with site; the nearest is sites"),
-        ("sites 2\n\tdelivr 0 1", "line 2, column 2: no line begins with delivr; the nearest is deliver"),
-        ("sites 2\nPut 0 5 1", "line 2, column 1: no line begins with Put; the nearest is put"),
-        ("sites 2\r\nä\u{202e} 0", "line 2, column 1: no line begins with ä\u{fffd}"),
+        ("site 2", "line 1, column 1: there is no word site; the nearest is sites"),
+        ("sites 2\n\tdelivr 0 1", "line 2, column 2: there is no word delivr; the nearest is deliver"),
+        ("sites 2\nPut 0 5 1", "line 2, column 1: there is no word Put; the nearest is put"),
+        ("sites 2\r\nä\u{202e} 0", "line 2, column 1: there is no word ä\u{fffd}"),
     ];
     for (text, due) in told {
         assert_eq!(bad(text), due, "{text}");
@@ -197,7 +197,7 @@ fn bad_text_is_told_with_its_line_and_column() {
 
 #[test]
 fn a_long_unknown_word_is_shown_by_its_start() {
-    let due = format!("line 1, column 1: no line begins with {}…", "x".repeat(24));
+    let due = format!("line 1, column 1: there is no word {}…", "x".repeat(32));
     assert_eq!(bad(&"x".repeat(1_000_000)), due);
 }
 

@@ -2,6 +2,7 @@
 
 use super::entries::Entry;
 use super::rows::Row;
+use crate::openings;
 use crate::text::{Bad, Word};
 use gcr::{Edition, Openings, Record};
 use std::str::FromStr;
@@ -24,18 +25,11 @@ impl Header {
             Entry::Edition => once(&mut self.edition, name, edition(values[0])?),
             Entry::Sites => once(&mut self.sites, name, sites(values[0])?),
             Entry::Clocks => once(&mut self.clocks, name, difference(values[0])?),
-            Entry::Opening => self.open(values[0], values[1]),
+            Entry::Opening => {
+                self.openings = openings::opened(self.openings, values[0], values[1])?;
+                Ok(())
+            }
         }
-    }
-
-    fn open(&mut self, object: Word, value: Word) -> Result<(), Bad> {
-        let number = object.number("an object", u8::MAX.into())? as u8;
-        if self.openings.get(number).is_some() {
-            return Err(object.bad(format!("object {number} has an opening already")));
-        }
-        let opened = self.openings.with(number, value.number("an opening", u32::MAX.into())? as u32);
-        self.openings = opened.ok_or_else(|| object.bad("only objects 0 to 31 have openings"))?;
-        Ok(())
     }
 
     /// A record without events yet. How many sites there are cannot be told by those that did something.
@@ -80,7 +74,7 @@ pub fn rows(record: &Record) -> Vec<Vec<String>> {
     if record.edition != Edition::Gcr1 {
         rows.push(row(Entry::Clocks, &[record.difference]));
     }
-    let openings = (0..=u8::MAX).filter_map(|object| record.openings.get(object).map(|value| (object, value)));
-    rows.extend(openings.map(|(object, value)| row(Entry::Opening, &[object.into(), value])));
+    let opening = |(object, value): (u8, u32)| row(Entry::Opening, &[object.into(), value]);
+    rows.extend(openings::all(&record.openings).map(opening));
     rows
 }

@@ -13,7 +13,7 @@ fn record(bytes: &[u8]) -> Record {
 /// The text makes the same bytes, and these the same text.
 fn goes_and_comes(form: Form, (name, bytes): &Named) {
     let text = written(form, &record(bytes));
-    let made = encoded(form, text.as_bytes()).unwrap_or_else(|what| panic!("{name}: {what} in\n{text}"));
+    let made = encoded(form, &text).unwrap_or_else(|what| panic!("{name}: {what} in\n{text}"));
     assert!(made == *bytes, "{name}: the record is another after\n{text}");
     assert_eq!(written(form, &record(&made)), text, "{name}");
 }

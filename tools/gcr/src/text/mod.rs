@@ -2,8 +2,10 @@
 
 mod letters;
 mod parts;
+mod reading;
 mod unknown;
 mod word;
 
 pub use letters::{after, letters};
+pub use reading::read;
 pub use word::{before_remark, words, Bad, Word};
