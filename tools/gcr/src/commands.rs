@@ -21,10 +21,12 @@ pub const ALL: &[Command] =
     &[judge::COMMAND, show::COMMAND, make::COMMAND, explain::COMMAND, rehearse::COMMAND, draw::COMMAND];
 
 impl Command {
-    pub fn named(word: &OsStr) -> Result<&'static Command, Failure> {
+    /// Beside the commands these words would be right.
+    pub fn named(word: &OsStr, others: &[&str]) -> Result<&'static Command, Failure> {
         let word = word.to_string_lossy();
         let unknown = || {
-            let unknown = unknown("command", &word, ALL.iter().map(|command| command.name));
+            let right = ALL.iter().map(|command| command.name).chain(others.iter().copied());
+            let unknown = unknown("command", &word, right);
             Failure::unclear(format!("{unknown} (gcr --help tells them all)"))
         };
         ALL.iter().find(|command| command.name == word).ok_or_else(unknown)

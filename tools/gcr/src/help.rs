@@ -23,11 +23,14 @@ pub fn of(command: &Command) -> String {
     format!("{}\n", command.help.trim())
 }
 
+/// What may stand in a command's place.
+pub const WORDS: &[&str] = &["help", "--help", "--version"];
+
 /// `gcr help` and `gcr help judge`.
 pub fn asked(words: &[OsString]) -> Result<Ending, Failure> {
     match words {
         [] => written(&overview()),
-        [word, ..] => written(&of(Command::named(word)?)),
+        [word, ..] => written(&of(Command::named(word, &[])?)),
     }
 }
 
@@ -37,4 +40,20 @@ pub fn version() -> String {
 
 pub fn written(text: &str) -> Result<Ending, Failure> {
     output::written(text.as_bytes()).map(|()| Ending::Well)
+}
+
+#[cfg(test)]
+mod tests {
+    use super::*;
+
+    #[test]
+    fn the_help_of_a_command_names_all_its_options() {
+        for command in ALL {
+            let words: Vec<&str> =
+                command.help.split(|letter: char| letter != '-' && !letter.is_alphanumeric()).collect();
+            for option in command.options {
+                assert!(words.contains(&option.name), "{} {}", command.name, option.name);
+            }
+        }
+    }
 }

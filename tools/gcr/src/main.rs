@@ -43,7 +43,7 @@ fn run(words: &[OsString]) -> Result<Ending, Failure> {
         Some("help") => help::asked(rest),
         Some("--version" | "-V") => help::written(&help::version()),
         _ => {
-            let command = Command::named(first)?;
+            let command = Command::named(first, help::WORDS)?;
             let words = words::Words::read(command, rest)?;
             match words.has("--help") {
                 true => help::written(&help::of(command)),

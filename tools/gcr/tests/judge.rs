@@ -14,6 +14,15 @@ fn random(count: u64) -> Vec<Vec<u8>> {
     (0..count).map(|seed| second::generate::record(seed).bytes).collect()
 }
 
+/// With files in the order of these records.
+fn folder_of(records: &[Vec<u8>]) -> Folder {
+    let folder = Folder::new();
+    for (number, bytes) in records.iter().enumerate() {
+        folder.file(&format!("{number:04}.gcr"), bytes);
+    }
+    folder
+}
+
 /// `0 and 2`, or one event's number.
 fn pair(a: u16, b: u16) -> String {
     if a == b {
@@ -106,11 +115,8 @@ fn a_refusal_has_its_sentence_and_a_missing_file_its_reason() {
 
 #[test]
 fn every_line_is_what_the_library_finds() {
-    let folder = Folder::new();
     let records = random(400);
-    for (number, bytes) in records.iter().enumerate() {
-        folder.file(&format!("{number:04}.gcr"), bytes);
-    }
+    let folder = folder_of(&records);
     for &model in Model::ALL {
         let words = ["judge".as_ref(), "--model".as_ref(), model.name().as_ref(), folder.path().as_os_str()];
         let ran = gcr(&words);
@@ -181,11 +187,8 @@ fn is_verdict(told: &Json, verdict: Verdict, predicate: Predicate) {
 
 #[test]
 fn json_is_an_object_for_each_record() {
-    let folder = Folder::new();
     let records = random(300);
-    for (number, bytes) in records.iter().enumerate() {
-        folder.file(&format!("{number:04}.gcr"), bytes);
-    }
+    let folder = folder_of(&records);
     let ran = gcr(&["judge".as_ref(), "--json".as_ref(), "--all".as_ref(), folder.path().as_os_str()]);
     assert_eq!(ran.lines().len(), records.len());
     for (line, bytes) in ran.lines().iter().zip(&records) {

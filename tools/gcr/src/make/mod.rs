@@ -19,7 +19,7 @@ pub const COMMAND: Command =
 const OPTIONS: &[Opt] = &[Opt::with("-o", 1), Opt::flag("--csv")];
 
 const HELP: &str = "
-gcr make [FILE] [-o OUT] [--csv]: makes a record of text, as gcr show writes it, if the proved reader passes it
+gcr make [FILE] [-o OUT] [--csv]: makes a record of text as gcr show writes it, if the proved reader passes it
 
   FILE    the text; standard input where there is none, or where it is -
   -o OUT  writes the record to this file; else it goes to standard output

@@ -1,0 +1,119 @@
+//! What the command tells of itself, and of words that it does not know.
+
+mod support;
+
+use std::os::unix::fs::symlink;
+use support::folder::Folder;
+use support::{gcr, root, shell_in};
+
+/// The letters of the longest line.
+const WIDTH: usize = 112;
+
+/// The commands that `gcr --help` names, each with its help.
+fn helps() -> Vec<(String, String)> {
+    let overview = gcr(&["--help"]).done();
+    let lines = overview.lines().into_iter().filter_map(|line| line.strip_prefix("  "));
+    let names: Vec<&str> = lines.filter_map(|line| line.split(' ').next()).collect();
+    assert_eq!(names, ["judge", "show", "make", "explain", "rehearse", "draw"]);
+    let help = |name: &str| (name.to_string(), gcr(&[name, "--help"]).done().text().to_string());
+    names.into_iter().map(help).filter(|(_, help)| !help.trim().is_empty()).collect()
+}
+
+/// The options that a text names.
+fn options(help: &str) -> Vec<&str> {
+    let words = help.split(|letter: char| letter != '-' && !letter.is_alphanumeric());
+    let mut options: Vec<&str> = words.filter(|word| word.starts_with('-') && *word != "-").collect();
+    options.sort();
+    options.dedup();
+    options
+}
+
+/// The lines that show how a command is run.
+fn examples<'a>(name: &str, help: &'a str) -> Vec<&'a str> {
+    let shown = help.lines().filter_map(|line| line.strip_prefix("Example: ").or(line.strip_prefix("  ")));
+    shown.filter(|line| line.contains(&format!("gcr {name} "))).collect()
+}
+
+#[test]
+fn help_is_asked_for_in_three_ways_and_is_short() {
+    for (name, help) in helps() {
+        for words in [["help", &name], [&name, "-h"]] {
+            assert_eq!(gcr(&words).done().text(), help);
+        }
+        assert!(help.starts_with(&format!("gcr {name} ")), "{help}");
+        assert!(help.lines().count() <= 30, "{help}");
+        let long = help.lines().find(|line| line.chars().count() > WIDTH);
+        assert_eq!(long, None, "{name}");
+    }
+}
+
+/// After `--help` words are understood, and nothing is done.
+#[test]
+fn options_that_a_help_names_are_there() {
+    for (name, help) in helps() {
+        assert!(!options(&help).is_empty(), "{help}");
+        for option in options(&help) {
+            let ran = gcr(&[&name, "--help", option]);
+            let needs_words = ran.err.starts_with(&format!("gcr: {option} takes "));
+            assert!(needs_words || ran.status == 0, "{name} {option}: {}", ran.err);
+            assert_eq!(ran.text(), if needs_words { "" } else { &help });
+        }
+    }
+}
+
+#[test]
+fn every_help_has_an_example_and_it_runs() {
+    for (name, help) in helps() {
+        let folder = Folder::new();
+        symlink(root().join("records").canonicalize().unwrap(), folder.path().join("records")).unwrap();
+        assert!(!examples(&name, &help).is_empty(), "{help}");
+        for line in examples(&name, &help) {
+            let ran = shell_in(folder.path(), line);
+            assert!(ran.status <= 1 && ran.err.is_empty(), "{line}: {} {}", ran.status, ran.err);
+            assert!(!ran.out.is_empty() || folder.names().len() > 1, "{line} writes nothing");
+        }
+    }
+}
+
+/// A word without its last letter.
+fn cut(word: &str) -> &str {
+    &word[..word.len() - 1]
+}
+
+#[test]
+fn wrong_commands_get_the_nearest_right_one() {
+    let told = |word: &str, right: &str| {
+        format!("there is no command {word}; the nearest is {right} (gcr --help tells them all)")
+    };
+    for (name, _) in helps() {
+        let wrong = cut(&name);
+        gcr(&[wrong]).ended(4, &told(wrong, &name));
+        gcr(&["help", wrong]).ended(4, &told(wrong, &name));
+    }
+    for (wrong, right) in [("hlep", "help"), ("--hepl", "--help"), ("--verison", "--version")] {
+        gcr(&[wrong]).ended(4, &told(wrong, right));
+    }
+    gcr(&["\u{1b}[2J"]).ended(4, "there is no command \u{fffd}[2J (gcr --help tells them all)");
+}
+
+#[test]
+fn wrong_options_get_the_nearest_right_one() {
+    for (name, help) in helps() {
+        let more = format!("(gcr {name} --help tells more)");
+        for option in options(&help).into_iter().filter(|option| option.len() > 2).chain(["--help"]) {
+            let wrong = cut(option);
+            gcr(&[&name, wrong]).ended(4, &format!("there is no option {wrong}; the nearest is {option} {more}"));
+        }
+        gcr(&[&name, "--\u{1b}[2J"]).ended(4, &format!("there is no option --\u{fffd}[2J {more}"));
+    }
+}
+
+#[test]
+fn without_words_it_tells_its_commands_on_standard_error() {
+    let overview = gcr(&["--help"]).done();
+    let none: [&str; 0] = [];
+    gcr(&none).ended(4, &format!("name a command\n\n{}", overview.text()));
+    for word in ["-h", "help"] {
+        assert_eq!(gcr(&[word]).done(), overview);
+    }
+}
