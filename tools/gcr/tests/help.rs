@@ -2,9 +2,8 @@
 
 mod support;
 
-use std::os::unix::fs::symlink;
 use support::folder::Folder;
-use support::{gcr, root, shell_in};
+use support::{gcr, shell_in};
 
 /// The letters of the longest line.
 const WIDTH: usize = 112;
@@ -64,8 +63,7 @@ fn options_that_a_help_names_are_there() {
 #[test]
 fn every_help_has_an_example_and_it_runs() {
     for (name, help) in helps() {
-        let folder = Folder::new();
-        symlink(root().join("records").canonicalize().unwrap(), folder.path().join("records")).unwrap();
+        let folder = Folder::with(&["records"]);
         assert!(!examples(&name, &help).is_empty(), "{help}");
         for line in examples(&name, &help) {
             let ran = shell_in(folder.path(), line);

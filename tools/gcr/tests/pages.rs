@@ -4,7 +4,6 @@
 mod support;
 
 use std::fs;
-use std::os::unix::fs::symlink;
 use std::path::Path;
 use support::folder::Folder;
 use support::{root, shell_in};
@@ -51,10 +50,7 @@ fn holds(page: &str) {
     let text = fs::read_to_string(root().join(page)).unwrap();
     let commands = shown(&text);
     assert!(!commands.is_empty(), "{page} shows no command");
-    let folder = Folder::new();
-    for name in ["records", "README.md"] {
-        symlink(root().join(name).canonicalize().unwrap(), folder.path().join(name)).unwrap();
-    }
+    let folder = Folder::with(&["records", "README.md"]);
     for (shown, output) in commands.iter().zip(run(&commands, folder.path())) {
         assert_eq!(output, shown.output, "{page}: {}", shown.command);
     }

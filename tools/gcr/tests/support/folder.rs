@@ -1,6 +1,8 @@
 //! A folder of its own for a test, gone when it ends.
 
+use super::root;
 use std::fs;
+use std::os::unix::fs::symlink;
 use std::path::{Path, PathBuf};
 use std::sync::atomic::{AtomicUsize, Ordering};
 
@@ -16,6 +18,15 @@ impl Folder {
         let path = Path::new(env!("CARGO_TARGET_TMPDIR")).join(format!("{}-{number}", std::process::id()));
         fs::create_dir_all(&path).unwrap();
         Folder { path }
+    }
+
+    /// Where these of the repository have the names that they have at its root.
+    pub fn with(names: &[&str]) -> Folder {
+        let folder = Folder::new();
+        for name in names {
+            symlink(root().join(name).canonicalize().unwrap(), folder.path.join(name)).unwrap();
+        }
+        folder
     }
 
     pub fn path(&self) -> &Path {
