@@ -1,35 +1,31 @@
-//! What the programs share: what they draw with, what they find of a record and how they end.
+//! Draws records and tells of their breaks: [`draw`] makes a picture in SVG, [`explain`] lines of text. What is broken,
+//! and by which events, is found by the proved library alone.
 
-pub mod badge;
-pub mod ending;
-pub mod frame;
-pub mod page;
-pub mod scale;
-pub mod strokes;
-pub mod style;
-pub mod svg;
-pub mod wrap;
+pub mod drawing;
 
 // Without the library there is nothing to find of a record.
 #[cfg(feature = "library")]
-pub mod arrow;
+mod finding;
 #[cfg(feature = "library")]
-pub mod asked;
+mod layout;
 #[cfg(feature = "library")]
-pub mod breach;
+mod part;
 #[cfg(feature = "library")]
-pub mod broken;
+mod picture;
 #[cfg(feature = "library")]
-pub mod chain;
+mod record;
 #[cfg(feature = "library")]
-pub mod due;
+mod sight;
 #[cfg(feature = "library")]
-pub mod event;
+mod telling;
 #[cfg(feature = "library")]
-pub mod models;
+mod ways;
+
 #[cfg(feature = "library")]
-pub mod program;
+pub use finding::{Asked, Breaks};
 #[cfg(feature = "library")]
-pub mod record;
+pub use part::{Part, Undrawn};
 #[cfg(feature = "library")]
-pub mod source;
+pub use picture::draw;
+#[cfg(feature = "library")]
+pub use telling::{explain, Explanation};

@@ -6,8 +6,8 @@ use second::models::{answer_of, MODELS};
 use second::openings::Openings;
 use second::predicates::{Answer, Judged, PREDICATES};
 use second::record::{Event, Record};
+use support::asking::{asked, asked_model, plain};
 use support::drawing::Drawing;
-use support::program::{asked, drawing};
 use support::records;
 use support::truth::is_true;
 
@@ -41,7 +41,7 @@ fn an_arbitration_that_should_not_be_is_an_arrow_from_the_earlier_place_to_the_l
 #[test]
 fn only_a_broken_verdict_draws_a_break() {
     let listing = &records::shipped()[0];
-    for met in [drawing(&[], listing), asked(4, listing), drawing(&["--model", "4"], listing)] {
+    for met in [plain(listing), asked(4, listing), asked_model(4, listing)] {
         let of_break = |element: &&support::drawing::Element| element.class().starts_with("break");
         assert_eq!(met.elements.iter().filter(of_break).count(), 0);
         assert!(met.texts("reason").is_empty() && met.texts("said").is_empty());
@@ -160,6 +160,14 @@ fn told(drawing: &Drawing, record: &Record, (a, b): (usize, usize)) -> String {
     sentence
 }
 
+fn pair(a: usize, b: usize) -> String {
+    if a == b {
+        format!("event {a}")
+    } else {
+        format!("events {a} and {b}")
+    }
+}
+
 #[test]
 fn the_sentences_are_true_of_random_records() {
     let mut breaks = [0; 13];
@@ -168,10 +176,10 @@ fn the_sentences_are_true_of_random_records() {
         for (predicate, answer) in PREDICATES.zip(answers) {
             let drawing = asked(predicate, &record);
             let Answer::Broken(a, b) = answer else {
-                assert!(drawing.texts("met")[0].ends_with(" met"));
+                assert!(drawing.texts("met")[0].ends_with(" is met"));
                 continue;
             };
-            assert!(drawing.joined("broken").ends_with(&format!(" broken: event {a}, event {b}")));
+            assert!(drawing.joined("broken").ends_with(&format!(" is broken at {}", pair(a, b))));
             told(&drawing, &record, (a, b));
             breaks[predicate as usize - 1] += 1;
         }
@@ -186,10 +194,10 @@ fn a_models_break_names_the_predicate_and_says_what_that_ones_does() {
         for (model, list) in (1..).zip(MODELS) {
             let Answer::Broken(a, b) = answer_of(model, &answers) else { continue };
             let first = list.iter().find(|&&each| answers[each as usize - 1] != Answer::Met).expect("one is broken");
-            let drawing = drawing(&["--model", &model.to_string()], &record);
+            let drawing = asked_model(model, &record);
             let caption = drawing.joined("broken");
-            assert!(caption.contains(&format!(" broken by predicate {first} ")), "{caption}");
-            assert!(caption.ends_with(&format!(": event {a}, event {b}")), "{caption}");
+            assert!(caption.contains(&format!(" is broken by predicate {first} ")), "{caption}");
+            assert!(caption.ends_with(&format!(" at {}", pair(a, b))), "{caption}");
             assert_eq!(told(&drawing, &record, (a, b)), asked(*first, &record).joined("reason"));
         }
     }
@@ -206,7 +214,7 @@ fn looks(drawing: &Drawing, event: usize) -> Vec<(String, String, Option<String>
 #[test]
 fn highlighted_marks_are_ringed_and_else_as_they_were() {
     for (_, record) in records::random() {
-        let (plain, broken) = (drawing(&[], &record), asked(9, &record));
+        let (plain, broken) = (plain(&record), asked(9, &record));
         for event in 0..record.events.len() {
             assert_eq!(looks(&plain, event), looks(&broken, event));
         }

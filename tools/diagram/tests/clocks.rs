@@ -4,8 +4,8 @@ mod support;
 
 use second::predicates::{Answer, Judged};
 use second::record::{Edition, Record};
+use support::asking::{asked, plain};
 use support::drawing::Drawing;
-use support::program::{asked, drawing};
 use support::records;
 use support::truth::is_true;
 
@@ -25,7 +25,7 @@ fn the_title_and_the_legend_tell_a_difference_and_nothing_of_none() {
     let (mut with, mut without) = (0, 0);
     for record in records::random().map(|(_, record)| record).chain(records::shipped()) {
         let difference = record.edition.difference();
-        tells(&drawing(&[], &record), difference);
+        tells(&plain(&record), difference);
         *if difference > 0 { &mut with } else { &mut without } += 1;
     }
     assert!(with >= 10 && without >= 10, "{with}, {without}");
@@ -33,7 +33,7 @@ fn the_title_and_the_legend_tell_a_difference_and_nothing_of_none() {
 
 #[test]
 fn the_largest_difference_is_told_whole() {
-    tells(&drawing(&[], &records::write_then_read(true).apart(u32::MAX)), u32::MAX);
+    tells(&plain(&records::write_then_read(true).apart(u32::MAX)), u32::MAX);
 }
 
 #[test]
@@ -46,7 +46,7 @@ fn the_sentences_of_3_and_4_are_true_by_any_difference() {
             let drawing = asked(predicate, &record);
             let sentence = drawing.joined("reason");
             let Answer::Broken(a, b) = answers[predicate as usize - 1] else {
-                assert!(sentence.is_empty() && drawing.texts("met")[0].ends_with(" met"), "seed {seed}");
+                assert!(sentence.is_empty() && drawing.texts("met")[0].ends_with(" is met"), "seed {seed}");
                 continue;
             };
             assert!(is_true(&sentence, &record), "seed {seed}: {sentence}");
@@ -71,7 +71,7 @@ fn a_difference_leaves_the_rest_of_a_picture() {
             }
             assert_eq!(one.pairs(""), other.pairs(""), "seed {seed}, predicate {predicate}");
         }
-        let lines = |record: &Record| drawing(&[], record).pairs("");
+        let lines = |record: &Record| plain(record).pairs("");
         assert_eq!(lines(&record), lines(&bare(&record)), "seed {seed}");
     }
 }

@@ -1,13 +1,15 @@
-//! What `explain` writes is what is told of the break, and true of the record.
+//! What an explanation says is what is told of the break, and true of the record; a picture's heading says the same.
 
 mod support;
 
+use diagram::{explain, Breaks};
+use gcr::{Model, Predicate};
 use second::models::{answer_of, MODELS};
 use second::predicates::{Answer, Judged, PREDICATES};
 use second::record::{Event, Record};
 use second::relations::Relations;
+use support::asking::{asked, explained, model, predicate, told};
 use support::lines::{Events, Line};
-use support::program::{asked, explained, run_explain};
 use support::records;
 use support::truth::is_true;
 
@@ -37,7 +39,12 @@ fn of_block(block: &str) -> Told<'_> {
     let mut lines = block.lines().peekable();
     let (heading, sentence) = (lines.next().expect("a heading"), lines.next().expect("a sentence"));
     let clocks = lines.next_if(|line| !line.starts_with("  "));
-    Told { heading, sentence, clocks, lines: lines.map(Line::read).collect() }
+    Told { heading, sentence, clocks, lines: lines.map(event_of).collect() }
+}
+
+/// A line of an event is set in.
+fn event_of(line: &str) -> Line<'_> {
+    Line::read(line.strip_prefix("  ").expect("it is set in"))
 }
 
 fn number_of(heading: &str) -> u32 {
@@ -54,9 +61,9 @@ fn is_kind(predicate: u32, at: usize, line: &Line, is_seen: bool) -> bool {
         1 => line.lead.is_none() || lead.ends_with(" saw it"),
         2 | 13 => begins("it saw ") || begins("it is at "),
         3 | 4 => begins("it started "),
-        5 | 8 => begins(if at == 1 { "it saw " } else { "it came after " }),
-        10 | 11 => begins(if is_seen { "it saw " } else { "it came after " }),
-        _ => begins("it came after "),
+        5 | 8 => begins(if at == 1 { "it saw " } else { "then, " }),
+        10 | 11 => begins(if is_seen { "it saw " } else { "then, " }),
+        _ => begins("then, "),
     }
 }
 
@@ -90,10 +97,10 @@ fn holds(told: &Told, record: &Record, judged: &Judged, predicate: u32) -> bool 
 fn each_line_is_true_and_all_that_is_told_is_there() {
     let mut breaks = [0; 13];
     for (name, record) in all() {
-        let (judged, text) = (Judged::new(&record), explained(&[], &record.to_bytes()));
+        let (judged, text) = (Judged::new(&record), explained(&Breaks::All, &record));
         let broken: Vec<u32> = PREDICATES.filter(|&predicate| judged.answer(predicate) != Answer::Met).collect();
         if broken.is_empty() {
-            assert_eq!(text, "standard input: all predicates are met\n");
+            assert_eq!(text, "record: all predicates are met: there is nothing to explain\n");
             continue;
         }
         let told = read(&text);
@@ -106,63 +113,114 @@ fn each_line_is_true_and_all_that_is_told_is_there() {
     assert!(breaks.iter().all(|&count| count >= 20), "{breaks:?}");
 }
 
-/// One predicate's text is its part of all, and its sentence is the picture's.
+fn broken_of(record: &Record) -> Vec<u32> {
+    let judged = Judged::new(record);
+    PREDICATES.filter(|&predicate| judged.answer(predicate) != Answer::Met).collect()
+}
+
+/// One predicate's text is its part of all, and several are told in the order in which they are asked.
 #[test]
 fn each_predicate_alone_is_told_as_among_all() {
     for (_, record) in records::random().step_by(5) {
-        let (judged, bytes) = (Judged::new(&record), record.to_bytes());
-        let alone = |predicate: u32| explained(&["--predicate", &predicate.to_string()], &bytes);
-        let broken: Vec<u32> = PREDICATES.filter(|&predicate| judged.answer(predicate) != Answer::Met).collect();
-        for predicate in PREDICATES.filter(|predicate| !broken.contains(predicate)) {
-            let text = alone(predicate);
-            let begins = text.starts_with(&format!("standard input: predicate {predicate} "));
-            assert!(begins && text.ends_with(" is met\n") && text.lines().count() == 1);
+        let broken = broken_of(&record);
+        for number in PREDICATES.filter(|number| !broken.contains(number)) {
+            let text =
+                format!("record: predicate {number} {} is met: there is nothing to explain\n", predicate(number));
+            assert_eq!(told(number, &record), text);
         }
-        for &predicate in &broken {
-            assert_eq!(of_block(&alone(predicate)).sentence, asked(predicate, &record).joined("reason"));
-        }
-        let texts: Vec<String> = broken.iter().map(|&predicate| alone(predicate)).collect();
-        assert!(broken.is_empty() || texts.join("\n") == explained(&[], &bytes));
+        let texts: Vec<String> = broken.iter().map(|&number| told(number, &record)).collect();
+        assert!(broken.is_empty() || texts.join("\n") == explained(&Breaks::All, &record));
+        let (first, last) = (told(11, &record), told(2, &record));
+        let both = Breaks::Of(vec![Predicate::CausalArbitration, Predicate::SingleOrder]);
+        assert_eq!(explained(&both, &record), format!("{first}\n{last}"));
     }
+}
+
+/// Each broken predicate of a model is told, in the model's order, with the words that tell it alone.
+#[test]
+fn a_model_is_told_by_its_predicates_that_are_broken() {
+    let mut several = 0;
+    for (seed, record) in records::random().step_by(7) {
+        let (answers, all) = (Judged::new(&record).answers(), broken_of(&record));
+        for (number, list) in (1..).zip(MODELS) {
+            let text = explained(&Breaks::OfModel(model(number)), &record);
+            let broken: Vec<u32> = list.iter().map(|&each| each.into()).filter(|each| all.contains(each)).collect();
+            assert_eq!(broken.is_empty(), answer_of(number, &answers) == Answer::Met);
+            if broken.is_empty() {
+                let met = format!("record: model {number} {} is met: there is nothing to explain\n", model(number));
+                assert_eq!(text, met, "seed {seed}");
+                continue;
+            }
+            let named = format!("model {number} {} is broken by", model(number));
+            let alone = |each: &u32| told(*each, &record);
+            let texts: Vec<String> = broken.iter().map(alone).collect();
+            let texts =
+                texts.join("\n").replace("record: ", &format!("record: {named} ")).replace(" is broken at", " at");
+            assert_eq!(text, texts, "seed {seed}, model {number}");
+            several += usize::from(broken.len() > 1);
+        }
+    }
+    assert!(several >= 10, "{several}");
 }
 
 #[test]
-fn a_model_is_told_by_the_first_of_its_predicates_that_is_broken() {
-    for (seed, record) in records::random().step_by(7) {
-        let (answers, bytes) = (Judged::new(&record).answers(), record.to_bytes());
-        for (model, list) in (1..).zip(MODELS) {
-            let text = explained(&["--model", &model.to_string()], &bytes);
-            let is_met = answer_of(model, &answers) == Answer::Met;
-            assert_eq!(text.ends_with(" is met\n"), is_met, "seed {seed}, model {model}");
-            let Some(first) = list.iter().find(|&&each| answers[each as usize - 1] != Answer::Met) else { continue };
-            let alone = explained(&["--predicate", &first.to_string()], &bytes);
-            let (heading, rest) = text.split_once('\n').expect("there are lines");
-            assert!(heading.contains(&format!("model {model} ")), "{heading}");
-            assert!(heading.contains(&format!(" is broken by predicate {first} ")), "{heading}");
-            assert_eq!(Some(rest), alone.split_once('\n').map(|(_, rest)| rest));
+fn whether_a_break_is_told_is_said() {
+    for (_, record) in records::random().step_by(9) {
+        let (broken, bytes) = (broken_of(&record), record.to_bytes());
+        let is_broken = |breaks: Breaks| explain("record", &bytes, &breaks).expect("it is told").is_broken;
+        assert_eq!(is_broken(Breaks::All), !broken.is_empty());
+        let of = |numbers: [u32; 2]| (Breaks::Of(numbers.map(predicate).to_vec()), numbers);
+        for (breaks, numbers) in [of([9, 3]), of([1, 12]), of([13, 13])] {
+            assert_eq!(is_broken(breaks), numbers.iter().any(|number| broken.contains(number)));
         }
+        let is_causal = ![10, 11, 1].iter().any(|number| broken.contains(number));
+        assert_eq!(is_broken(Breaks::OfModel(Model::Causal)), !is_causal);
     }
 }
 
-/// A file of `records`.
-fn shipped(name: &str) -> String {
-    format!("{}/../../records/{name}", env!("CARGO_MANIFEST_DIR"))
+/// The lines of a text, its name left out and words that a picture's heading breaks at its width joined.
+#[test]
+fn the_heading_of_a_picture_has_the_same_words() {
+    let mut shortened = 0;
+    for (name, record) in all() {
+        for number in broken_of(&record) {
+            let (drawing, text) = (asked(number, &record), told(number, &record));
+            let mut lines = text.lines();
+            let verdict = lines.next().and_then(|line| line.strip_prefix("record: ")).expect("it is named");
+            assert_eq!(drawing.joined("broken"), verdict, "{name}");
+            assert_eq!(Some(drawing.joined("reason").as_str()), lines.next(), "{name}");
+            let due: Vec<&str> = lines.filter_map(|line| line.strip_prefix("  ")).collect();
+            let heading = drawing.joined("event");
+            if due.len() < 10 {
+                assert_eq!(heading, due.join(" "), "{name}, predicate {number}");
+                continue;
+            }
+            let between = format!("({} more events on the way: point at a step for its event)", due.len() - 8);
+            let due = [&due[..4], &[&between], &due[due.len() - 4..]].concat();
+            assert_eq!(heading, due.join(" "), "{name}, predicate {number}");
+            shortened += 1;
+        }
+    }
+    assert!(shortened >= 20, "{shortened}");
 }
 
-fn of_file(words: &[&str], name: &str) -> String {
-    explained(&[words, &[&shipped(name)]].concat(), &[])
+fn of_file(breaks: &Breaks, name: &str) -> String {
+    let file = format!("{}/../../records/{name}", env!("CARGO_MANIFEST_DIR"));
+    explain(name, &std::fs::read(file).expect("it ships"), breaks).expect("it is told").text
 }
 
 #[test]
 fn records_that_ship_are_told_of_in_these_words() {
-    assert_eq!(of_file(&["--predicate", "5"], "stale-read.gcr"), STALE_READ);
-    assert_eq!(of_file(&["--model", "4"], "long-way.gcr"), LONG_WAY);
-    assert_eq!(of_file(&[], "early-read.gcr"), EARLY_READ);
-    assert_eq!(of_file(&[], "stale-value.gcr"), STALE_VALUE);
-    assert_eq!(of_file(&["--predicate", "13"], "listing.gcr"), LISTING);
-    assert_eq!(of_file(&[], "clocks.gcr"), "clocks.gcr: all predicates are met\n");
-    assert_eq!(of_file(&["--predicate", "3"], "clocks.gcr"), "clocks.gcr: predicate 3 RealTime is met\n");
-    assert_eq!(of_file(&["--model", "4"], "listing.gcr"), "listing.gcr: model 4 Causal is met\n");
+    let of = |predicate: Predicate| Breaks::Of(vec![predicate]);
+    assert_eq!(of_file(&of(Predicate::MonotonicReads), "stale-read.gcr"), STALE_READ);
+    assert_eq!(of_file(&Breaks::OfModel(Model::Causal), "long-way.gcr"), LONG_WAY);
+    assert_eq!(of_file(&Breaks::All, "early-read.gcr"), EARLY_READ);
+    assert_eq!(of_file(&Breaks::All, "stale-value.gcr"), STALE_VALUE);
+    assert_eq!(of_file(&of(Predicate::PerObjectSingleOrder), "listing.gcr"), LISTING);
+    assert_eq!(
+        of_file(&Breaks::All, "clocks.gcr"),
+        "clocks.gcr: all predicates are met: there is nothing to explain\n"
+    );
 }
 
 const STALE_READ: &str = "\
@@ -170,8 +228,8 @@ stale-read.gcr: predicate 5 MonotonicReads is broken at events 0 and 2
 event 2 does not see event 0, though event 1, an earlier read at event 2's site, sees event 0
   event 0: site 0 wrote 7 to object 0, from 0 ms to 1 ms
   event 1: site 1 read 7 from object 0, from 2 ms to 3 ms; it saw event 0
-  event 2: site 1 read none from object 0, from 4 ms to 5 ms; it came after event 1 at the same site, but did not see \
-event 0
+  event 2: then, at the same site as event 1, site 1 read none from object 0, from 4 ms to 5 ms; but it did not see event \
+0
 ";
 
 const LONG_WAY: &str = "\
@@ -180,9 +238,9 @@ event 3 does not see event 0, though event 0 is seen by event 2, which is before
 event 6, which is before event 3 at site 2
   event 0: site 0 wrote 100 to object 5, from 0 ms to 1 ms
   event 2: site 1 read 100 from object 5, from 4 ms to 5 ms; it saw event 0
-  event 5: site 1 wrote 2 to object 6, from 8 ms to 9 ms; it came after event 2 at the same site
+  event 5: then, at the same site as event 2, site 1 wrote 2 to object 6, from 8 ms to 9 ms
   event 6: site 2 read 2 from object 6, from 10 ms to 11 ms; it saw event 5
-  event 3: site 2 read none from object 5, from 12 ms to 13 ms; it came after event 6 at the same site, but did not see \
+  event 3: then, at the same site as event 6, site 2 read none from object 5, from 12 ms to 13 ms; but it did not see \
 event 0
 ";
 
@@ -223,55 +281,44 @@ event 0
 #[test]
 fn a_ring_is_told_round_and_an_opening_once() {
     let ring = Record::in_order(1, vec![Event::read(0, 0, None).at(0, 1).sees(&[1]), Event::write(0, 0, 7).at(2, 3)]);
-    let text = explained(&["--predicate", "10"], &ring.to_bytes());
+    let text = told(10, &ring);
     let lines: Vec<&str> = text.lines().skip(2).collect();
     assert_eq!(
         lines,
         [
             "  event 0: site 0 read none from object 0, from 0 ms to 1 ms",
-            "  event 1: site 0 wrote 7 to object 0, from 2 ms to 3 ms; it came after event 0 at the same site",
+            "  event 1: then, at the same site as event 0, site 0 wrote 7 to object 0, from 2 ms to 3 ms",
             "  event 0: site 0 read none from object 0, from 0 ms to 1 ms; it saw event 1, and so would have to see itself",
         ]
     );
+    let along = told(11, &ring.with_positions(&[0, 1]));
+    assert!(along.ends_with("it saw event 1, and so would have to be before itself in arbitration\n"), "{along}");
+    let back = Record::in_order(1, vec![Event::read(0, 0, None).at(0, 1).sees(&[1]), Event::read(0, 0, None).at(2, 3)]);
+    let last =
+        "  event 1: then, at the same site as event 0, site 0 read none from object 0, from 2 ms to 3 ms; and so it \
+                would have to see itself\n";
+    assert!(told(5, &back).ends_with(last));
     let opening = Record::in_order(1, vec![Event::read(0, 3, Some(40)).at(0, 1)]);
-    let text = explained(&[], &opening.to_bytes());
-    assert!(text
+    assert!(explained(&Breaks::All, &opening)
         .ends_with("opening\n  event 0: site 0 read 40 from object 3, from 0 ms to 1 ms; it should have held none\n"));
 }
 
 #[test]
-fn a_refused_record_gives_one_line_and_no_explanation() {
-    let refused = |words: &[&str], input: &[u8]| {
-        let output = run_explain(words, input);
-        assert_eq!((output.status.code(), output.stdout.len()), (Some(2), 0));
-        String::from_utf8(output.stderr).expect("a refusal is text")
-    };
-    let length = "refused 3 0: The record's length is not a multiple of 512 from 512 to 19,456 bytes.\n";
-    assert_eq!(refused(&[], &[]), length);
-    assert_eq!(refused(&["--predicate", "10"], &[0; 20_000]), length);
-    let number = "refused 2 0: The predicate or model number is not 1 to 13.\n";
-    assert_eq!(refused(&["--predicate", "0"], &records::long_way().to_bytes()), number);
+fn a_refused_record_gives_no_explanation() {
+    let refused = |breaks: &Breaks, bytes: &[u8]| explain("record", bytes, breaks).expect_err("it is refused");
+    let causal = Breaks::OfModel(Model::Causal);
+    assert_eq!(refused(&Breaks::All, &[]).number, 3);
+    assert_eq!(refused(&causal, &[0; 20_000]).number, 3);
     let mut damaged = records::long_way().to_bytes();
     damaged[600] ^= 1;
-    assert!(refused(&[], &damaged).starts_with("refused 4 1: "));
+    let refusal = refused(&Breaks::Of(vec![Predicate::RVal]), &damaged);
+    assert_eq!((refusal.number, refusal.place), (4, 1));
 }
 
 #[test]
-fn other_words_give_the_usage_and_a_missing_file_is_named() {
-    for words in [&["--words"][..], &["--predicate"], &["--predicate", "five"], &["a.gcr", "b.gcr"]] {
-        let output = run_explain(words, &[]);
-        assert_eq!((output.status.code(), output.stdout.len()), (Some(1), 0));
-        let usage = "usage: explain [--predicate K | --model K] [RECORD]\n";
-        assert_eq!(String::from_utf8_lossy(&output.stderr), usage);
-    }
-    let output = run_explain(&[&shipped("missing.gcr")], &[]);
-    assert_eq!((output.status.code(), output.stdout.len()), (Some(1), 0));
-    assert!(String::from_utf8_lossy(&output.stderr).starts_with("cannot read missing.gcr: "));
-}
-
-#[test]
-fn the_example_of_the_readme_is_what_the_program_writes() {
-    let readme = include_str!("../README.md");
-    let set_in: String = LONG_WAY.lines().map(|line| format!("    {line}\n")).collect();
-    assert!(readme.contains("explain -- --model 4 ../../records/long-way.gcr") && readme.contains(&set_in));
+fn the_examples_of_the_pages_are_what_is_told() {
+    let set_in = |text: &str| text.lines().map(|line| format!("    {line}\n")).collect::<String>();
+    let (page, front) = (include_str!("../README.md"), include_str!("../../../README.md"));
+    assert!(page.contains("gcr explain --model causal ../../records/long-way.gcr") && page.contains(&set_in(LONG_WAY)));
+    assert!(front.contains(&set_in(STALE_READ)));
 }

@@ -4,8 +4,8 @@ mod support;
 
 use second::openings::Openings;
 use second::record::{Event, Record};
+use support::asking::plain;
 use support::drawing::Drawing;
-use support::program::drawing;
 use support::records;
 
 const LEGEND: &str = "(opening): the read sees no write on its object and holds the object's opening";
@@ -37,7 +37,7 @@ fn marked(drawing: &Drawing, name: &str) -> Vec<usize> {
 fn only_reads_that_hold_their_opening_are_marked() {
     let mut openings = 0;
     for record in records::random().map(|(_, record)| record).chain(records::shipped()) {
-        let (drawing, due) = (drawing(&[], &record), due(&record));
+        let (drawing, due) = (plain(&record), due(&record));
         assert_eq!(marked(&drawing, "title"), due);
         assert_eq!(marked(&drawing, "text"), due);
         assert_eq!(drawing.joined("note").contains(LEGEND), !due.is_empty());
@@ -50,15 +50,15 @@ fn only_reads_that_hold_their_opening_are_marked() {
 fn the_same_value_from_a_write_is_no_opening() {
     let read = Event::read(0, 0, Some(7)).at(2, 3);
     let of = |read: Event| Record::in_order(1, vec![Event::write(0, 0, 7).at(0, 1), read]);
-    let opened = |read: Event| drawing(&[], &of(read).opened(Openings::none().with(0, 7)));
+    let opened = |read: Event| plain(&of(read).opened(Openings::none().with(0, 7)));
     assert_eq!(marked(&opened(read.clone().sees(&[0])), "text"), []);
     assert_eq!(marked(&opened(read.clone()), "text"), [1]);
-    assert_eq!(marked(&drawing(&[], &of(read)), "text"), []);
+    assert_eq!(marked(&plain(&of(read)), "text"), []);
 }
 
 #[test]
 fn the_rehearsed_day_shows_where_openings_end() {
-    let drawing = drawing(&[], &records::shipped()[4]);
+    let drawing = plain(&records::shipped()[4]);
     let labels = ["R 5→300 (opening)", "W 5=350", "R 5→300 (opening)", "R 5→350", "R 31→0 (opening)", "R 7→none"];
     assert_eq!(drawing.texts("label"), labels);
 }
@@ -68,7 +68,7 @@ fn the_rehearsed_day_shows_where_openings_end() {
 fn a_small_mark_tells_on_pointing_at_it() {
     let read = |number: u64| Event::read(0, (number % 2) as u8, (number % 2 == 0).then_some(40)).at(number, number);
     let record = Record::in_order(1, (0..90).map(read).collect()).opened(Openings::none().with(0, 40));
-    let drawing = drawing(&[], &record);
+    let drawing = plain(&record);
     assert_eq!(marked(&drawing, "title"), due(&record));
     assert!(marked(&drawing, "text").is_empty() && due(&record).len() == 45);
     assert!(!drawing.joined("note").contains(LEGEND));

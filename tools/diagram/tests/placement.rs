@@ -4,9 +4,9 @@ mod support;
 
 use second::record::Record;
 use std::sync::OnceLock;
+use support::asking::{asked, plain};
 use support::drawing::{Drawing, Element};
 use support::frame::Frame;
-use support::program::{asked, drawing};
 use support::records;
 
 /// Pictures with and without a break, of the records that ship and of random ones.
@@ -32,7 +32,7 @@ fn of(record: Record, number: u64, name: &str) -> [(String, Drawing); 3] {
     let predicate = |by: u64| 1 + ((number + by) % 13) as u32;
     let named = |predicate: u32| format!("{name} {number}, predicate {predicate}");
     [
-        (format!("{name} {number}"), drawing(&[], &record)),
+        (format!("{name} {number}"), plain(&record)),
         (named(predicate(0)), asked(predicate(0), &record)),
         (named(predicate(5)), asked(predicate(5), &record)),
     ]

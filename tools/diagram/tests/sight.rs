@@ -4,8 +4,8 @@ mod support;
 
 use second::record::Record;
 use second::relations::Relations;
+use support::asking::{asked, plain};
 use support::drawing::Drawing;
-use support::program::{asked, drawing};
 use support::records;
 
 /// What each event sees, read off the picture by the legend's words: an arrow leads from an event to one that sees it,
@@ -32,24 +32,23 @@ fn said(record: &Record) -> Vec<Vec<bool>> {
 #[test]
 fn what_events_see_can_be_read_off() {
     for (seed, record) in records::random() {
-        assert!(read_off(&drawing(&[], &record), record.events.len()) == said(&record), "seed {seed}");
+        assert!(read_off(&plain(&record), record.events.len()) == said(&record), "seed {seed}");
     }
     for record in records::shipped() {
-        assert!(read_off(&drawing(&[], &record), record.events.len()) == said(&record));
+        assert!(read_off(&plain(&record), record.events.len()) == said(&record));
     }
 }
 
 #[test]
 fn what_the_largest_records_say_can_be_read_off() {
     for record in records::large() {
-        assert!(read_off(&drawing(&[], &record), record.events.len()) == said(&record));
+        assert!(read_off(&plain(&record), record.events.len()) == said(&record));
     }
 }
 
 #[test]
 fn a_later_read_that_does_not_see_the_write_looks_different() {
-    let (seen, unseen) =
-        (drawing(&[], &records::write_then_read(true)), drawing(&[], &records::write_then_read(false)));
+    let (seen, unseen) = (plain(&records::write_then_read(true)), plain(&records::write_then_read(false)));
     assert_eq!((seen.pairs("seen all"), seen.pairs("gap")), (vec![(0, 1)], vec![]));
     assert_eq!((unseen.pairs("seen"), unseen.pairs("gap")), (vec![], vec![(0, 1)]));
 }
@@ -58,7 +57,7 @@ fn a_later_read_that_does_not_see_the_write_looks_different() {
 fn a_line_is_broken_only_where_the_later_event_does_not_see() {
     for (seed, record) in records::random() {
         let Relations { so, vis, .. } = Relations::of(&record);
-        let gaps = drawing(&[], &record).pairs("gap");
+        let gaps = plain(&record).pairs("gap");
         assert!(gaps.iter().all(|&(from, to)| so.has(from, to) && !vis.has(from, to)), "seed {seed}");
     }
 }
@@ -66,13 +65,13 @@ fn a_line_is_broken_only_where_the_later_event_does_not_see() {
 #[test]
 fn a_read_that_sees_the_one_before_but_not_all_that_it_saw_has_an_open_head() {
     let stale_read = &records::shipped()[1];
-    let drawing = drawing(&[], stale_read);
+    let drawing = plain(stale_read);
     assert_eq!((drawing.pairs("seen all"), drawing.pairs("seen alone")), (vec![(0, 1)], vec![(1, 2)]));
 }
 
 #[test]
 fn the_legend_says_what_no_arrow_means() {
-    let legend = drawing(&[], &records::write_then_read(true)).texts("note").join(" ");
+    let legend = plain(&records::write_then_read(true)).texts("note").join(" ");
     assert!(legend.contains("An arrow leads from an event to one that sees it."));
     assert!(legend.contains("What the arrows do not tell is not seen, at an event's own site either"));
     for sign in
@@ -84,7 +83,7 @@ fn the_legend_says_what_no_arrow_means() {
 
 #[test]
 fn pointing_at_a_mark_shows_what_its_event_sees() {
-    let drawing = drawing(&[], &records::shipped()[0]);
+    let drawing = plain(&records::shipped()[0]);
     let titles: Vec<&str> =
         drawing.named("title").filter(|title| title.event.is_some()).map(|title| title.text.as_str()).collect();
     assert_eq!(titles[0], "event 0: W 5=100, site 0, start 0, returned 1, arbitration 0, sees nothing");

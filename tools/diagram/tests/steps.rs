@@ -6,9 +6,9 @@ use second::predicates::{Judged, PREDICATES};
 use second::record::{Event, Record};
 use second::relations::Relations;
 use std::sync::OnceLock;
+use support::asking::{asked, plain, told};
 use support::drawing::{Drawing, Element};
 use support::frame::{Frame, Point};
-use support::program::{asked, drawing, drawn};
 use support::records;
 
 /// The predicates that are told by more than the pair.
@@ -145,7 +145,7 @@ fn a_step_of_visibility_lies_under_an_arrow_of_its_own() {
 fn steps_that_filled_heads_would_tell_are_among_them() {
     let small = |record: &Record| record.events.len() < 60;
     let added = |(case, _, _, step): &(&Case, &Drawing, usize, &Element)| {
-        is_sight(step) && !drawing(&[], &case.record).pairs("seen").contains(&step.ends())
+        is_sight(step) && !plain(&case.record).pairs("seen").contains(&step.ends())
     };
     let count = [5, 10].map(|predicate| steps(predicate).filter(|each| small(&each.0.record)).filter(added).count());
     assert!(count[0] >= 5 && count[1] >= 5, "{count:?}");
@@ -217,16 +217,16 @@ fn the_legend_explains_steps_just_where_there_are_some() {
     }
 }
 
+/// In the words of the explanation, also of the events that a long heading leaves out.
 #[test]
 fn pointing_at_a_step_tells_it() {
-    let picture = drawn(&["--predicate", "10"], &records::long_way().to_bytes());
-    for words in [
-        "step 1 of 4: event 2 sees event 0",
-        "step 2 of 4: event 5 is later than event 2 at its site",
-        "step 3 of 4: event 6 sees event 5",
-        "step 4 of 4: event 3 is later than event 6 at its site",
-    ] {
-        assert!(picture.contains(&format!("<title>{words}</title></path>")));
+    for record in records::longest().into_iter().map(|(_, record)| record).chain([records::long_way()]) {
+        let (drawing, text) = (asked(10, &record), told(10, &record));
+        let lines: Vec<&str> = text.lines().filter_map(|line| line.strip_prefix("  ")).collect();
+        let titles: Vec<&str> = drawing.named("title").map(|title| title.text.as_str()).collect();
+        let of_steps: Vec<&str> = titles.into_iter().filter(|title| title.starts_with("step ")).collect();
+        let step = |(number, line): (usize, &&str)| format!("step {number} of {}: {line}", lines.len() - 1);
+        assert_eq!(of_steps, (1..).zip(&lines[1..]).map(step).collect::<Vec<_>>());
     }
 }
 

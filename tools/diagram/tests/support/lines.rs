@@ -1,4 +1,4 @@
-//! Whether what `explain` writes of an event is true of the record, read word by word.
+//! Whether what an explanation says of an event is true of the record, read word by word.
 
 use super::truth::{numbers, shape};
 use second::record::Record;
@@ -18,16 +18,27 @@ pub struct Line<'a> {
 impl Line<'_> {
     pub fn read(line: &str) -> Line<'_> {
         let (event, rest) = line.split_once(": ").expect("an event begins a line");
-        let event = event.strip_prefix("  event ").expect("it is set in").parse().expect("a number");
-        let (happened, leads) = rest.split_once("; ").map_or((rest, None), |(happened, leads)| (happened, Some(leads)));
-        let parts = leads.map(|leads| match leads.split_once(", but ").or(leads.split_once(", and ")) {
+        let event = event.strip_prefix("event ").expect("it is one").parse().expect("a number");
+        let (told, after) = rest.split_once("; ").map_or((rest, None), |(told, after)| (told, Some(after)));
+        // A step along the site's line stands before what happened, and any other after it.
+        if let Some((lead, happened)) = told.split_once(", site ").filter(|(lead, _)| lead.starts_with("then, ")) {
+            let happened = &told[told.len() - happened.len() - "site ".len()..];
+            let wrong = after.map(|after| after.strip_prefix("but it ").or(after.strip_prefix("and so it ")));
+            return Line { event, happened, lead: Some(lead), wrong: wrong.map(|wrong| wrong.expect("it is joined")) };
+        }
+        let parts = after.map(|after| match joined(after) {
             Some((lead, wrong)) => (Some(lead), Some(wrong)),
-            None if leads.starts_with("it should") => (None, leads.strip_prefix("it ")),
-            None => (Some(leads), None),
+            None if after.starts_with("it should") => (None, after.strip_prefix("it ")),
+            None => (Some(after), None),
         });
         let (lead, wrong) = parts.unwrap_or((None, None));
-        Line { event, happened, lead, wrong }
+        Line { event, happened: told, lead, wrong }
     }
+}
+
+/// How the way comes to an event, and what is wrong there.
+fn joined(after: &str) -> Option<(&str, &str)> {
+    [", but ", ", and so ", ", and "].into_iter().find_map(|join| after.split_once(join))
 }
 
 pub struct Events<'a> {
@@ -96,7 +107,7 @@ impl Events<'_> {
         };
         match (shape(words).as_str(), &numbers(words)[..]) {
             ("it saw event #", &[from]) => from == before && vis.has(from, event),
-            ("it came after event # at the same site", &[from]) => from == before && so.has(from, event),
+            ("then, at the same site as event #", &[from]) => from == before && so.has(from, event),
             ("it started after event # returned", &[from]) => from == before && rb.has(from, event) && difference == 0,
             ("it started more than # ms after event # returned", &[by, from]) => {
                 from == before && rb.has(from, event) && difference == by && by > 0
@@ -116,7 +127,7 @@ impl Events<'_> {
             ("is at # in arbitration, before event # at #", &[at, other, place]) => {
                 other == a && at < place && self.is_at(b, at) && self.is_at(a, place)
             }
-            ("so would have to see itself" | "so would have to be before itself in arbitration", &[]) => a == b,
+            ("would have to see itself" | "would have to be before itself in arbitration", &[]) => a == b,
             ("should have held #", &[value]) => self.due() == Some(value as u64) && self.holds() != self.due(),
             ("should have held none", &[]) => self.due().is_none() && self.holds().is_some(),
             _ => false,

@@ -1,6 +1,7 @@
 //! What several tests use; none uses all of it.
 #![allow(dead_code)]
 
+pub mod asking;
 pub mod drawing;
 pub mod frame;
 pub mod letters;

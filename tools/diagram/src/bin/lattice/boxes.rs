@@ -1,10 +1,10 @@
 //! A model's box: its number in a part of its own, and its name beside that.
 
-use diagram::badge::badge;
-use diagram::frame::Frame;
-use diagram::scale::text_width;
-use diagram::svg::{at, Svg};
-use diagram::wrap::wrapped;
+use diagram::drawing::badge::badge;
+use diagram::drawing::frame::Frame;
+use diagram::drawing::letters::text_width;
+use diagram::drawing::svg::{at, Svg};
+use diagram::drawing::wrap::wrapped;
 
 pub const WIDTH: f64 = 142.0;
 /// The part with the number.

@@ -7,9 +7,9 @@ use crate::claim::MODELS;
 use crate::net::{Net, Node};
 use crate::ports::{links, Link};
 use crate::table::Table;
-use diagram::frame::Frame;
-use diagram::page::{LEAST_WIDTH, MARGIN};
-use diagram::svg::{at, Point};
+use diagram::drawing::frame::Frame;
+use diagram::drawing::page::{LEAST_WIDTH, MARGIN};
+use diagram::drawing::svg::{at, Point};
 
 /// Between layers.
 const GAP: f64 = 74.0;

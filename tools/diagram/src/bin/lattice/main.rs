@@ -4,6 +4,7 @@ mod across;
 mod boxes;
 mod chains;
 mod claim;
+mod ending;
 mod layout;
 mod net;
 mod order;
@@ -12,7 +13,7 @@ mod pooled;
 mod ports;
 mod table;
 
-use diagram::ending::{failed, written};
+use ending::{failed, written};
 use std::io;
 use std::process::ExitCode;
 use table::Table;

@@ -4,10 +4,9 @@ use crate::boxes;
 use crate::claim::MODELS;
 use crate::layout::Layout;
 use crate::table::Table;
-use diagram::page::MARGIN;
-use diagram::strokes::rounded;
-use diagram::style::PAGE;
-use diagram::svg::{at, Svg};
+use diagram::drawing::page::{MARGIN, STYLE};
+use diagram::drawing::strokes::rounded;
+use diagram::drawing::svg::{at, Svg};
 
 const TITLE: &str = "Which model covers which";
 const CAPTION: &str = "A model covers those that lines lead down to from it, and no other.";
@@ -32,7 +31,7 @@ pub fn draw(table: &Table) -> String {
     let height = bottom + BELOW + END;
     let mut svg = Svg::default();
     svg.describe(&(0..MODELS).map(|model| table.words(model)).collect::<Vec<_>>().join(" "));
-    svg.raw(&format!("<style>\n{PAGE}{RULES}</style>"));
+    svg.raw(&format!("<style>\n{STYLE}{RULES}</style>"));
     svg.rectangle("paper", at(0.0, 0.0), at(width, height), 0.0);
     svg.text("title", at(MARGIN, 40.0), 20.0, TITLE);
     svg.rectangle("band", at(MARGIN / 2.0, BAND), at(width - MARGIN / 2.0, bottom), 8.0);

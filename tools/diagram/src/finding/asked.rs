@@ -1,0 +1,67 @@
+//! What is asked of a record.
+
+use super::{Broken, Finding};
+use gcr::{judge_model, Model, Predicate, Refusal, Verdict};
+
+/// What a picture is to show beside what the record says.
+#[derive(Clone, Copy, Debug, PartialEq, Eq)]
+pub enum Asked {
+    /// Nothing is judged.
+    Nothing,
+    /// Whether this is broken, and how.
+    Predicate(Predicate),
+    /// The same; of a model by the first of its predicates that is broken.
+    Model(Model),
+}
+
+/// Which breaks are to be told.
+#[derive(Clone, Debug, PartialEq, Eq)]
+pub enum Breaks {
+    /// Those of these predicates. One that is met is told to be.
+    Of(Vec<Predicate>),
+    /// That of each predicate of a model that is broken, in the model's order.
+    OfModel(Model),
+    /// That of each predicate that is broken.
+    All,
+}
+
+impl Asked {
+    pub(crate) fn judge(self, record: &[u8]) -> Result<Option<Finding>, Refusal> {
+        match self {
+            Asked::Nothing => Ok(None),
+            Asked::Predicate(asked) => Finding::of_predicate(asked, record).map(Some),
+            Asked::Model(asked) => {
+                let broken = broken_of(asked, record)?.next().transpose()?;
+                Ok(Some(Finding::of_model(asked, broken)))
+            }
+        }
+    }
+}
+
+impl Breaks {
+    /// What there is to tell: of all predicates nothing where all are met.
+    pub(crate) fn judge(&self, record: &[u8]) -> Result<Vec<Finding>, Refusal> {
+        match self {
+            Breaks::Of(asked) => asked.iter().map(|&asked| Finding::of_predicate(asked, record)).collect(),
+            Breaks::OfModel(asked) => {
+                let broken: Vec<Broken> = broken_of(*asked, record)?.collect::<Result<_, _>>()?;
+                let met = broken.is_empty().then(|| Finding::of_model(*asked, None));
+                let findings = broken.into_iter().map(|broken| Finding::of_model(*asked, Some(broken)));
+                Ok(findings.chain(met).collect())
+            }
+            Breaks::All => {
+                let each = Predicate::ALL.iter().map(|&asked| Finding::of_predicate(asked, record));
+                each.filter(|finding| !finding.as_ref().is_ok_and(|finding| finding.broken.is_none())).collect()
+            }
+        }
+    }
+}
+
+/// The breaks of a model's predicates, in its order; none where the model is met.
+fn broken_of(model: Model, record: &[u8]) -> Result<impl Iterator<Item = Result<Broken, Refusal>> + '_, Refusal> {
+    let predicates = match judge_model(model, record)? {
+        Verdict::Met => &[],
+        Verdict::Broken { .. } => model.predicates(),
+    };
+    Ok(predicates.iter().filter_map(|&predicate| Broken::of(predicate, record).transpose()))
+}
