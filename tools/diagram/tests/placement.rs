@@ -2,12 +2,14 @@
 
 mod support;
 
+use diagram::{draw, Asked};
 use second::record::Record;
+use std::collections::BTreeMap;
 use std::sync::OnceLock;
-use support::asking::{asked, plain};
+use support::asking::{self, asked, plain};
 use support::drawing::{Drawing, Element};
 use support::frame::Frame;
-use support::records;
+use support::{parts, records};
 
 /// Pictures with and without a break, of the records that ship and of random ones.
 fn pictures() -> &'static [(String, Drawing)] {
@@ -28,24 +30,28 @@ fn with_ways() -> impl Iterator<Item = (String, Drawing)> {
     chained.chain(longest).map(drawn)
 }
 
-fn of(record: Record, number: u64, name: &str) -> [(String, Drawing); 3] {
+fn of(record: Record, number: u64, name: &str) -> Vec<(String, Drawing)> {
     let predicate = |by: u64| 1 + ((number + by) % 13) as u32;
     let named = |predicate: u32| format!("{name} {number}, predicate {predicate}");
-    [
+    let part = parts::random(number, &record);
+    let part = draw("record", &record.to_bytes(), Asked::Predicate(asking::predicate(predicate(7))), &part);
+    let part = part.ok().map(|picture| (format!("{name} {number}, part"), Drawing::read(&picture)));
+    let whole = [
         (format!("{name} {number}"), plain(&record)),
         (named(predicate(0)), asked(predicate(0), &record)),
         (named(predicate(5)), asked(predicate(5), &record)),
-    ]
+    ];
+    whole.into_iter().chain(part).collect()
 }
 
 /// An arrow touches the marks at its ends with its ends alone.
-fn is_behind(arrow: &Element, marks: &[Frame]) -> bool {
+fn is_behind(arrow: &Element, marks: &BTreeMap<usize, Frame>) -> bool {
     let ((from, to), pieces) = (arrow.ends(), arrow.pieces());
-    let crosses = |(number, mark): (usize, &Frame)| {
+    let crosses = |(&number, mark): (&usize, &Frame)| {
         let mark = if number == from || number == to { mark.shrunk(0.5) } else { *mark };
         pieces.iter().any(|&piece| mark.is_crossed(piece))
     };
-    marks.iter().enumerate().any(crosses)
+    marks.iter().any(crosses)
 }
 
 #[test]
@@ -77,10 +83,10 @@ fn arrows_begin_and_end_at_the_marks_of_their_events() {
             let near = |mark: &Frame, (x, y): (f64, f64)| {
                 mark.shrunk(-2.0).holds(&Frame { left: x, top: y, right: x, bottom: y })
             };
-            assert!(near(&marks[to], end), "{name}: {from} to {to}");
+            assert!(near(&marks[&to], end), "{name}: {from} to {to}");
             // The line to the next event begins where the first one's time ends.
             let is_level = begin.1 == end.1 && pieces.len() == 1;
-            assert!(near(&marks[from], begin) || is_level && begin.0 > marks[from].right, "{name}: {from} to {to}");
+            assert!(near(&marks[&from], begin) || is_level && begin.0 > marks[&from].right, "{name}: {from} to {to}");
         }
     }
 }
@@ -89,8 +95,8 @@ fn arrows_begin_and_end_at_the_marks_of_their_events() {
 fn marks_are_apart() {
     for (name, drawing) in pictures() {
         let marks = drawing.marks();
-        for (number, mark) in marks.iter().enumerate() {
-            assert!(!marks[..number].iter().any(|other| mark.overlaps(other)), "{name}: event {number}");
+        for (number, mark) in &marks {
+            assert!(!marks.range(..number).any(|(_, other)| mark.overlaps(other)), "{name}: event {number}");
         }
     }
 }
@@ -112,8 +118,8 @@ fn texts_stand_inside_their_marks_and_off_all_others() {
         let marks = drawing.marks();
         for text in drawing.named("text") {
             match text.event {
-                Some(event) => assert!(marks[event].holds(&text.frame()), "{name}: {:?}", text.text),
-                None => assert!(!marks.iter().any(|mark| mark.overlaps(&text.frame())), "{name}: {:?}", text.text),
+                Some(event) => assert!(marks[&event].holds(&text.frame()), "{name}: {:?}", text.text),
+                None => assert!(!marks.values().any(|mark| mark.overlaps(&text.frame())), "{name}: {:?}", text.text),
             }
         }
     }
@@ -124,7 +130,7 @@ fn everything_stands_inside_the_picture() {
     for (name, drawing) in pictures() {
         let size = drawing.size();
         assert!(drawing.named("text").all(|text| size.holds(&text.frame())), "{name}");
-        assert!(drawing.marks().iter().all(|mark| size.holds(mark)), "{name}");
+        assert!(drawing.marks().values().all(|mark| size.holds(mark)), "{name}");
         let inside = |arrow: &Element| arrow.pieces().iter().all(|&(from, _)| size.holds(&at(from)));
         assert!(drawing.arrows().chain(drawing.steps()).all(inside), "{name}");
     }

@@ -2,32 +2,10 @@
 
 mod support;
 
-use second::record::Record;
 use second::relations::Relations;
 use support::asking::{asked, plain};
-use support::drawing::Drawing;
 use support::records;
-
-/// What each event sees, read off the picture by the legend's words: an arrow leads from an event to one that sees it,
-/// and by a filled head that one sees all that the first sees.
-fn read_off(drawing: &Drawing, events: usize) -> Vec<Vec<bool>> {
-    let (all, alone) = (drawing.pairs("seen all"), drawing.pairs("seen alone"));
-    let mut sees = vec![vec![false; events]; events];
-    all.iter().chain(&alone).for_each(|&(from, to)| sees[to][from] = true);
-    // Visibility has no ring, so that no way is longer than this.
-    for _ in 0..events {
-        for &(from, to) in &all {
-            let first = sees[from].clone();
-            sees[to].iter_mut().zip(first).for_each(|(seen, more)| *seen |= more);
-        }
-    }
-    sees
-}
-
-fn said(record: &Record) -> Vec<Vec<bool>> {
-    let events = record.events.len();
-    record.events.iter().map(|event| event.visible[..events].to_vec()).collect()
-}
+use support::seen::{read_off, said};
 
 #[test]
 fn what_events_see_can_be_read_off() {

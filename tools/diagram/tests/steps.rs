@@ -5,6 +5,7 @@ mod support;
 use second::predicates::{Judged, PREDICATES};
 use second::record::{Event, Record};
 use second::relations::Relations;
+use std::collections::BTreeMap;
 use std::sync::OnceLock;
 use support::asking::{asked, plain, told};
 use support::drawing::{Drawing, Element};
@@ -55,14 +56,15 @@ fn steps(predicate: u32) -> impl Iterator<Item = (&'static Case, &'static Drawin
 }
 
 /// The event whose mark a point touches; marks are further apart.
-fn touched(marks: &[Frame], (x, y): Point) -> Option<usize> {
-    marks.iter().position(|mark| mark.shrunk(-2.0).holds(&Frame { left: x, top: y, right: x, bottom: y }))
+fn touched(marks: &BTreeMap<usize, Frame>, (x, y): Point) -> Option<usize> {
+    let holds = |mark: &Frame| mark.shrunk(-2.0).holds(&Frame { left: x, top: y, right: x, bottom: y });
+    marks.iter().find(|(_, mark)| holds(mark)).map(|(&event, _)| event)
 }
 
 /// The event whose time ends at a point.
-fn returned(marks: &[Frame], ends: &[f64], (x, y): Point) -> Option<usize> {
-    let is_there = |event: &usize| (ends[*event] - x).abs() < 0.2 && marks[*event].top < y && y < marks[*event].bottom;
-    (0..marks.len()).find(is_there)
+fn returned(marks: &BTreeMap<usize, Frame>, ends: &BTreeMap<usize, f64>, (x, y): Point) -> Option<usize> {
+    let is_there = |event: &&usize| (ends[*event] - x).abs() < 0.2 && marks[*event].top < y && y < marks[*event].bottom;
+    marks.keys().find(is_there).copied()
 }
 
 /// The way, read off where its bands begin and end.
@@ -157,13 +159,13 @@ fn a_step_of_site_order_goes_along_the_line_of_its_site() {
     let (mut level, mut turned, mut past) = (0, 0, 0);
     for (case, drawing, _, step) in steps(10).filter(|(.., step)| !is_sight(step)) {
         let (marks, (from, to), pieces) = (drawing.marks(), step.ends(), step.pieces());
-        let middle = |event: usize| (marks[event].top + marks[event].bottom) / 2.0;
+        let middle = |event: usize| (marks[&event].top + marks[&event].bottom) / 2.0;
         let (begin, end) = (pieces[0].0, pieces[pieces.len() - 1].1);
         assert!((begin.1 - middle(from)).abs() < 0.2 && (end.1 - middle(to)).abs() < 0.2, "{}", case.name);
         assert!(pieces.iter().all(|(here, there)| here.0 <= there.0) && begin.0 < end.0, "{}", case.name);
         *if begin.1 == end.1 { &mut level } else { &mut turned } += 1;
-        let is_passed = |event: usize| event != from && event != to && marks[event].is_crossed((begin, end));
-        past += usize::from(begin.1 == end.1 && (0..marks.len()).any(is_passed));
+        let is_passed = |&event: &usize| event != from && event != to && marks[&event].is_crossed((begin, end));
+        past += usize::from(begin.1 == end.1 && marks.keys().any(is_passed));
     }
     assert!(level >= 50 && turned >= 20 && past >= 5, "{level}, {turned}, {past}");
 }
@@ -174,17 +176,18 @@ fn a_chain_passes_behind_no_mark_that_is_on_it() {
     for (case, drawing, _, step) in [10, 11].into_iter().flat_map(steps).filter(|(.., step)| !is_sight(step)) {
         let (marks, (from, to), pieces) = (drawing.marks(), step.ends(), step.pieces());
         let on_it = drawing.steps().into_iter().map(|step| step.ends().0);
-        let is_passed = |&event: &usize| event != from && event != to && marks[event].is_crossed(pieces[0]);
+        let is_passed = |&event: &usize| event != from && event != to && marks[&event].is_crossed(pieces[0]);
         let passed = on_it.filter(|_| pieces.len() == 1).find(is_passed);
         assert_eq!(passed, None, "{}: {from} to {to}", case.name);
     }
 }
 
 /// The mark at whose upper left corner a number stands.
-fn numbered(marks: &[Frame], count: &Element) -> Option<usize> {
+fn numbered(marks: &BTreeMap<usize, Frame>, count: &Element) -> Option<usize> {
     let frame = count.frame();
     let is_under = |mark: &Frame| (0.0..8.0).contains(&(mark.top - frame.bottom));
-    marks.iter().position(|mark| (mark.left - frame.right).abs() < 3.0 && is_under(mark))
+    let is_its = |mark: &Frame| (mark.left - frame.right).abs() < 3.0 && is_under(mark);
+    marks.iter().find(|(_, mark)| is_its(mark)).map(|(&event, _)| event)
 }
 
 /// Few are left out: those that the note leaves no room for.

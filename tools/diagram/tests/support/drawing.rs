@@ -2,7 +2,7 @@
 
 use super::frame::{Frame, Point};
 use super::letters::width;
-use std::collections::HashMap;
+use std::collections::{BTreeMap, HashMap};
 
 #[derive(Clone, Debug)]
 pub struct Element {
@@ -52,15 +52,14 @@ impl Drawing {
         Frame { left: 0.0, top: 0.0, right: svg.number("width"), bottom: svg.number("height") }
     }
 
-    /// The frame of each event's mark.
-    pub fn marks(&self) -> Vec<Frame> {
-        let mut marks: Vec<(usize, Frame)> = Vec::new();
+    /// The frame of each event's mark. No event has two.
+    pub fn marks(&self) -> BTreeMap<usize, Frame> {
+        let mut marks = BTreeMap::new();
         for element in self.named("rect").filter(|element| element.class() == "body") {
-            marks.extend(element.event.map(|event| (event, element.frame())));
+            let before = element.event.and_then(|event| marks.insert(event, element.frame()));
+            assert!(before.is_none());
         }
-        marks.sort_by_key(|mark| mark.0);
-        assert!(marks.iter().enumerate().all(|(number, mark)| number == mark.0));
-        marks.into_iter().map(|mark| mark.1).collect()
+        marks
     }
 
     /// The lines between two events, of any kind.
@@ -78,10 +77,10 @@ impl Drawing {
     }
 
     /// Where each event's time ends: at the end of the line after its mark, or of the mark where it has none.
-    pub fn returns(&self) -> Vec<f64> {
-        let mut ends: Vec<f64> = self.marks().iter().map(|mark| mark.right).collect();
+    pub fn returns(&self) -> BTreeMap<usize, f64> {
+        let mut ends: BTreeMap<usize, f64> = self.marks().iter().map(|(&event, mark)| (event, mark.right)).collect();
         for line in self.named("line").filter(|line| line.class() == "until") {
-            line.event.iter().for_each(|&event| ends[event] = line.number("x2"));
+            ends.extend(line.event.map(|event| (event, line.number("x2"))));
         }
         ends
     }

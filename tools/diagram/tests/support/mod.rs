@@ -6,6 +6,8 @@ pub mod drawing;
 pub mod frame;
 pub mod letters;
 pub mod lines;
+pub mod parts;
 pub mod program;
 pub mod records;
+pub mod seen;
 pub mod truth;
