@@ -6,7 +6,7 @@ use support::folder::Folder;
 use support::{gcr, shell_in};
 
 /// The letters of the longest line.
-const WIDTH: usize = 112;
+const WIDTH: usize = 110;
 
 /// The commands that `gcr --help` names, each with its help.
 fn helps() -> Vec<(String, String)> {

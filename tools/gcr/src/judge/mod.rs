@@ -49,7 +49,7 @@ refused. A folder stands for its files that end in .gcr; - or no file is standar
   --csv          rows for each record
   --quiet        nothing of records that are met
 
-Exit status: 0 all met, 1 something broken, 2 something refused, 3 something not read, the highest that applies.
+Exit status: 0 all met, 1 something broken, 2 something refused, 3 something not read; the highest counts.
 
   gcr judge records/clocks.gcr records/stale-read.gcr
   records/clocks.gcr: met
