@@ -26,7 +26,7 @@ gcr make [FILE] [-o OUT] [--csv]: makes a record of text as gcr show writes it, 
   --csv   the text has cells with commas between them; so it is read too where FILE ends in .csv
 
 Before the columns come the number of sites and, where there are such, the difference of clocks and openings.
-The columns event and state may be left out. # begins a remark. What cannot be read is told by line and column.
+The columns event and state may be left out. # begins a remark. What is wrong is told by line and column.
 
 Example: gcr show records/stale-read.gcr > day.txt; gcr make day.txt -o day.gcr
 ";
