@@ -39,7 +39,7 @@ Draws what each event of a record sees, in SVG, and where a predicate or model i
   --object O      draws events on this object; may be given several times
   -o PICTURE.svg  writes to this file; else the picture goes to standard output
 
-Of several kinds events are drawn that all of them allow; A and B, and the events of a break, are always drawn.
+Of several kinds events are drawn that all of them allow; A, B and the events of a break are always drawn.
 FILE is a record; without it, or where it is -, the record comes from standard input.
 Exit status: 0 drawn, whatever is broken; 2 the record was refused; 3 FILE could not be read or the picture
 not be written; 4 the words were not understood, or the record has no such event or site, or nothing to draw.

@@ -15,7 +15,7 @@ fn helps() -> Vec<(String, String)> {
     let names: Vec<&str> = lines.filter_map(|line| line.split(' ').next()).collect();
     assert_eq!(names, ["judge", "show", "make", "explain", "rehearse", "draw"]);
     let help = |name: &str| (name.to_string(), gcr(&[name, "--help"]).done().text().to_string());
-    names.into_iter().map(help).filter(|(_, help)| !help.trim().is_empty()).collect()
+    names.into_iter().map(help).collect()
 }
 
 /// The options that a text names.
