@@ -19,18 +19,23 @@ fn refused(bytes: &[u8], asked: Asked) -> String {
     draw("record", bytes, asked, &Part::whole()).expect_err("it is refused").to_string()
 }
 
-/// The records of the pictures that documents have, and the predicates that are asked.
-const KEPT: [(&str, u32); 5] = [("stale-read", 5), ("listing", 3), ("opening", 1), ("early-read", 3), ("long-way", 10)];
+/// The records of the pictures that documents have, the predicates that are asked, and the parts that are drawn.
+fn kept() -> [(&'static str, u32, Part); 6] {
+    let busy_day = Part { around: Some((23, 150)), sites: vec![4, 5], objects: Vec::new() };
+    let whole = |name, predicate| (name, predicate, Part::whole());
+    let [stale_read, listing, opening] = [whole("stale-read", 5), whole("listing", 3), whole("opening", 1)];
+    let [early_read, long_way] = [whole("early-read", 3), whole("long-way", 10)];
+    [stale_read, listing, opening, early_read, long_way, ("busy-day", 5, busy_day)]
+}
 
 #[test]
 fn the_pictures_of_the_documents_are_what_is_drawn() {
     let root = format!("{}/../..", env!("CARGO_MANIFEST_DIR"));
-    for (name, number) in KEPT {
+    for (name, number, part) in kept() {
         let record = std::fs::read(format!("{root}/records/{name}.gcr")).expect("it ships");
-        let picture = draw(&format!("{name}.gcr"), &record, Asked::Predicate(predicate(number)), &Part::whole())
-            .expect("it is drawn");
+        let picture = draw(&format!("{name}.gcr"), &record, Asked::Predicate(predicate(number)), &part);
         let kept = std::fs::read_to_string(format!("{root}/docs/pictures/{name}.svg")).expect("it is kept");
-        assert!(picture == kept, "{name}");
+        assert!(picture.expect("it is drawn") == kept, "{name}");
     }
 }
 
@@ -41,6 +46,16 @@ fn the_record_of_a_long_way_is_as_it_is_made_here() {
     let judged = Judged::new(&long_way);
     let broken: Vec<u32> = PREDICATES.filter(|&predicate| judged.answer(predicate) != Answer::Met).collect();
     assert_eq!(broken, [2, 5, 9, 10, 13]);
+}
+
+#[test]
+fn the_record_of_a_busy_day_is_as_it_is_made_here() {
+    let busy_day = records::busy_day();
+    assert!(busy_day.to_bytes() == include_bytes!("../../../records/busy-day.gcr"));
+    let judged = Judged::new(&busy_day);
+    assert_eq!((busy_day.events.len(), busy_day.sites), (256, 8));
+    assert!([5, 10].iter().all(|&predicate| judged.answer(predicate) != Answer::Met));
+    assert!([1, 11].iter().all(|&predicate| judged.answer(predicate) == Answer::Met));
 }
 
 #[test]

@@ -1,9 +1,10 @@
 //! Text in lines that are not too long.
 
-/// Breaks between words, and inside a word only where it is too long for any line. Nothing is left out.
+/// Breaks between words, and inside a word only where it is too long for any line. A number stays with the word before it,
+/// which says what it counts. Nothing is left out.
 pub fn wrapped(text: &str, most: f64, width: impl Fn(&str) -> f64) -> Vec<String> {
     let mut lines = vec![String::new()];
-    for word in text.split(' ') {
+    for word in &units(text, most, &width) {
         let last = lines.last_mut().expect("there is a line from the start");
         let joined = if last.is_empty() { word.to_string() } else { format!("{last} {word}") };
         if width(&joined) <= most {
@@ -14,6 +15,20 @@ pub fn wrapped(text: &str, most: f64, width: impl Fn(&str) -> f64) -> Vec<String
     }
     lines.retain(|line| !line.is_empty());
     lines
+}
+
+/// The words, each with a number after it where both have room in a line.
+fn units(text: &str, most: f64, width: &impl Fn(&str) -> f64) -> Vec<String> {
+    let words: Vec<&str> = text.split(' ').collect();
+    let unit = |words: &[&str]| match words.join(" ") {
+        whole if width(&whole) <= most => vec![whole],
+        _ => words.iter().map(|word| word.to_string()).collect(),
+    };
+    words.chunk_by(|word, next| !is_number(word) && is_number(next)).flat_map(unit).collect()
+}
+
+fn is_number(word: &str) -> bool {
+    word.starts_with(|letter: char| letter.is_ascii_digit())
 }
 
 /// A word in pieces that are not too long; a letter that alone is, is a piece.
@@ -45,7 +60,14 @@ mod tests {
     }
 
     #[test]
+    fn a_number_stays_with_the_word_before_it() {
+        assert_eq!(wrapped_at("but it did not see event 0", 24), ["but it did not see", "event 0"]);
+        assert_eq!(wrapped_at("through events 2, 3, 4 and 5", 14), ["through", "events 2, 3, 4", "and 5"]);
+    }
+
+    #[test]
     fn a_long_word_breaks_too_and_nothing_is_lost() {
         assert_eq!(wrapped_at("in abcdefghij.gcr now", 6), ["in", "abcdef", "ghij.g", "cr now"]);
+        assert_eq!(wrapped_at("abcdefgh: 2 now", 6), ["abcdef", "gh: 2", "now"]);
     }
 }

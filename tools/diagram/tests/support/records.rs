@@ -2,6 +2,7 @@
 
 use second::generate::random::Random;
 use second::generate::{chains, openings, shapes};
+use second::openings::Openings;
 use second::record::{Event, Record};
 use second::store::{Call, Store};
 
@@ -96,7 +97,53 @@ pub fn long_way() -> Record {
     Record::in_order(3, events).with_positions(&[0, 1, 2, 6, 3, 4, 5]).apart(0)
 }
 
-/// The records that ship.
+/// `records/busy-day.gcr`: a day of 256 events at eight sites, as a store leaves it, but for one read that has lost sight of
+/// a write which an earlier read of its site saw, and holds what the object had before that.
+pub fn busy_day() -> Record {
+    let mut random = Random::new(5);
+    let openings = (0..6).fold(Openings::none(), |openings, object| openings.with(2 * object, 10 * object as u32));
+    let mut store = Store::opened(8, openings);
+    while store.events() < 256 {
+        let (site, object) = (random.index(8), random.index(12));
+        let value = 100 + random.below(900) as u32;
+        let call = if random.chance(40) { Call::Put { site, object, value } } else { Call::Get { site, object } };
+        store.call(&call.to_bytes());
+        for _ in 0..8 {
+            let (site, event) = (random.index(8), random.index(store.events()));
+            store.call(&Call::Deliver { site, event }.to_bytes());
+        }
+    }
+    let mut record = store.record();
+    let (read, write) = stale(&record).expect("a day has reads of one site on one object");
+    record.events[read].visible[write] = false;
+    let opening = record.edition.openings().of(record.events[read].object.into());
+    record.events[read].value = last_seen(&record, read).map_or(opening, |write| record.events[write].value);
+    record
+}
+
+/// The write on its object that is the last in arbitration of those that a read sees.
+fn last_seen(record: &Record, read: usize) -> Option<usize> {
+    let is_on_it =
+        |write: &usize| record.events[*write].is_write() && record.events[*write].object == record.events[read].object;
+    let seen = (0..record.events.len()).filter(|&write| record.events[read].visible[write]).filter(is_on_it);
+    seen.max_by_key(|&write| record.events[write].position)
+}
+
+/// A read in the second half of the day, and the last write on its object that it sees, of another site; an earlier read of
+/// its site sees that write too.
+fn stale(record: &Record) -> Option<(usize, usize)> {
+    let sees = |event: usize, write: usize| record.events[event].visible[write];
+    let is_before = |one: usize, other: usize| {
+        let (one, other) = (&record.events[one], &record.events[other]);
+        one.is_read() && one.site == other.site && one.end.is_some_and(|end| end < other.start)
+    };
+    let reads = (record.events.len() / 2..record.events.len()).filter(|&read| record.events[read].is_read());
+    let with_last = reads.filter_map(|read| Some((read, last_seen(record, read)?)));
+    let mut foreign = with_last.filter(|&(read, write)| record.events[read].site != record.events[write].site);
+    foreign.find(|&(read, write)| (0..read).any(|one| is_before(one, read) && sees(one, write)))
+}
+
+/// The records that ship, but for that of a busy day.
 pub fn shipped() -> Vec<Record> {
     let listing = include_bytes!("../../../../records/listing.gcr");
     let stale_read = include_bytes!("../../../../records/stale-read.gcr");
