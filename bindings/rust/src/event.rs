@@ -78,7 +78,7 @@ impl Event {
     /// Reads a slot of a record that passed its questions.
     pub(crate) fn from_slot(slot: &[u8]) -> Event {
         let number = |at: Range<usize>| slot[at].iter().rev().fold(0, |sum, &byte| sum << 8 | u64::from(byte));
-        let mut visible = [0; 32];
+        let mut visible = *VisibleSet::none().as_bytes();
         visible.copy_from_slice(&slot[at::VISIBLE]);
         Event {
             kind: if slot[at::KIND] == 1 { Kind::Write } else { Kind::Read },

@@ -14,6 +14,9 @@ const DIFFERENCE: Range<usize> = 8..12;
 /// In edition `GCR1`, which has none, these bytes are zero.
 const OPENINGS: Range<usize> = 12..144;
 
+/// The most events that a record has.
+pub const EVENTS_MOST: usize = 256;
+
 /// All that a record says: it is read from the bytes of a record that passes its questions, or filled in by a host.
 ///
 /// ```

@@ -1,9 +1,10 @@
 //! What an event sees.
 
+use crate::EVENTS_MOST;
 use core::fmt;
 
 /// A bit for each event of the longest record.
-const BYTES: usize = 32;
+const BYTES: usize = EVENTS_MOST / 8;
 
 /// The events that are visible to an event.
 ///
@@ -48,7 +49,7 @@ impl VisibleSet {
 
     /// The events that are seen, rising.
     pub fn iter(&self) -> impl Iterator<Item = u16> + '_ {
-        (0..8 * BYTES as u16).filter(|&event| self.contains(event))
+        (0..EVENTS_MOST as u16).filter(|&event| self.contains(event))
     }
 
     pub(crate) fn from_bytes(bytes: [u8; BYTES]) -> VisibleSet {
@@ -72,7 +73,7 @@ impl Default for VisibleSet {
 /// Where no record has an event of such a number.
 impl FromIterator<u16> for VisibleSet {
     fn from_iter<I: IntoIterator<Item = u16>>(events: I) -> VisibleSet {
-        let one_more = |seen: VisibleSet, event| seen.with(event).expect("events are numbered 0 to 255");
+        let one_more = |seen: VisibleSet, event| seen.with(event).expect("a record has such an event");
         events.into_iter().fold(VisibleSet::none(), one_more)
     }
 }

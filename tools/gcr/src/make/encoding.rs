@@ -1,7 +1,7 @@
 //! The record's bytes, or why there are none.
 
 use crate::table::{Form, Table};
-use gcr::{Record, Refusal};
+use gcr::{Record, Refusal, EVENTS_MOST};
 
 /// What the text says, encoded, if the proved reader passes it; else what is wrong, and where.
 pub fn encoded(form: Form, text: &str) -> Result<Vec<u8>, String> {
@@ -23,8 +23,8 @@ fn in_rows(record: &Record, refusal: Refusal) -> String {
     let (sites, events) = (record.sites, record.count());
     match refusal.number {
         3 | 5 => format!(
-            " There are 1 to 8 sites and at most 256 events, and in GCR1 neither clocks that differ nor openings. \
-             (The text has sites {sites}, events {events}, edition {}.)",
+            " There are 1 to 8 sites and at most {EVENTS_MOST} events, and in GCR1 neither clocks that differ nor \
+             openings. (The text has sites {sites}, events {events}, edition {}.)",
             record.edition
         ),
         7 => " In a row the site is below the number of sites, a write has a value, a pending read has none, and the \

@@ -1,12 +1,12 @@
 //! What an event sees, in ranges: `0..5 7` is 0 to 5, with both, and 7.
 
 use crate::text::{Bad, Word};
-use gcr::VisibleSet;
+use gcr::{VisibleSet, EVENTS_MOST};
 
 const TO: &str = "..";
 
 /// No record has an event above it.
-const LAST: u64 = 255;
+const LAST: u64 = EVENTS_MOST as u64 - 1;
 
 /// The fewest ranges, rising. Nothing where nothing is seen.
 pub fn written(seen: &VisibleSet) -> String {
