@@ -66,9 +66,8 @@ impl Part {
         let mut by_start: Vec<usize> = record.numbers().collect();
         let Some((a, b)) = self.around else { return by_start };
         by_start.sort_by_key(|&event| (record.events[event].start, event));
-        let place = |event: usize| by_start.iter().position(|&other| other == event);
-        let is_near = |at: usize, event: usize| place(event).is_some_and(|place| place.abs_diff(at) <= BESIDE);
-        let near = (0..by_start.len()).filter(|&at| is_near(at, a) || is_near(at, b));
-        near.map(|at| by_start[at]).collect()
+        let places = [a, b].map(|event| by_start.iter().position(|&other| other == event));
+        let is_near = |at: usize| places.iter().flatten().any(|place| place.abs_diff(at) <= BESIDE);
+        (0..by_start.len()).filter(|&at| is_near(at)).map(|at| by_start[at]).collect()
     }
 }
