@@ -1,14 +1,20 @@
 //! `gcr draw`, run as people do.
 
-mod running;
+mod support;
 
 use diagram::{draw, Asked, Part};
 use gcr::{Model, Predicate};
-use running::{fed, folder, gcr, record, text, unread, written_to, Run};
 use std::fs;
+use support::folder::Folder;
+use support::{gcr, piped, to_closed_pipe, to_full_device, Ran};
 
 fn bytes(name: &str) -> Vec<u8> {
-    fs::read(record(name)).expect("it ships")
+    support::bytes(&record(name))
+}
+
+/// A record that ships, as its name is typed.
+fn record(name: &str) -> String {
+    format!("records/{name}")
 }
 
 /// What the library draws of a record that ships.
@@ -19,36 +25,35 @@ fn drawn(name: &str, asked: Asked, part: &Part) -> String {
 #[test]
 fn a_picture_goes_to_standard_output_whatever_the_verdict() {
     let plain = drawn("listing.gcr", Asked::Nothing, &Part::whole());
-    assert!(gcr(&["draw", &record("listing.gcr")]).ends(0) == plain);
+    assert!(gcr(&["draw", &record("listing.gcr")]).ends(0).text() == plain);
     let kept = include_str!("../../../docs/pictures/stale-read.svg");
     for predicate in ["5", "MonotonicReads", "monotonic-reads"] {
-        assert!(gcr(&["draw", "--predicate", predicate, &record("stale-read.gcr")]).ends(0) == kept);
+        assert!(gcr(&["draw", "--predicate", predicate, &record("stale-read.gcr")]).ends(0).text() == kept);
     }
     let causal = drawn("long-way.gcr", Asked::Model(Model::Causal), &Part::whole());
-    assert!(gcr(&["draw", &record("long-way.gcr"), "--model=causal"]).ends(0) == causal);
+    assert!(gcr(&["draw", &record("long-way.gcr"), "--model=causal"]).ends(0).text() == causal);
 }
 
 #[test]
 fn a_picture_goes_to_the_file_that_is_named() {
-    let folder = folder("draw-file");
-    let path = folder.join("picture.svg");
-    fs::write(&path, "before").expect("it can be written");
-    assert_eq!(gcr(&["draw", "-o", text(&path), &record("listing.gcr")]).ends(0), "");
+    let folder = Folder::new();
+    let path = folder.file("picture.svg", "before");
+    assert_eq!(gcr(&["draw", "-o", &path, &record("listing.gcr")]).ends(0).text(), "");
     assert!(fs::read_to_string(&path).expect("it is there") == drawn("listing.gcr", Asked::Nothing, &Part::whole()));
-    assert_eq!(fs::read_dir(&folder).expect("it is there").count(), 1);
+    assert_eq!(folder.names(), ["picture.svg"]);
 }
 
 #[test]
 fn a_record_by_a_pipe_is_named_so() {
     let due = draw("standard input", &bytes("listing.gcr"), Asked::Nothing, &Part::whole()).expect("it is drawn");
-    assert!(fed(&["draw"], &bytes("listing.gcr")).ends(0) == due);
-    assert!(fed(&["draw", "-"], &bytes("listing.gcr")).ends(0) == due);
+    assert!(piped(&["draw"], &bytes("listing.gcr")).ends(0).text() == due);
+    assert!(piped(&["draw", "-"], &bytes("listing.gcr")).ends(0).text() == due);
 }
 
 #[test]
 fn a_part_is_drawn_as_it_is_asked_for() {
     let busy_day = record("busy-day.gcr");
-    let of = |words: &[&str]| gcr(&[&["draw", &busy_day], words].concat()).ends(0);
+    let of = |words: &[&str]| gcr(&[&["draw", &busy_day], words].concat()).ends(0).text().to_string();
     let around = Some((23, 150));
     let due = |asked, part: Part| drawn("busy-day.gcr", asked, &part);
     assert!(of(&["--around", "23", "150"]) == due(Asked::Nothing, Part { around, ..Part::whole() }));
@@ -67,7 +72,7 @@ fn a_part_is_drawn_as_it_is_asked_for() {
 fn what_the_record_does_not_have_is_named() {
     let long_way = record("long-way.gcr");
     let fails = |words: &[&str], message: &str| {
-        gcr(&[&["draw", &long_way], words].concat()).fails(4, &format!("{long_way}: {message}"));
+        gcr(&[&["draw", &long_way], words].concat()).ended(4, &format!("{long_way}: {message}"));
     };
     fails(&["--around", "0", "300"], "there is no event 300: the record has events 0 to 6");
     fails(&["--site", "3"], "there is no site 3: the record has sites 0 to 2");
@@ -75,13 +80,14 @@ fn what_the_record_does_not_have_is_named() {
     // the events of a break are drawn in any case
     assert!(gcr(&["draw", &long_way, "--object", "9", "--predicate", "10"])
         .ends(0)
+        .text()
         .contains(": 5 of 7 events at 3 sites"));
 }
 
 #[test]
 fn words_that_are_not_understood_get_the_nearest_right_one() {
     let unclear = |words: &[&str], message: &str| {
-        gcr(&[&["draw"], words].concat()).fails(4, &format!("draw: {message} (gcr draw --help tells more)"));
+        gcr(&[&["draw"], words].concat()).ended(4, &format!("{message} (gcr draw --help tells more)"));
     };
     unclear(&["--arround", "1", "2"], "there is no option --arround; the nearest is --around");
     unclear(&["--around", "1"], "--around takes 2 words");
@@ -98,50 +104,34 @@ fn words_that_are_not_understood_get_the_nearest_right_one() {
 
 #[test]
 fn a_refused_record_leaves_the_file_as_it_was() {
-    let path = folder("draw-refused").join("picture.svg");
-    fs::write(&path, "before").expect("it can be written");
+    let folder = Folder::new();
+    let path = folder.file("picture.svg", "before");
     let sentence = "refused 3 0: The record's length is not a multiple of 512 from 512 to 19,456 bytes.";
-    fed(&["draw", "-o", text(&path)], &[1; 700]).fails(2, &format!("standard input: {sentence}"));
+    piped(&["draw", "-o", &path], &[1; 700]).ended(2, &format!("standard input: {sentence}"));
     assert_eq!(fs::read_to_string(&path).expect("it is there"), "before");
 }
 
 #[test]
 fn what_cannot_be_read_or_written_is_named() {
-    let folder = folder("draw-missing");
-    let (missing, into) = (folder.join("missing.gcr"), folder.join("none").join("picture.svg"));
     let said = "No such file or directory (os error 2)";
-    gcr(&["draw", text(&missing)]).fails(3, &format!("cannot read {}: {said}", text(&missing)));
-    let written = gcr(&["draw", "-o", text(&into), &record("listing.gcr")]);
-    written.fails(3, &format!("cannot write {}: {said}", text(&into)));
-    let full = |run: Run, to: &str| run.fails(3, &format!("cannot write {to}: No space left on device (os error 28)"));
-    full(written_to("/dev/full", &["draw", &record("listing.gcr")]), "to standard output");
+    gcr(&["draw", "missing.gcr"]).ended(3, &format!("cannot read missing.gcr: {said}"));
+    let written = gcr(&["draw", "-o", "none/picture.svg", &record("listing.gcr")]);
+    written.ended(3, &format!("cannot write none/picture.svg: {said}"));
+    let full = |run: Ran, to: &str| run.ended(3, &format!("cannot write {to}: No space left on device (os error 28)"));
+    full(to_full_device(&["draw", &record("listing.gcr")]), "to standard output");
     full(gcr(&["draw", "-o", "/dev/full", &record("listing.gcr")]), "/dev/full");
-    let closed = unread(&["draw"], &bytes("busy-day.gcr"));
-    closed.fails(3, "cannot write to standard output: Broken pipe (os error 32)");
+    let closed = to_closed_pipe(&["draw", &record("busy-day.gcr")]);
+    closed.ended(3, "cannot write to standard output: Broken pipe (os error 32)");
 }
 
 #[test]
 fn a_name_of_any_letters_makes_a_picture() {
-    let folder = folder("draw-named");
+    let folder = Folder::new();
     for (name, title) in [
         ("a&b <text> \"c\".gcr", "a&amp;b &lt;text&gt; \"c\".gcr"),
         ("a\u{1}b\nc\u{202e}d.gcr", "a\u{fffd}b\u{fffd}c\u{fffd}d.gcr"),
     ] {
-        let path = folder.join(name);
-        fs::write(&path, bytes("listing.gcr")).expect("it can be written");
-        let picture = gcr(&["draw", text(&path)]).ends(0);
-        assert!(picture.contains(&format!("<title>{title}: 5 events at 2 sites</title>")));
+        let picture = gcr(&["draw", &folder.file(name, bytes("listing.gcr"))]).ends(0);
+        assert!(picture.text().contains(&format!("<title>{title}: 5 events at 2 sites</title>")));
     }
-}
-
-#[test]
-fn the_help_has_an_example_that_works() {
-    let help = gcr(&["draw", "--help"]).ends(0);
-    assert!(help.starts_with("gcr draw "));
-    let example = "  gcr draw --predicate 10 --around 0 3 -o long-way.svg records/long-way.gcr";
-    assert_eq!(help.lines().last(), Some(example));
-    let path = folder("draw-example").join("long-way.svg");
-    let words = ["draw", "--predicate", "10", "--around", "0", "3", "-o", text(&path), &record("long-way.gcr")];
-    assert_eq!(gcr(&words).ends(0), "");
-    assert!(fs::read_to_string(&path).expect("it is there").starts_with("<svg "));
 }

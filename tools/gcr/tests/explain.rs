@@ -1,9 +1,9 @@
 //! `gcr explain`, run as people do.
 
-mod running;
+mod support;
 
-use running::{fed, folder, gcr, record, text, unread, written_to};
-use std::fs;
+use support::folder::Folder;
+use support::{bytes, gcr, piped, to_closed_pipe, to_full_device};
 
 const STALE_READ: &str = "\
 stale-read.gcr: predicate 5 MonotonicReads is broken at events 0 and 2
@@ -28,26 +28,26 @@ event 0
 
 #[test]
 fn a_break_is_told_and_the_status_says_so() {
-    let stale = record("stale-read.gcr");
+    let stale = "records/stale-read.gcr";
     for predicate in ["MonotonicReads", "monotonic reads", "5"] {
-        assert_eq!(gcr(&["explain", "--predicate", predicate, &stale]).ends(1), STALE_READ);
-        assert_eq!(gcr(&["explain", &stale, &format!("--predicate={predicate}")]).ends(1), STALE_READ);
+        assert_eq!(gcr(&["explain", "--predicate", predicate, stale]).ends(1).text(), STALE_READ);
+        assert_eq!(gcr(&["explain", stale, &format!("--predicate={predicate}")]).ends(1).text(), STALE_READ);
     }
 }
 
 #[test]
 fn without_an_option_the_causal_model_is_told() {
-    let long_way = record("long-way.gcr");
-    assert_eq!(gcr(&["explain", &long_way]).ends(1), LONG_WAY);
+    let long_way = "records/long-way.gcr";
+    assert_eq!(gcr(&["explain", long_way]).ends(1).text(), LONG_WAY);
     for model in ["causal", "Causal", "4"] {
-        assert_eq!(gcr(&["explain", "--model", model, &long_way]).ends(1), LONG_WAY);
+        assert_eq!(gcr(&["explain", "--model", model, long_way]).ends(1).text(), LONG_WAY);
     }
 }
 
 #[test]
 fn what_is_met_is_said_to_be() {
-    let clocks = record("clocks.gcr");
-    let met = |words: &[&str]| gcr(&[&["explain", &clocks], words].concat()).ends(0);
+    let clocks = "records/clocks.gcr";
+    let met = |words: &[&str]| gcr(&[&["explain", clocks], words].concat()).ends(0).text().to_string();
     assert_eq!(met(&[]), "clocks.gcr: model 4 Causal is met: there is nothing to explain\n");
     assert_eq!(met(&["--predicate", "3"]), "clocks.gcr: predicate 3 RealTime is met: there is nothing to explain\n");
     assert_eq!(met(&["--all"]), "clocks.gcr: all predicates are met: there is nothing to explain\n");
@@ -55,53 +55,49 @@ fn what_is_met_is_said_to_be() {
 
 #[test]
 fn all_and_several_are_told_in_turn() {
-    let early = record("early-read.gcr");
-    let all = gcr(&["explain", "--all", &early]).ends(1);
-    let both = gcr(&["explain", "--predicate", "RealTime", "--predicate", "4", &early]).ends(1);
-    assert_eq!(all, both);
-    assert_eq!(all.matches("\n\n").count(), 1);
-    let one_met = gcr(&["explain", "--predicate", "1", "--predicate", "4", &early]).ends(1);
-    let (met, broken) = one_met.split_once("\n\n").expect("there are two");
+    let early = "records/early-read.gcr";
+    let all = gcr(&["explain", "--all", early]).ends(1);
+    let both = gcr(&["explain", "--predicate", "RealTime", "--predicate", "4", early]).ends(1);
+    assert_eq!(all.text(), both.text());
+    assert_eq!(all.text().matches("\n\n").count(), 1);
+    let one_met = gcr(&["explain", "--predicate", "1", "--predicate", "4", early]).ends(1);
+    let (met, broken) = one_met.text().split_once("\n\n").expect("there are two");
     assert_eq!(met, "early-read.gcr: predicate 1 RVal is met: there is nothing to explain");
     assert!(broken.starts_with("early-read.gcr: predicate 4 RealTimeWrites is broken at events 0 and 1\n"));
 }
 
 #[test]
 fn a_record_may_come_by_a_pipe() {
-    let bytes = fs::read(record("stale-read.gcr")).expect("it ships");
+    let bytes = bytes("records/stale-read.gcr");
     let told = STALE_READ.replace("stale-read.gcr", "standard input");
-    assert_eq!(fed(&["explain", "--predicate", "5"], &bytes).ends(1), told);
-    assert_eq!(fed(&["explain", "--predicate", "5", "-"], &bytes).ends(1), told);
+    assert_eq!(piped(&["explain", "--predicate", "5"], &bytes).ends(1).text(), told);
+    assert_eq!(piped(&["explain", "--predicate", "5", "-"], &bytes).ends(1).text(), told);
 }
 
 #[test]
 fn what_is_no_record_is_refused() {
-    let mut damaged = fs::read(record("long-way.gcr")).expect("it ships");
+    let mut damaged = bytes("records/long-way.gcr");
     damaged[600] ^= 1;
-    let path = folder("explain-damaged").join("damaged.gcr");
-    fs::write(&path, damaged).expect("it can be written");
+    let folder = Folder::new();
+    let path = folder.file("damaged.gcr", damaged);
     let sentence = "refused 4 1: The block at this place does not have the check sums of its bytes.";
-    gcr(&["explain", text(&path)]).fails(2, &format!("{}: {sentence}", text(&path)));
+    gcr(&["explain", &path]).ended(2, &format!("{path}: {sentence}"));
     let sentence = "refused 3 0: The record's length is not a multiple of 512 from 512 to 19,456 bytes.";
-    fed(&["explain", "--all"], &[]).fails(2, &format!("standard input: {sentence}"));
-    fed(&["explain"], &[0; 20_000]).fails(2, &format!("standard input: {sentence}"));
+    piped(&["explain", "--all"], &[]).ended(2, &format!("standard input: {sentence}"));
+    piped(&["explain"], &[0; 20_000]).ended(2, &format!("standard input: {sentence}"));
 }
 
 #[test]
 fn a_file_that_cannot_be_read_is_named() {
-    let folder = folder("explain-missing");
-    let missing = folder.join("missing.gcr");
     let said = "No such file or directory (os error 2)";
-    gcr(&["explain", text(&missing)]).fails(3, &format!("cannot read {}: {said}", text(&missing)));
-    let run = gcr(&["explain", text(&folder)]);
-    assert_eq!((run.status, run.out.as_str()), (3, ""));
-    assert!(run.err.starts_with(&format!("gcr: cannot read {}: ", text(&folder))));
+    gcr(&["explain", "missing.gcr"]).ended(3, &format!("cannot read missing.gcr: {said}"));
+    gcr(&["explain", "records"]).ended(3, "cannot read records: Is a directory (os error 21)");
 }
 
 #[test]
 fn words_that_are_not_understood_get_the_nearest_right_one() {
     let unclear = |words: &[&str], message: &str| {
-        gcr(&[&["explain"], words].concat()).fails(4, &format!("explain: {message} (gcr explain --help tells more)"));
+        gcr(&[&["explain"], words].concat()).ended(4, &format!("{message} (gcr explain --help tells more)"));
     };
     unclear(&["--predicate", "MonotonicRead"], "there is no predicate MonotonicRead; the nearest is MonotonicReads");
     unclear(&["--predicate", "14"], "there is no predicate 14");
@@ -116,26 +112,18 @@ fn words_that_are_not_understood_get_the_nearest_right_one() {
 
 #[test]
 fn output_that_cannot_be_written_is_noticed() {
-    let stale = record("stale-read.gcr");
-    let full = written_to("/dev/full", &["explain", "--all", &stale]);
-    full.fails(3, "cannot write to standard output: No space left on device (os error 28)");
-    let closed = unread(&["explain", "--all"], &fs::read(&stale).expect("it ships"));
-    closed.fails(3, "cannot write to standard output: Broken pipe (os error 32)");
-}
-
-#[test]
-fn the_help_has_an_example_that_works() {
-    let help = gcr(&["explain", "--help"]).ends(0);
-    assert!(help.starts_with("gcr explain [--predicate P | --model M | --all] [FILE]\n"));
-    assert!(help.ends_with("\n  gcr explain --predicate MonotonicReads records/stale-read.gcr\n"));
-    assert_eq!(help, gcr(&["help", "explain"]).ends(0));
+    let stale = "records/stale-read.gcr";
+    let full = to_full_device(&["explain", "--all", stale]);
+    full.ended(3, "cannot write to standard output: No space left on device (os error 28)");
+    let closed = to_closed_pipe(&["explain", "--all", stale]);
+    closed.ended(3, "cannot write to standard output: Broken pipe (os error 32)");
 }
 
 #[test]
 fn the_examples_of_the_page_are_what_is_written() {
     let page = include_str!("../../../docs/COMMAND.md");
     let set_in = |text: &str| text.lines().map(|line| format!("    {line}\n")).collect::<String>();
-    let busy_day = gcr(&["explain", "--predicate", "MonotonicReads", &record("busy-day.gcr")]).ends(1);
+    let busy_day = gcr(&["explain", "--predicate", "MonotonicReads", "records/busy-day.gcr"]).ends(1);
     let command = "    gcr explain --predicate MonotonicReads records/busy-day.gcr\n\n";
-    assert!(page.contains(&format!("{command}{}", set_in(&busy_day))));
+    assert!(page.contains(&format!("{command}{}", set_in(busy_day.text()))));
 }

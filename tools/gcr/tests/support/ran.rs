@@ -38,7 +38,13 @@ impl Ran {
     /// It ended well, with nothing to say.
     #[track_caller]
     pub fn done(self) -> Ran {
-        assert_eq!((self.status, self.err.as_str()), (0, ""));
+        self.ends(0)
+    }
+
+    /// It ended so, with nothing to say.
+    #[track_caller]
+    pub fn ends(self, status: i32) -> Ran {
+        assert_eq!((self.status, self.err.as_str()), (status, ""));
         self
     }
 
