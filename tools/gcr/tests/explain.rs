@@ -118,12 +118,3 @@ fn output_that_cannot_be_written_is_noticed() {
     let closed = to_closed_pipe(&["explain", "--all", stale]);
     closed.ended(3, "cannot write to standard output: Broken pipe (os error 32)");
 }
-
-#[test]
-fn the_examples_of_the_page_are_what_is_written() {
-    let page = include_str!("../../../docs/COMMAND.md");
-    let set_in = |text: &str| text.lines().map(|line| format!("    {line}\n")).collect::<String>();
-    let busy_day = gcr(&["explain", "--predicate", "MonotonicReads", "records/busy-day.gcr"]).ends(1);
-    let command = "    gcr explain --predicate MonotonicReads records/busy-day.gcr\n\n";
-    assert!(page.contains(&format!("{command}{}", set_in(busy_day.text()))));
-}
