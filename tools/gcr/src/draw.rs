@@ -44,7 +44,7 @@ FILE is a record; without it, or where it is -, the record comes from standard i
 Exit status: 0 drawn, whatever is broken; 2 the record was refused; 3 FILE could not be read or the picture
 not be written; 4 the words were not understood, or the record has no such event or site, or nothing to draw.
 
-  gcr draw --predicate 10 --around 0 3 -o long-way.svg records/long-way.gcr
+  gcr draw --predicate 5 --around 23 150 -o busy-day.svg records/busy-day.gcr
 ";
 
 fn run(words: &Words) -> Result<Ending, Failure> {

@@ -27,14 +27,11 @@ pub enum Breaks {
 
 impl Asked {
     pub(crate) fn judge(self, record: &[u8]) -> Result<Option<Finding>, Refusal> {
-        match self {
-            Asked::Nothing => Ok(None),
-            Asked::Predicate(asked) => Finding::of_predicate(asked, record).map(Some),
-            Asked::Model(asked) => {
-                let broken = broken_of(asked, record)?.next().transpose()?;
-                Ok(Some(Finding::of_model(asked, broken)))
-            }
-        }
+        Ok(match self {
+            Asked::Nothing => None,
+            Asked::Predicate(asked) => Some(Finding::of_predicate(asked, Broken::of(asked, record)?)),
+            Asked::Model(asked) => Some(Finding::of_model(asked, of_model(asked, record)?.next().transpose()?)),
+        })
     }
 }
 
@@ -42,26 +39,34 @@ impl Breaks {
     /// What there is to tell: of all predicates nothing where all are met.
     pub(crate) fn judge(&self, record: &[u8]) -> Result<Vec<Finding>, Refusal> {
         match self {
-            Breaks::Of(asked) => asked.iter().map(|&asked| Finding::of_predicate(asked, record)).collect(),
+            Breaks::Of(asked) => {
+                let finding = |&asked| Ok(Finding::of_predicate(asked, Broken::of(asked, record)?));
+                asked.iter().map(finding).collect()
+            }
             Breaks::OfModel(asked) => {
-                let broken: Vec<Broken> = broken_of(*asked, record)?.collect::<Result<_, _>>()?;
+                let broken: Vec<Broken> = of_model(*asked, record)?.collect::<Result<_, _>>()?;
                 let met = broken.is_empty().then(|| Finding::of_model(*asked, None));
                 let findings = broken.into_iter().map(|broken| Finding::of_model(*asked, Some(broken)));
                 Ok(findings.chain(met).collect())
             }
             Breaks::All => {
-                let each = Predicate::ALL.iter().map(|&asked| Finding::of_predicate(asked, record));
-                each.filter(|finding| !finding.as_ref().is_ok_and(|finding| finding.broken.is_none())).collect()
+                let finding = |broken: Broken| Finding::of_predicate(broken.predicate, Some(broken));
+                broken(Predicate::ALL, record).map(|broken| broken.map(finding)).collect()
             }
         }
     }
 }
 
 /// The breaks of a model's predicates, in its order; none where the model is met.
-fn broken_of(model: Model, record: &[u8]) -> Result<impl Iterator<Item = Result<Broken, Refusal>> + '_, Refusal> {
+fn of_model(model: Model, record: &[u8]) -> Result<impl Iterator<Item = Result<Broken, Refusal>> + '_, Refusal> {
     let predicates = match judge_model(model, record)? {
         Verdict::Met => &[],
         Verdict::Broken { .. } => model.predicates(),
     };
-    Ok(predicates.iter().filter_map(|&predicate| Broken::of(predicate, record).transpose()))
+    Ok(broken(predicates, record))
+}
+
+/// The breaks of those that are broken.
+fn broken<'a>(predicates: &'a [Predicate], record: &'a [u8]) -> impl Iterator<Item = Result<Broken, Refusal>> + 'a {
+    predicates.iter().filter_map(|&predicate| Broken::of(predicate, record).transpose())
 }

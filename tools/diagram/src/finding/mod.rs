@@ -6,7 +6,7 @@ mod broken;
 pub use asked::{Asked, Breaks};
 pub use broken::Broken;
 
-use gcr::{Model, Predicate, Refusal};
+use gcr::{Model, Predicate};
 
 /// A verdict with the words that tell it.
 pub struct Finding {
@@ -20,12 +20,12 @@ pub struct Finding {
 }
 
 impl Finding {
-    pub fn of_predicate(asked: Predicate, record: &[u8]) -> Result<Finding, Refusal> {
-        let broken = Broken::of(asked, record)?;
-        Ok(Finding { name: named(asked), sentences: vec![asked.sentence()], broken, by: String::new() })
+    /// Of a predicate that is broken so, or is met.
+    pub fn of_predicate(asked: Predicate, broken: Option<Broken>) -> Finding {
+        Finding { name: named(asked), sentences: vec![asked.sentence()], broken, by: String::new() }
     }
 
-    /// Of a model that is broken so, or is met.
+    /// The same of a model.
     pub fn of_model(asked: Model, broken: Option<Broken>) -> Finding {
         let predicate = broken.as_ref().map(|broken| broken.predicate);
         let by = predicate.map_or(String::new(), |predicate| format!(" by {}", named(predicate)));

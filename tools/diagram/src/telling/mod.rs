@@ -34,7 +34,10 @@ pub fn explain(name: &str, bytes: &[u8], breaks: &Breaks) -> Result<Explanation,
     let findings = breaks.judge(bytes)?;
     let is_broken = findings.iter().any(|finding| finding.broken.is_some());
     let told: Vec<String> = findings.iter().map(|finding| text(name, &record, finding)).collect();
-    let text = if told.is_empty() { met(name, "all predicates are met") } else { told.join("\n") };
+    let text = match breaks {
+        Breaks::All if told.is_empty() => met(name, "all predicates are met"),
+        _ => told.join("\n"),
+    };
     Ok(Explanation { text, is_broken })
 }
 
