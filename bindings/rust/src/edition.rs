@@ -43,6 +43,10 @@ impl fmt::Display for Edition {
 }
 
 /// From its letters, large or small.
+///
+/// # Errors
+///
+/// Where they are of no edition.
 impl core::str::FromStr for Edition {
     type Err = crate::UnknownName;
 

@@ -47,6 +47,39 @@ pub fn judge_model(model: Model, record: &[u8]) -> Result<Verdict, Refusal> {
     ffi::judge_model(model.number(), record).verdict()
 }
 
+/// By which predicate a model is broken: the first in its list that is, at the pair that [`judge_model`] names. None
+/// where the model is met.
+///
+/// # Errors
+///
+/// By 3 to 10, where the record does not pass its questions.
+///
+/// # Panics
+///
+/// Where the library finds the model broken otherwise than by the first broken one of
+/// [`predicates`](Model::predicates): that table would not be the library's.
+///
+/// ```
+/// use gcr::{broken_by, Model, Predicate};
+///
+/// let record = include_bytes!("../../../records/stale-read.gcr");
+/// assert_eq!(broken_by(Model::Causal, record)?, Some(Predicate::CausalVisibility));
+/// assert_eq!(broken_by(Model::Pram, record)?, None);
+/// # Ok::<(), gcr::Refusal>(())
+/// ```
+pub fn broken_by(model: Model, record: &[u8]) -> Result<Option<Predicate>, Refusal> {
+    let found = judge_model(model, record)?;
+    for &predicate in model.predicates() {
+        let verdict = judge_predicate(predicate, record)?;
+        if verdict != Verdict::Met {
+            assert_eq!(verdict, found, "{model} is broken otherwise than by {predicate}");
+            return Ok(Some(predicate));
+        }
+    }
+    assert_eq!(found, Verdict::Met, "{model} is broken by none of its predicates");
+    Ok(None)
+}
+
 /// Judges one predicate.
 ///
 /// # Errors

@@ -33,7 +33,6 @@
 //!
 //! The library has no static state and keeps nothing that it is lent, so every call here may run on several threads
 //! at once. 128 KB of the thread's stack are enough for any of them.
-
 //!
 //! Nothing here needs `std`; there must be an allocator.
 
@@ -72,7 +71,7 @@ pub use clocks::{difference, with_difference};
 pub use edition::Edition;
 pub use event::{Event, Kind};
 pub use explaining::{explain, explain_into, EXPLAIN_ENTRIES};
-pub use judging::{judge_all, judge_model, judge_predicate, Verdict};
+pub use judging::{broken_by, judge_all, judge_model, judge_predicate, Verdict};
 pub use model::Model;
 pub use numbered::UnknownName;
 pub use openings::{Openings, OPENINGS_BYTES};

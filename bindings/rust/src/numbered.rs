@@ -56,7 +56,9 @@ macro_rules! numbered {
             fn from_str(word: &str) -> Result<$kind, $crate::UnknownName> {
                 let is_it = |each: &&$kind| $crate::numbered::same_name(each.name(), word);
                 let named = $kind::ALL.iter().find(is_it).copied();
-                let numbered = || word.parse::<u32>().ok().and_then(|number| $kind::try_from(number).ok());
+                let is_number = word.bytes().all(|byte| byte.is_ascii_digit());
+                let number = || word.parse::<u32>().ok().filter(|_| is_number);
+                let numbered = || number().and_then(|number| $kind::try_from(number).ok());
                 named.or_else(numbered).ok_or($crate::UnknownName)
             }
         }

@@ -88,7 +88,7 @@ impl Record {
         self.events.get(usize::from(number))
     }
 
-    /// The events in order, each with its number.
+    /// The events in order, each with its number; of more than 65,536, which no record has, numbers begin anew.
     ///
     /// ```
     /// let record = gcr::Record::read(include_bytes!("../../../records/stale-read.gcr"))?;

@@ -1,6 +1,6 @@
 //! What records say, and that it leads back to their bytes.
 
-use gcr::{is_visible, judge_model, judge_predicate, rehearse, script, Model, Predicate, Verdict};
+use gcr::{broken_by, is_visible, judge_model, judge_predicate, rehearse, script, Model, Predicate, Verdict};
 use gcr::{Call, Edition, Event, Kind, Openings, Record, VisibleSet, RECORD_MOST, WORK_WORDS};
 
 mod shipped;
@@ -103,6 +103,7 @@ fn a_model_breaks_at_the_first_of_its_predicates_that_breaks() {
             let verdicts = model.predicates().iter().map(|&predicate| judge_predicate(predicate, &bytes).unwrap());
             let first = verdicts.into_iter().find(|&verdict| verdict != Verdict::Met);
             assert_eq!(judge_model(model, &bytes), Ok(first.unwrap_or(Verdict::Met)), "{name}, {model}");
+            assert_eq!(broken_by(model, &bytes).unwrap().is_some(), first.is_some());
         }
     }
 }
@@ -118,7 +119,7 @@ fn names_lead_back_to_what_has_them() {
         assert_eq!(model.name().to_lowercase().parse(), Ok(model));
     }
     assert_eq!("per-object sequential".parse(), Ok(Model::PerObjectSequential));
-    for word in ["", "14", "0", "-1", "RVal2", "causal causal"] {
+    for word in ["", "14", "0", "-1", "+5", "RVal2", "causal causal"] {
         assert!(word.parse::<Predicate>().is_err() && word.parse::<Model>().is_err(), "{word}");
     }
     assert_eq!("gcr1".parse(), Ok(Edition::Gcr1));

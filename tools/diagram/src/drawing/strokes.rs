@@ -22,8 +22,10 @@ pub fn straight(from: Point, to: Point) -> String {
     steps(&[("M", &[from]), ("L", &[to])])
 }
 
+/// By a square root, which asks nothing of libm: its `hypot` would need a newer one than all else here.
 fn distance(one: Point, other: Point) -> f64 {
-    (one.x - other.x).hypot(one.y - other.y)
+    let (x, y) = (one.x - other.x, one.y - other.y);
+    (x * x + y * y).sqrt()
 }
 
 /// So far from one point towards another.

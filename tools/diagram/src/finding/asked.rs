@@ -1,7 +1,7 @@
 //! What is asked of a record.
 
 use super::{Broken, Finding};
-use gcr::{judge_model, Model, Predicate, Refusal, Verdict};
+use gcr::{broken_by, Model, Predicate, Refusal};
 
 /// What a picture is to show beside what the record says.
 #[derive(Clone, Copy, Debug, PartialEq, Eq)]
@@ -30,7 +30,7 @@ impl Asked {
         Ok(match self {
             Asked::Nothing => None,
             Asked::Predicate(asked) => Some(Finding::of_predicate(asked, Broken::of(asked, record)?)),
-            Asked::Model(asked) => Some(Finding::of_model(asked, of_model(asked, record)?.next().transpose()?)),
+            Asked::Model(asked) => Some(Finding::of_model(asked, of_model(asked, record)?.into_iter().next())),
         })
     }
 }
@@ -44,7 +44,7 @@ impl Breaks {
                 asked.iter().map(finding).collect()
             }
             Breaks::OfModel(asked) => {
-                let broken: Vec<Broken> = of_model(*asked, record)?.collect::<Result<_, _>>()?;
+                let broken = of_model(*asked, record)?;
                 let met = broken.is_empty().then(|| Finding::of_model(*asked, None));
                 let findings = broken.into_iter().map(|broken| Finding::of_model(*asked, Some(broken)));
                 Ok(findings.chain(met).collect())
@@ -58,12 +58,11 @@ impl Breaks {
 }
 
 /// The breaks of a model's predicates, in its order; none where the model is met.
-fn of_model(model: Model, record: &[u8]) -> Result<impl Iterator<Item = Result<Broken, Refusal>> + '_, Refusal> {
-    let predicates = match judge_model(model, record)? {
-        Verdict::Met => &[],
-        Verdict::Broken { .. } => model.predicates(),
-    };
-    Ok(broken(predicates, record))
+fn of_model(model: Model, record: &[u8]) -> Result<Vec<Broken>, Refusal> {
+    match broken_by(model, record)? {
+        None => Ok(Vec::new()),
+        Some(_) => broken(model.predicates(), record).collect(),
+    }
 }
 
 /// The breaks of those that are broken.

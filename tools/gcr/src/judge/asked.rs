@@ -32,14 +32,6 @@ impl Question {
             Question::Predicate(predicate) => predicate.name(),
         }
     }
-
-    /// The predicates that it asks, in order.
-    pub fn predicates(&self) -> Vec<Predicate> {
-        match self {
-            Question::Model(model) => model.predicates().to_vec(),
-            Question::Predicate(predicate) => vec![*predicate],
-        }
-    }
 }
 
 /// Models first; the house's rule where nothing else is asked.

@@ -3,7 +3,7 @@
 use super::asked::Question;
 use crate::ending::Ending;
 use crate::source::Source;
-use gcr::{judge_model, judge_predicate, Predicate, Refusal, Verdict, RECORD_MOST};
+use gcr::{broken_by, judge_predicate, Predicate, Refusal, Verdict, RECORD_MOST};
 
 pub struct Found {
     pub record: String,
@@ -63,17 +63,14 @@ fn judged(record: &[u8], questions: &[Question]) -> Result<Vec<(Question, Option
     questions.iter().map(|&question| Ok((question, broken(record, question)?))).collect()
 }
 
-/// A model says at which pair it is broken; by which predicate, its predicates' own calls say.
 fn broken(record: &[u8], question: Question) -> Result<Option<Break>, Refusal> {
-    if let Question::Model(model) = question {
-        if judge_model(model, record)? == Verdict::Met {
-            return Ok(None);
-        }
-    }
-    for by in question.predicates() {
-        if let Verdict::Broken { a, b } = judge_predicate(by, record)? {
-            return Ok(Some(Break { by, a, b }));
-        }
-    }
-    Ok(None)
+    let by = match question {
+        Question::Model(model) => broken_by(model, record)?,
+        Question::Predicate(predicate) => Some(predicate),
+    };
+    let Some(by) = by else { return Ok(None) };
+    Ok(match judge_predicate(by, record)? {
+        Verdict::Met => None,
+        Verdict::Broken { a, b } => Some(Break { by, a, b }),
+    })
 }

@@ -69,6 +69,9 @@ mod tests {
             ("3..", 13, number),
             ("1...3", 13, number),
             ("1-3", 10, number),
+            ("#REF!", 10, number),
+            ("0 #N/A", 12, number),
+            ("0#0", 10, number),
             ("0 5..4", 12, "this range ends before it begins"),
         ] {
             assert_eq!(read_of(text), Err(format!("line 4, column {column}: {what}")), "{text}");

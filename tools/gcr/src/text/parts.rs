@@ -1,12 +1,14 @@
 //! Parts of a word or of a cell, each with its own place.
 
-use super::{words, Word};
+use super::word::parted;
+use super::Word;
 
 impl<'a> Word<'a> {
-    /// What stands in it between white space.
+    /// What stands in it between white space. A remark was cut off before, or has no place here: a spreadsheet writes
+    /// `#REF!` where it has no value.
     pub fn words(&self) -> Vec<Word<'a>> {
         let placed = |word: Word<'a>| Word { column: self.column + word.column - 1, ..word };
-        words(self.line, self.text).into_iter().map(placed).collect()
+        parted(self.line, self.text).into_iter().map(placed).collect()
     }
 
     /// What stands before and after the first of these separators.

@@ -39,7 +39,11 @@ impl Word<'_> {
 
 /// The words of a line, up to a `#`, which begins a remark.
 pub fn words(line: usize, text: &str) -> Vec<Word<'_>> {
-    let text = before_remark(text);
+    parted(line, before_remark(text))
+}
+
+/// What stands between white space, in a line that has no remark.
+pub fn parted(line: usize, text: &str) -> Vec<Word<'_>> {
     let mut words = Vec::new();
     let mut begun = None;
     let letters = text.char_indices().chain([(text.len(), ' ')]);
