@@ -76,7 +76,7 @@ pub use model::Model;
 pub use numbered::UnknownName;
 pub use openings::{Openings, OPENINGS_BYTES};
 pub use predicate::Predicate;
-pub use reading::{is_visible, read, RECORD_MOST, WORK_WORDS};
+pub use reading::{count, is_visible, read, RECORD_MOST, WORK_WORDS};
 pub use record::{Record, EVENTS_MOST};
 pub use refusal::Refusal;
 pub use rehearsal::{rehearse, rehearse_raw, Rehearsed, SCRIPT_MOST};

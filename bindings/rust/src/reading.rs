@@ -25,6 +25,18 @@ pub fn read(record: &[u8], work: &mut [u64]) -> Result<(), Refusal> {
     ffi::read(record, work).passed()
 }
 
+/// How many events a record has, of one that passed its questions.
+///
+/// ```
+/// assert_eq!(gcr::count(include_bytes!("../../../records/stale-read.gcr")), 3);
+/// ```
+pub fn count(record: &[u8]) -> u16 {
+    match record.get(4..6) {
+        Some(&[low, high]) => u16::from_le_bytes([low, high]),
+        _ => 0,
+    }
+}
+
 /// Whether event `a` is visible to event `b`, by the words that a [`read`] which passed has filled.
 ///
 /// # Panics

@@ -2,7 +2,7 @@
 
 use crate::blocks::{seal, BLOCK};
 use crate::event::SLOT;
-use crate::{difference, read, Edition, Event, Openings, Refusal, WORK_WORDS};
+use crate::{count, difference, read, Edition, Event, Openings, Refusal, WORK_WORDS};
 use alloc::vec;
 use alloc::vec::Vec;
 use core::ops::Range;
@@ -68,8 +68,7 @@ impl Record {
         let refused = Refusal { number: 5, place: 0 }; // by no record that passed
         let edition = Edition::of(bytes).ok_or(refused)?;
         let openings = Openings::from_bytes(&bytes[OPENINGS]).ok_or(refused)?;
-        let count = u16::from_le_bytes([bytes[COUNT.start], bytes[COUNT.start + 1]]).into();
-        let events = (0..count).map(|number| Event::from_slot(&bytes[slot(number)])).collect();
+        let events = (0..count(bytes).into()).map(|number| Event::from_slot(&bytes[slot(number)])).collect();
         Ok(Record { edition, sites: bytes[SITES], difference: difference(bytes), openings, events })
     }
 

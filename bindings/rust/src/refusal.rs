@@ -46,7 +46,7 @@ fn of_record(number: u32) -> &'static str {
 fn of_rehearsal(number: u32) -> &'static str {
     match number {
         20 => "The number of sites is not 1 to 8.",
-        21 => "The script's length is not a multiple of 8 of at most 32,768 bytes.",
+        21 => "The script's length is not a multiple of 8 of at most 32,768 bytes, which are 4,096 calls.",
         22 => "The record buffer is shorter than 19,456 bytes.",
         23 => "The answer buffer is shorter than the script.",
         _ => "The openings are not 132 bytes, or hold a value under a clear bit.",

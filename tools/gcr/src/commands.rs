@@ -3,7 +3,7 @@
 use crate::ending::{Ending, Failure};
 use crate::unknown::unknown;
 use crate::words::{Opt, Words};
-use crate::{draw, explain, judge, make, rehearse, show};
+use crate::{draw, explain, judge, list, make, rehearse, show};
 use std::ffi::OsStr;
 
 pub struct Command {
@@ -18,7 +18,7 @@ pub struct Command {
 }
 
 pub const ALL: &[Command] =
-    &[judge::COMMAND, show::COMMAND, make::COMMAND, explain::COMMAND, rehearse::COMMAND, draw::COMMAND];
+    &[judge::COMMAND, show::COMMAND, make::COMMAND, explain::COMMAND, rehearse::COMMAND, draw::COMMAND, list::COMMAND];
 
 impl Command {
     /// Beside the commands these words would be right.

@@ -49,7 +49,8 @@ not be written; 4 the words were not understood, or the record has no such event
 
 fn run(words: &Words) -> Result<Ending, Failure> {
     let (asked, part) = (asked(words)?, part(words)?);
-    let (to, source) = (words.one("-o")?.unwrap_or(OsStr::new("-")), words.file()?);
+    let source = words.file()?;
+    let to = words.made_of(&source, "-o")?.unwrap_or(OsStr::new("-"));
     let bytes = source.bytes(RECORD_MOST + 1)?;
     let picture = diagram::draw(&source.short_name(), &bytes, asked, &part).map_err(|why| undrawn(&source, why))?;
     output::saved(to, picture.as_bytes())?;

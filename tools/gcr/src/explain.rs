@@ -37,7 +37,7 @@ fn run(words: &Words) -> Result<Ending, Failure> {
     let (breaks, source) = (breaks(words)?, words.file()?);
     let bytes = source.bytes(RECORD_MOST + 1)?;
     let refused = |refusal| Failure::of_refusal(&source.name(), refusal);
-    let told = diagram::explain(&source.short_name(), &bytes, &breaks).map_err(refused)?;
+    let told = diagram::explain(&source.name(), &bytes, &breaks).map_err(refused)?;
     output::written(told.text.as_bytes())?;
     Ok(if told.is_broken { Ending::Broken } else { Ending::Well })
 }

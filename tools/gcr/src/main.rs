@@ -7,6 +7,7 @@ mod ending;
 mod explain;
 mod help;
 mod judge;
+mod list;
 mod make;
 mod named;
 mod nearest;

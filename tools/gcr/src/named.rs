@@ -17,7 +17,8 @@ pub fn models(words: &Words) -> Result<Vec<Model>, Failure> {
     all(words, "--model", "model", Model::ALL, Model::name)
 }
 
-fn all<T: FromStr + Copy + 'static>(
+/// Each once, in the order in which they were given.
+fn all<T: FromStr + Copy + PartialEq + 'static>(
     words: &Words,
     option: &str,
     kind: &str,
@@ -26,8 +27,16 @@ fn all<T: FromStr + Copy + 'static>(
 ) -> Result<Vec<T>, Failure> {
     let one = |word: &OsStr| {
         let word = word.to_string_lossy();
-        let unknown = |_| words.unclear(&unknown(kind, &word, right.iter().map(|&each| name(each))));
+        let right = || right.iter().map(|&each| name(each));
+        let unknown = |_| Failure::unclear(format!("{} (gcr list tells them all)", unknown(kind, &word, right())));
         word.parse::<T>().map_err(unknown)
     };
-    words.all(option).into_iter().flatten().map(OsString::as_os_str).map(one).collect()
+    let mut all = Vec::new();
+    for word in words.all(option).into_iter().flatten().map(OsString::as_os_str) {
+        let named = one(word)?;
+        if !all.contains(&named) {
+            all.push(named);
+        }
+    }
+    Ok(all)
 }

@@ -3,22 +3,25 @@
 use crate::ending::Failure;
 use crate::printable::printable;
 use std::ffi::{OsStr, OsString};
-use std::fs::{self, File};
-use std::io::{self, BufWriter, Stdout, Write};
+use std::fs::{self, File, Permissions};
+use std::io::{self, BufWriter, Write};
+use std::os::fd::AsFd;
 use std::path::{Path, PathBuf};
 
 /// Standard output. What was put is not out before [`Output::finish`].
 pub struct Output {
-    to: BufWriter<Stdout>,
+    to: BufWriter<File>,
 }
 
 impl Output {
-    pub fn standard() -> Output {
-        Output { to: BufWriter::new(io::stdout()) }
+    pub fn standard() -> Result<Output, Failure> {
+        // as a file, for std's own handle says nothing where standard output cannot be written at all
+        let to = io::stdout().as_fd().try_clone_to_owned().map_err(unwritten)?;
+        Ok(Output { to: BufWriter::new(to.into()) })
     }
 
-    pub fn put(&mut self, text: &str) -> Result<(), Failure> {
-        self.to.write_all(text.as_bytes()).map_err(unwritten)
+    pub fn put(&mut self, bytes: &[u8]) -> Result<(), Failure> {
+        self.to.write_all(bytes).map_err(unwritten)
     }
 
     /// All that was put is out.
@@ -33,31 +36,41 @@ fn unwritten(error: io::Error) -> Failure {
 
 /// All of it to standard output.
 pub fn written(bytes: &[u8]) -> Result<(), Failure> {
-    let mut to = io::stdout();
-    to.write_all(bytes).and_then(|()| to.flush()).map_err(unwritten)
+    let mut output = Output::standard()?;
+    output.put(bytes)?;
+    output.finish()
 }
 
-/// All of it to a file, or to standard output where that is `-`. A file that could not be written whole is as it was.
+/// Whether a name stands for standard output.
+pub fn is_standard(name: &OsStr) -> bool {
+    name == "-" || name == "/dev/stdout"
+}
+
+/// All of it to a file, or to standard output. A file that could not be written whole is as it was.
 pub fn saved(to: &OsStr, bytes: &[u8]) -> Result<(), Failure> {
-    if to == "-" {
+    if is_standard(to) {
         return written(bytes);
     }
-    let path = Path::new(to);
-    let failed = |error| Failure::failed(format!("cannot write {}: {error}", printable(&path.to_string_lossy())));
-    match fs::metadata(path) {
+    // where links lead
+    let path = fs::canonicalize(to).unwrap_or_else(|_| to.into());
+    let done = match fs::symlink_metadata(&path) {
+        Ok(there) if there.is_file() => replaced(&path, Some(there.permissions()), bytes),
         // a device or a pipe is written to, and not replaced
-        Ok(there) if !there.is_file() => File::create(path).and_then(|mut file| file.write_all(bytes)).map_err(failed),
-        _ => replaced(path, bytes).map_err(failed),
-    }
+        Ok(_) => File::create(&path).and_then(|mut file| file.write_all(bytes)),
+        Err(_) => replaced(&path, None, bytes),
+    };
+    done.map_err(|error| Failure::failed(format!("cannot write {}: {error}", printable(&to.to_string_lossy()))))
 }
 
-/// By a file beside it that takes its place when it is whole.
-fn replaced(path: &Path, bytes: &[u8]) -> io::Result<()> {
+/// By a file beside it that takes its place, and its permissions, when it is whole.
+fn replaced(path: &Path, permissions: Option<Permissions>, bytes: &[u8]) -> io::Result<()> {
+    if permissions.is_some() {
+        File::options().write(true).open(path)?; // who may not write it may not replace it
+    }
     let beside = beside(path);
-    let whole = File::create_new(&beside).and_then(|mut file| {
-        file.write_all(bytes)?;
-        file.sync_all()
-    });
+    let mut file = File::create_new(&beside)?;
+    let whole = file.write_all(bytes).and_then(|()| file.sync_all());
+    let whole = whole.and_then(|()| permissions.map_or(Ok(()), |permissions| file.set_permissions(permissions)));
     let done = whole.and_then(|()| fs::rename(&beside, path));
     if done.is_err() {
         let _ = fs::remove_file(&beside);

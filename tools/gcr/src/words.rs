@@ -2,10 +2,13 @@
 
 use crate::commands::Command;
 use crate::ending::Failure;
+use crate::output::is_standard;
 use crate::source::Source;
 use crate::unknown::unknown;
 use std::ffi::{OsStr, OsString};
+use std::fs;
 use std::io::{self, IsTerminal};
+use std::path::Path;
 
 /// An option that a command has.
 pub struct Opt {
@@ -107,6 +110,24 @@ impl Words {
         }
     }
 
+    /// Where this option says that what is made of a source goes. It is not the source itself, which would be lost.
+    pub fn made_of(&self, source: &Source, option: &str) -> Result<Option<&OsStr>, Failure> {
+        let to = self.one(option)?;
+        let is_same = |to: &&OsStr| source.path().is_some_and(|from| is_one_file(from, Path::new(to)));
+        match to.filter(is_same) {
+            Some(_) => Err(self.unclear(&format!("{option} names the file that is read"))),
+            None => Ok(to),
+        }
+    }
+
+    /// Bytes that are no text are for a file or a pipe.
+    pub fn spares_terminal(&self, to: &OsStr) -> Result<(), Failure> {
+        match is_standard(to) && io::stdout().is_terminal() {
+            true => Err(self.unclear("bytes are not for a terminal: name a file, or redirect them")),
+            false => Ok(()),
+        }
+    }
+
     /// Of these only one may be given.
     pub fn at_most_one_of(&self, names: &[&str]) -> Result<(), Failure> {
         let given: Vec<&str> = names.iter().copied().filter(|name| self.has(name)).collect();
@@ -119,4 +140,9 @@ impl Words {
     pub fn unclear(&self, message: &str) -> Failure {
         Failure::unclear(format!("{message} (gcr {} --help tells more)", self.command.name))
     }
+}
+
+/// Whether two names lead to one file.
+fn is_one_file(one: &Path, other: &Path) -> bool {
+    matches!((fs::canonicalize(one), fs::canonicalize(other)), (Ok(one), Ok(other)) if one == other && one.is_file())
 }

@@ -96,7 +96,8 @@ fn words_that_are_not_understood_get_the_nearest_right_one() {
     unclear(&["--site", "-1"], "--site takes numbers, and -1 is none");
     unclear(&["--object", ""], "--object takes numbers, and  is none");
     unclear(&["--site", "99999999999999999999999"], "--site takes numbers, and 99999999999999999999999 is none");
-    unclear(&["--predicate", "Prom"], "there is no predicate Prom; the nearest is Pram");
+    let unknown = "there is no predicate Prom; the nearest is Pram (gcr list tells them all)";
+    gcr(&["draw", "--predicate", "Prom"]).ended(4, unknown);
     unclear(&["--predicate", "5", "--model", "4"], "--predicate and --model do not go together");
     unclear(&["--predicate", "5", "--predicate", "6"], "--predicate is given twice");
     unclear(&["a.gcr", "b.gcr"], "it takes one file");

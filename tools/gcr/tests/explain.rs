@@ -6,7 +6,7 @@ use support::folder::Folder;
 use support::{bytes, gcr, piped, to_closed_pipe, to_full_device};
 
 const STALE_READ: &str = "\
-stale-read.gcr: predicate 5 MonotonicReads is broken at events 0 and 2
+records/stale-read.gcr: predicate 5 MonotonicReads is broken at events 0 and 2
 event 2 does not see event 0, though event 1, an earlier read at event 2's site, sees event 0
   event 0: site 0 wrote 7 to object 0, from 0 ms to 1 ms
   event 1: site 1 read 7 from object 0, from 2 ms to 3 ms; it saw event 0
@@ -15,7 +15,7 @@ event 2 does not see event 0, though event 1, an earlier read at event 2's site,
 ";
 
 const LONG_WAY: &str = "\
-long-way.gcr: model 4 Causal is broken by predicate 10 CausalVisibility at events 0 and 3
+records/long-way.gcr: model 4 Causal is broken by predicate 10 CausalVisibility at events 0 and 3
 event 3 does not see event 0, though event 0 is seen by event 2, which is before event 5 at site 1, which is seen by \
 event 6, which is before event 3 at site 2
   event 0: site 0 wrote 100 to object 5, from 0 ms to 1 ms
@@ -48,9 +48,12 @@ fn without_an_option_the_causal_model_is_told() {
 fn what_is_met_is_said_to_be() {
     let clocks = "records/clocks.gcr";
     let met = |words: &[&str]| gcr(&[&["explain", clocks], words].concat()).ends(0).text().to_string();
-    assert_eq!(met(&[]), "clocks.gcr: model 4 Causal is met: there is nothing to explain\n");
-    assert_eq!(met(&["--predicate", "3"]), "clocks.gcr: predicate 3 RealTime is met: there is nothing to explain\n");
-    assert_eq!(met(&["--all"]), "clocks.gcr: all predicates are met: there is nothing to explain\n");
+    assert_eq!(met(&[]), "records/clocks.gcr: model 4 Causal is met: there is nothing to explain\n");
+    assert_eq!(
+        met(&["--predicate", "3"]),
+        "records/clocks.gcr: predicate 3 RealTime is met: there is nothing to explain\n"
+    );
+    assert_eq!(met(&["--all"]), "records/clocks.gcr: all predicates are met: there is nothing to explain\n");
 }
 
 #[test]
@@ -62,14 +65,14 @@ fn all_and_several_are_told_in_turn() {
     assert_eq!(all.text().matches("\n\n").count(), 1);
     let one_met = gcr(&["explain", "--predicate", "1", "--predicate", "4", early]).ends(1);
     let (met, broken) = one_met.text().split_once("\n\n").expect("there are two");
-    assert_eq!(met, "early-read.gcr: predicate 1 RVal is met: there is nothing to explain");
-    assert!(broken.starts_with("early-read.gcr: predicate 4 RealTimeWrites is broken at events 0 and 1\n"));
+    assert_eq!(met, "records/early-read.gcr: predicate 1 RVal is met: there is nothing to explain");
+    assert!(broken.starts_with("records/early-read.gcr: predicate 4 RealTimeWrites is broken at events 0 and 1\n"));
 }
 
 #[test]
 fn a_record_may_come_by_a_pipe() {
     let bytes = bytes("records/stale-read.gcr");
-    let told = STALE_READ.replace("stale-read.gcr", "standard input");
+    let told = STALE_READ.replace("records/stale-read.gcr", "standard input");
     assert_eq!(piped(&["explain", "--predicate", "5"], &bytes).ends(1).text(), told);
     assert_eq!(piped(&["explain", "--predicate", "5", "-"], &bytes).ends(1).text(), told);
 }
@@ -99,10 +102,13 @@ fn words_that_are_not_understood_get_the_nearest_right_one() {
     let unclear = |words: &[&str], message: &str| {
         gcr(&[&["explain"], words].concat()).ended(4, &format!("{message} (gcr explain --help tells more)"));
     };
-    unclear(&["--predicate", "MonotonicRead"], "there is no predicate MonotonicRead; the nearest is MonotonicReads");
-    unclear(&["--predicate", "14"], "there is no predicate 14");
-    unclear(&["--model", "casual"], "there is no model casual; the nearest is Causal");
-    unclear(&["--model", "0"], "there is no model 0");
+    let unknown = |words: &[&str], message: &str| {
+        gcr(&[&["explain"], words].concat()).ended(4, &format!("{message} (gcr list tells them all)"));
+    };
+    unknown(&["--predicate", "MonotonicRead"], "there is no predicate MonotonicRead; the nearest is MonotonicReads");
+    unknown(&["--predicate", "14"], "there is no predicate 14");
+    unknown(&["--model", "casual"], "there is no model casual; the nearest is Causal");
+    unknown(&["--model", "0"], "there is no model 0");
     unclear(&["--predcate", "5"], "there is no option --predcate; the nearest is --predicate");
     unclear(&["--predicate"], "--predicate takes 1 word");
     unclear(&["--all", "--model", "4"], "--model and --all do not go together");

@@ -13,7 +13,7 @@ fn helps() -> Vec<(String, String)> {
     let overview = gcr(&["--help"]).done();
     let lines = overview.lines().into_iter().filter_map(|line| line.strip_prefix("  "));
     let names: Vec<&str> = lines.filter_map(|line| line.split(' ').next()).collect();
-    assert_eq!(names, ["judge", "show", "make", "explain", "rehearse", "draw"]);
+    assert_eq!(names, ["judge", "show", "make", "explain", "rehearse", "draw", "list"]);
     let help = |name: &str| (name.to_string(), gcr(&[name, "--help"]).done().text().to_string());
     names.into_iter().map(help).collect()
 }
@@ -30,7 +30,7 @@ fn options(help: &str) -> Vec<&str> {
 /// The lines that show how a command is run.
 fn examples<'a>(name: &str, help: &'a str) -> Vec<&'a str> {
     let shown = help.lines().filter_map(|line| line.strip_prefix("Example: ").or(line.strip_prefix("  ")));
-    shown.filter(|line| line.contains(&format!("gcr {name} "))).collect()
+    shown.filter(|line| line.contains(&format!("gcr {name}"))).collect()
 }
 
 #[test]
@@ -50,7 +50,6 @@ fn help_is_asked_for_in_three_ways_and_is_short() {
 #[test]
 fn options_that_a_help_names_are_there() {
     for (name, help) in helps() {
-        assert!(!options(&help).is_empty(), "{help}");
         for option in options(&help) {
             let ran = gcr(&[&name, "--help", option]);
             let needs_words = ran.err.starts_with(&format!("gcr: {option} takes "));

@@ -7,7 +7,7 @@ use std::fs;
 use std::os::unix::ffi::OsStrExt;
 use support::folder::Folder;
 use support::json::Json;
-use support::{gcr, piped, shell, shipped, to_closed_pipe, to_full_device};
+use support::{bytes, gcr, piped, shell, shipped, to_closed_pipe, to_full_device};
 
 /// Random records of many shapes, some damaged.
 fn random(count: u64) -> Vec<Vec<u8>> {
@@ -36,6 +36,7 @@ fn pair(a: u16, b: u16) -> String {
 fn line_of_model(name: &str, model: Model, record: &[u8]) -> String {
     let told = match judge_model(model, record) {
         Err(refusal) => refusal.to_string(),
+        Ok(Verdict::Met) if gcr::count(record) == 0 => "met, without any event".to_string(),
         Ok(Verdict::Met) => "met".to_string(),
         Ok(Verdict::Broken { a, b }) => {
             let verdicts = judge_all(record).unwrap();
@@ -74,8 +75,48 @@ fn a_folder_without_records_is_not_read() {
     let folder = Folder::new();
     folder.file("a.txt", b"");
     let ran = gcr(&["judge".as_ref(), folder.path().as_os_str()]);
-    assert!(ran.lines()[0].ends_with(": not read: no file of this folder ends in .gcr"));
+    assert!(ran.lines()[0].ends_with(": not read: nothing in this folder ends in .gcr"));
     assert_eq!(ran.status, 3);
+}
+
+#[test]
+fn what_a_folder_has_beside_records_is_told() {
+    let folder = Folder::new();
+    let record = bytes("records/clocks.gcr");
+    folder.file("a.gcr", &record);
+    folder.file("B.GCR", &record);
+    folder.file("c.gcr.part", &record);
+    fs::create_dir(folder.at("more")).unwrap();
+    let ran = gcr(&["judge".as_ref(), folder.path().as_os_str()]);
+    let told = "2 records against Causal: 2 met, 0 broken, 0 refused, 0 not read; 2 other names in folders passed over";
+    assert_eq!((ran.lines()[2], ran.status), (told, 0));
+}
+
+#[test]
+fn what_is_no_file_in_a_folder_is_not_waited_for() {
+    let folder = Folder::new();
+    folder.file("a.gcr", bytes("records/clocks.gcr"));
+    fs::create_dir(folder.at("b.gcr")).unwrap();
+    assert!(shell(&format!("mkfifo '{}'", folder.at("c.gcr"))).status == 0);
+    let ran = gcr(&["judge".as_ref(), folder.path().as_os_str()]);
+    assert!(ran.lines()[0].ends_with("a.gcr: met"));
+    assert!(ran.lines()[1].ends_with("b.gcr: not read: this is no file"));
+    assert!(ran.lines()[2].ends_with("c.gcr: not read: this is no file"));
+    assert_eq!(ran.status, 3);
+}
+
+#[test]
+fn a_record_without_events_says_so() {
+    let ran = gcr(&["judge", "records/empty-one-site.gcr"]);
+    assert_eq!(ran.lines()[0], "records/empty-one-site.gcr: met, without any event");
+}
+
+#[test]
+fn what_is_asked_twice_is_judged_once() {
+    let ran = gcr(&["judge", "--model", "1", "--model", "linearizable", "records/stale-read.gcr"]);
+    assert_eq!(ran.lines()[0], "records/stale-read.gcr: broken: Linearizable by SingleOrder at events 0 and 2");
+    let ran = gcr(&["judge", "--all", "--model", "4", "records/clocks.gcr"]);
+    assert!(ran.lines()[1].starts_with("1 record against 1 model and 13 predicates: 1 met"), "{}", ran.lines()[1]);
 }
 
 #[test]
@@ -143,11 +184,12 @@ fn all_predicates_are_told_by_name() {
 
 /// The object of a record has all keys, and says what the library finds.
 fn is_right(object: &Json, record: &[u8]) {
-    assert_eq!(object.keys(), ["error", "record", "refusal", "status", "verdicts"]);
+    assert_eq!(object.keys(), ["error", "events", "record", "refusal", "status", "verdicts"]);
     assert_eq!(object.at("error"), &Json::Null);
     match judge_all(record) {
         Err(refusal) => {
             assert_eq!(object.at("status").text(), "refused");
+            assert_eq!(object.at("events"), &Json::Null);
             assert!(object.at("verdicts").list().is_empty());
             let told = object.at("refusal");
             assert_eq!(told.at("number").number(), refusal.number.into());
@@ -158,6 +200,7 @@ fn is_right(object: &Json, record: &[u8]) {
             let is_met = verdicts.iter().all(|&verdict| verdict == Verdict::Met);
             assert_eq!(object.at("status").text(), if is_met { "met" } else { "broken" });
             assert_eq!(object.at("refusal"), &Json::Null);
+            assert_eq!(object.at("events").number(), gcr::Record::read(record).unwrap().count() as u64);
             assert_eq!(object.at("verdicts").list().len(), 13);
             for ((told, verdict), predicate) in object.at("verdicts").list().iter().zip(verdicts).zip(Predicate::ALL) {
                 is_verdict(told, verdict, *predicate);
@@ -232,14 +275,14 @@ fn csv_has_a_row_for_each_verdict() {
     assert!(rows.iter().all(|row| row.len() == rows[0].len()), "{rows:?}");
     for (row, (predicate, verdict)) in rows[1..14].iter().zip(Predicate::ALL.iter().zip(listing())) {
         let (number, by) = (predicate.number().to_string(), predicate.name());
-        assert_eq!(row[..5], ["records/listing.gcr", "broken", "predicate", &number, by]);
+        assert_eq!(row[..6], ["records/listing.gcr", "broken", "5", "predicate", &number, by]);
         let told = match verdict {
             Verdict::Met => ["met".to_string(), String::new(), String::new(), String::new(), String::new()],
             Verdict::Broken { a, b } => ["broken".to_string(), number, by.to_string(), a.to_string(), b.to_string()],
         };
-        assert_eq!(row[5..10], told);
+        assert_eq!(row[6..11], told);
     }
-    assert_eq!(rows[14][10..12], ["3", "0"]);
+    assert_eq!(rows[14][11..13], ["3", "0"]);
 }
 
 fn listing() -> [Verdict; 13] {
@@ -292,29 +335,50 @@ fn unknown_words_get_the_nearest_right_one() {
     }
 }
 
-/// A season of records under a limit of address space. Links stand for most of them.
+/// Records of 256 events, of many shapes.
+fn longest(count: u64) -> Vec<Vec<u8>> {
+    use second::generate::{random::Random, shapes};
+    (0..count).map(|seed| shapes::of_either_edition(&mut Random::new(seed), 256).to_bytes()).collect()
+}
+
+/// A season of the longest records, 190 MB in all, under a limit of address space that is half of that. Links stand for
+/// most of them.
 #[test]
 fn a_season_goes_through_under_a_limit_of_memory() {
     let folder = Folder::new();
-    let records = random(200);
-    let model = |bytes: &Vec<u8>| judge_model(Model::Causal, bytes);
+    let records = longest(100);
     let mut due = [0; 3];
     for number in 0..10_000 {
-        let path = folder.path().join(format!("{number:05}.gcr"));
+        let path = folder.at(&format!("{number:05}.gcr"));
         let which = number % records.len();
         match number < records.len() {
             true => fs::write(path, &records[which]).unwrap(),
-            false => fs::hard_link(folder.path().join(format!("{which:05}.gcr")), path).unwrap(),
+            false => fs::hard_link(folder.at(&format!("{which:05}.gcr")), path).unwrap(),
         }
-        match model(&records[which]) {
+        match judge_model(Model::Causal, &records[which]) {
             Ok(Verdict::Met) => due[0] += 1,
             Ok(Verdict::Broken { .. }) => due[1] += 1,
             Err(_) => due[2] += 1,
         }
     }
-    let ran = shell(&format!("ulimit -v 250000; exec gcr judge --quiet '{}'", folder.path().display()));
+    let ran = shell(&format!("ulimit -v 95000; exec gcr judge --quiet '{}'", folder.path().display()));
     let [met, broken, refused] = due;
     let told = format!("10000 records against Causal: {met} met, {broken} broken, {refused} refused, 0 not read");
     assert_eq!(ran.lines().last(), Some(&told.as_str()), "{}", ran.err);
     assert_eq!(ran.lines().len(), 1 + broken + refused);
+}
+
+#[test]
+fn too_little_memory_for_threads_is_no_panic() {
+    let ran = shell("ulimit -v 8000; exec gcr judge records/clocks.gcr records/stale-read.gcr");
+    assert_eq!(ran.status, 1, "{}", ran.err);
+}
+
+#[test]
+fn an_output_that_cannot_be_written_at_all_is_told() {
+    let ran = shell("gcr judge records/clocks.gcr 1</dev/null");
+    assert_eq!(
+        (ran.err.as_str(), ran.status),
+        ("gcr: cannot write to standard output: Bad file descriptor (os error 9)\n", 3)
+    );
 }

@@ -142,7 +142,8 @@ fn refused_whole(words: &[&str], script: &[u8], due: &str) {
 #[test]
 fn a_script_is_refused_as_a_whole_by_20_21_and_40() {
     let few = "standard input: refused 20: The number of sites is not 1 to 8.";
-    let long = "standard input: refused 21: The script's length is not a multiple of 8 of at most 32,768 bytes.";
+    let long = "standard input: refused 21: The script's length is not a multiple of 8 of at most 32,768 bytes, which \
+        are 4,096 calls.";
     let opened = "standard input: refused 40: The openings are not 132 bytes, or hold a value under a clear bit.";
     refused_whole(&[], b"sites 9\nclose\n", few);
     refused_whole(&[], b"sites 0\n", few);

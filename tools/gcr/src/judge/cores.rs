@@ -7,26 +7,36 @@ use std::sync::atomic::{AtomicUsize, Ordering};
 use std::sync::mpsc::{sync_channel, Receiver, SyncSender};
 use std::thread;
 
-/// What may be done and not taken yet. Others wait.
+/// What may be done and not looked at yet. Others wait.
 const AHEAD: usize = 64;
 
-/// Takes `work(0)`, `work(1)` and so on, `count` of them. The first that is not taken ends it.
+/// More than any call of the library takes.
+const STACK: usize = 512 * 1024;
+
+/// Takes `work(0)`, `work(1)` and so on, `count` of them. The first that is not taken ends it. What is done before its
+/// turn is kept, so it should be small.
 pub fn in_order<T: Send>(
     count: usize,
     work: impl Fn(usize) -> T + Sync,
-    take: impl FnMut(T) -> Result<(), Failure>,
+    mut take: impl FnMut(T) -> Result<(), Failure>,
 ) -> Result<(), Failure> {
     let cores = thread::available_parallelism().map_or(1, NonZero::get);
     let next = AtomicUsize::new(0);
     let (work, next) = (&work, &next);
     thread::scope(|scope| {
         let (send, done) = sync_channel(AHEAD);
-        for _ in 0..cores.min(count) {
+        let start = |_: &usize| {
             let send = send.clone();
-            scope.spawn(move || each(count, next, work, send));
-        }
+            let thread = thread::Builder::new().stack_size(STACK);
+            thread.spawn_scoped(scope, move || each(count, next, work, send)).is_ok()
+        };
+        // as many as there are cores and memory for
+        let started = (0..cores.min(count)).take_while(start).count();
         drop(send);
-        taken(done, take)
+        match started {
+            0 => (0..count).try_for_each(|number| take(work(number))),
+            _ => taken(done, take),
+        }
     })
 }
 

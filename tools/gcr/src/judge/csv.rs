@@ -1,20 +1,22 @@
 //! Rows for each record: one for each model or predicate that it was judged by, or one that says why it was not.
 
 use super::asked::Question;
-use super::found::{Break, Found, Outcome};
+use super::found::{Break, Found, Judged, Outcome};
 
-pub const HEAD: &str = "record,status,kind,number,name,verdict,by_number,by_name,a,b,refusal,place,message\n";
+pub const HEAD: &str = "record,status,events,kind,number,name,verdict,by_number,by_name,a,b,refusal,place,message\n";
 
 pub fn rows(found: &Found) -> String {
     let (record, status) = (cell(&found.record), found.status());
     let row = |rest: String| format!("{record},{status},{rest}\n");
     match &found.outcome {
-        Outcome::Judged(verdicts) => verdicts.iter().map(|each| row(verdict(each))).collect(),
+        Outcome::Judged(Judged { events, verdicts }) => {
+            verdicts.iter().map(|each| row(format!("{events},{}", verdict(each)))).collect()
+        }
         Outcome::Refused(refusal) => {
             let (number, place, sentence) = (refusal.number, refusal.place, cell(refusal.sentence()));
-            row(format!(",,,,,,,,{number},{place},{sentence}"))
+            row(format!(",,,,,,,,,{number},{place},{sentence}"))
         }
-        Outcome::Unread(why) => row(format!(",,,,,,,,,,{}", cell(why))),
+        Outcome::Unread(why) => row(format!(",,,,,,,,,,,{}", cell(why))),
     }
 }
 

@@ -1,9 +1,9 @@
 //! What was found of a record.
 
 use super::asked::Question;
+use super::records::{Named, Unread};
 use crate::ending::Ending;
-use crate::source::Source;
-use gcr::{broken_by, judge_predicate, Predicate, Refusal, Verdict, RECORD_MOST};
+use gcr::{broken_by, count, judge_predicate, Predicate, Refusal, Verdict, RECORD_MOST};
 
 pub struct Found {
     pub record: String,
@@ -11,11 +11,17 @@ pub struct Found {
 }
 
 pub enum Outcome {
-    /// What was asked, each with its break where it is broken.
-    Judged(Vec<(Question, Option<Break>)>),
+    Judged(Judged),
     Refused(Refusal),
     /// Why the file was not read.
     Unread(String),
+}
+
+pub struct Judged {
+    /// How many the record has.
+    pub events: u16,
+    /// What was asked, each with its break where it is broken.
+    pub verdicts: Vec<(Question, Option<Break>)>,
 }
 
 /// The first broken predicate of what was asked, and its pair.
@@ -27,10 +33,10 @@ pub struct Break {
 }
 
 impl Found {
-    pub fn of(record: &Result<Source, (String, String)>, questions: &[Question]) -> Found {
+    pub fn of(record: &Named, questions: &[Question]) -> Found {
         let source = match record {
             Ok(source) => source,
-            Err((name, why)) => return Found { record: name.clone(), outcome: Outcome::Unread(why.clone()) },
+            Err(Unread { name, why }) => return Found { record: name.clone(), outcome: Outcome::Unread(why.clone()) },
         };
         let outcome = match source.read(RECORD_MOST + 1) {
             Err(error) => Outcome::Unread(error.to_string()),
@@ -41,7 +47,7 @@ impl Found {
 
     pub fn ending(&self) -> Ending {
         match &self.outcome {
-            Outcome::Judged(verdicts) if verdicts.iter().all(|(_, broken)| broken.is_none()) => Ending::Well,
+            Outcome::Judged(judged) if judged.verdicts.iter().all(|(_, broken)| broken.is_none()) => Ending::Well,
             Outcome::Judged(_) => Ending::Broken,
             Outcome::Refused(_) => Ending::Refused,
             Outcome::Unread(_) => Ending::Failed,
@@ -59,8 +65,10 @@ impl Found {
     }
 }
 
-fn judged(record: &[u8], questions: &[Question]) -> Result<Vec<(Question, Option<Break>)>, Refusal> {
-    questions.iter().map(|&question| Ok((question, broken(record, question)?))).collect()
+fn judged(record: &[u8], questions: &[Question]) -> Result<Judged, Refusal> {
+    let verdict = |&question: &Question| Ok((question, broken(record, question)?));
+    let verdicts = questions.iter().map(verdict).collect::<Result<_, _>>()?;
+    Ok(Judged { events: count(record), verdicts })
 }
 
 fn broken(record: &[u8], question: Question) -> Result<Option<Break>, Refusal> {

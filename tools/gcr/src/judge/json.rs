@@ -4,18 +4,21 @@ use super::asked::Question;
 use super::found::{Break, Found, Outcome};
 
 pub fn line(found: &Found) -> String {
-    let (verdicts, refusal, error) = match &found.outcome {
-        Outcome::Judged(verdicts) => (verdicts.iter().map(verdict).collect::<Vec<_>>().join(","), null(), null()),
-        Outcome::Refused(refusal) => {
-            let (number, place, sentence) = (refusal.number, refusal.place, string(refusal.sentence()));
-            (String::new(), format!(r#"{{"number":{number},"place":{place},"sentence":{sentence}}}"#), null())
+    let (mut events, mut verdicts, mut refusal, mut error) = (null(), String::new(), null(), null());
+    match &found.outcome {
+        Outcome::Judged(judged) => {
+            events = judged.events.to_string();
+            verdicts = judged.verdicts.iter().map(verdict).collect::<Vec<_>>().join(",");
         }
-        Outcome::Unread(why) => (String::new(), null(), string(why)),
-    };
+        Outcome::Refused(refused) => {
+            let (number, place, sentence) = (refused.number, refused.place, string(refused.sentence()));
+            refusal = format!(r#"{{"number":{number},"place":{place},"sentence":{sentence}}}"#);
+        }
+        Outcome::Unread(why) => error = string(why),
+    }
     let (record, status) = (string(&found.record), string(found.status()));
-    format!(
-        "{{\"record\":{record},\"status\":{status},\"verdicts\":[{verdicts}],\"refusal\":{refusal},\"error\":{error}}}\n"
-    )
+    let found = format!(r#""record":{record},"status":{status},"events":{events},"verdicts":[{verdicts}]"#);
+    format!("{{{found},\"refusal\":{refusal},\"error\":{error}}}\n")
 }
 
 fn verdict((question, broken): &(Question, Option<Break>)) -> String {

@@ -19,6 +19,7 @@ use asked::Question;
 use form::Form;
 use found::Found;
 use progress::Progress;
+use records::Records;
 use summary::Summary;
 
 pub const COMMAND: Command = Command {
@@ -60,27 +61,24 @@ Exit status: 0 all met, 1 something broken, 2 something refused, 3 something not
 fn run(words: &Words) -> Result<Ending, Failure> {
     let questions = asked::questions(words)?;
     let form = Form::asked(words)?;
-    let records = records::named(words)?;
+    let Records { all, passed_over } = Records::named(words)?;
     let is_quiet = words.has("--quiet");
-    let mut output = Output::standard();
-    let mut progress = Progress::of(records.len());
+    let mut output = Output::standard()?;
+    let mut progress = Progress::of(all.len());
     let mut summary = Summary::default();
-    output.put(form.head())?;
-    cores::in_order(
-        records.len(),
-        |k| Found::of(&records[k], &questions),
-        |found| {
-            summary.count(&found);
-            if !(is_quiet && found.ending() == Ending::Well) {
-                progress.clear();
-                output.put(&form.of(&found))?;
-            }
-            progress.step(&mut output)
-        },
-    )?;
+    output.put(form.head().as_bytes())?;
+    let take = |found: Found| {
+        summary.count(&found);
+        if !(is_quiet && found.ending() == Ending::Well) {
+            progress.clear();
+            output.put(form.of(&found).as_bytes())?;
+        }
+        progress.step(&mut output)
+    };
+    cores::in_order(all.len(), |number| Found::of(&all[number], &questions), take)?;
     progress.clear();
     if form == Form::Lines {
-        output.put(&summary.line(&names(&questions)))?;
+        output.put(summary.line(&names(&questions), passed_over).as_bytes())?;
     }
     output.finish()?;
     Ok(summary.ending)
@@ -88,8 +86,13 @@ fn run(words: &Words) -> Result<Ending, Failure> {
 
 /// `Causal`, or `RVal, SingleOrder`; of many how many.
 fn names(questions: &[Question]) -> String {
-    match questions {
-        [.., _, _, _, _] => format!("{} models or predicates", questions.len()),
-        few => few.iter().map(Question::name).collect::<Vec<_>>().join(", "),
+    let is_model = |question: &&Question| matches!(question, Question::Model(_));
+    let models = questions.iter().filter(is_model).count();
+    let counted = |count: usize, what: &str| format!("{count} {what}{}", if count == 1 { "" } else { "s" });
+    match questions.len() {
+        0..4 => questions.iter().map(Question::name).collect::<Vec<_>>().join(", "),
+        all if models == 0 => counted(all, "predicate"),
+        all if models == all => counted(all, "model"),
+        all => format!("{} and {}", counted(models, "model"), counted(all - models, "predicate")),
     }
 }

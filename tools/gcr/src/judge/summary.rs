@@ -22,10 +22,18 @@ impl Summary {
         self.ending = self.ending.max(ending);
     }
 
-    pub fn line(&self, by: &str) -> String {
+    /// Of records that were judged by this, beside so many names in folders that are no record's.
+    pub fn line(&self, by: &str, passed_over: usize) -> String {
         let all: usize = self.counts.iter().sum();
         let records = if all == 1 { "record" } else { "records" };
         let [met, broken, refused, unread] = self.counts;
-        format!("{all} {records} against {by}: {met} met, {broken} broken, {refused} refused, {unread} not read\n")
+        let over = match passed_over {
+            0 => String::new(),
+            1 => "; 1 other name in a folder passed over".to_string(),
+            over => format!("; {over} other names in folders passed over"),
+        };
+        format!(
+            "{all} {records} against {by}: {met} met, {broken} broken, {refused} refused, {unread} not read{over}\n"
+        )
     }
 }

@@ -11,7 +11,6 @@ use crate::table::Form;
 use crate::text;
 use crate::words::{Opt, Words};
 use std::ffi::OsStr;
-use std::io::{self, IsTerminal};
 
 pub const COMMAND: Command =
     Command { name: "make", about: "makes a record of text", help: HELP, options: OPTIONS, run };
@@ -33,15 +32,11 @@ Example: gcr show records/stale-read.gcr > day.txt; gcr make day.txt -o day.gcr
 
 fn run(words: &Words) -> Result<Ending, Failure> {
     let source = words.file()?;
-    let to = words.one("-o")?;
-    if to.is_none() && io::stdout().is_terminal() {
-        return Err(
-            words.unclear("the record's bytes are not for a terminal: name a file by -o FILE, or redirect them")
-        );
-    }
+    let to = words.made_of(&source, "-o")?.unwrap_or(OsStr::new("-"));
+    words.spares_terminal(to)?;
     let form = Form::of(words.has("--csv"), source.path().map(|path| path.as_os_str()));
-    let text = text::read(&source, "")?;
+    let text = text::read(&source, " (gcr show reads a record)")?;
     let record = encoded(form, &text).map_err(|what| Failure::of_refusal(&source.name(), what))?;
-    output::saved(to.unwrap_or(OsStr::new("-")), &record)?;
+    output::saved(to, &record)?;
     Ok(Ending::Well)
 }

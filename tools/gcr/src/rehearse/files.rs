@@ -6,6 +6,7 @@ use super::script::Script;
 use crate::ending::Failure;
 use crate::output;
 use crate::printable::printable;
+use crate::source::Source;
 use crate::words::Words;
 use std::ffi::OsStr;
 
@@ -20,12 +21,13 @@ pub struct Files<'a> {
 }
 
 impl<'a> Files<'a> {
-    pub fn named(words: &'a Words) -> Result<Files<'a>, Failure> {
-        let files = Files { record: words.one(RECORD)?, bytes: words.one(BYTES_TO)? };
-        match files.record.is_some() && files.record == files.bytes {
-            true => Err(words.unclear(&format!("{RECORD} and {BYTES_TO} name the same file"))),
-            false => Ok(files),
+    pub fn named(words: &'a Words, source: &Source) -> Result<Files<'a>, Failure> {
+        let (record, bytes) = (words.made_of(source, RECORD)?, words.made_of(source, BYTES_TO)?);
+        if record.is_some() && record == bytes {
+            return Err(words.unclear(&format!("{RECORD} and {BYTES_TO} name the same file")));
         }
+        record.into_iter().chain(bytes).try_for_each(|to| words.spares_terminal(to))?;
+        Ok(Files { record, bytes })
     }
 
     /// As it can be shown.
@@ -34,7 +36,7 @@ impl<'a> Files<'a> {
     }
 
     pub fn is_standard_output_taken(&self) -> bool {
-        [self.record, self.bytes].contains(&Some(OsStr::new("-")))
+        [self.record, self.bytes].into_iter().flatten().any(output::is_standard)
     }
 
     pub fn save(&self, script: &Script, rehearsal: &Rehearsal) -> Result<(), Failure> {

@@ -57,8 +57,8 @@ Example:
 ";
 
 fn run(words: &Words) -> Result<Ending, Failure> {
-    let files = Files::named(words)?;
     let source = words.file()?;
+    let files = Files::named(words, &source)?;
     let script = match words.has(BYTES) {
         true => bytes::read(&source.bytes(bytes::MOST + 1)?),
         false => of_text(&source)?,

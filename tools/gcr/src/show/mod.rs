@@ -29,7 +29,7 @@ Example: gcr show records/stale-read.gcr
 
 fn run(words: &Words) -> Result<Ending, Failure> {
     let source = words.file()?;
-    let to = words.one("-o")?;
+    let to = words.made_of(&source, "-o")?;
     let form = Form::of(words.has("--csv"), to);
     let bytes = source.bytes(RECORD_MOST + 1)?;
     let record = Record::read(&bytes).map_err(|refusal| Failure::of_refusal(&source.name(), refusal))?;

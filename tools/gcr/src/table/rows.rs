@@ -31,6 +31,7 @@ impl<'a> Row<'a> {
 
 pub struct Rows<'a> {
     form: Form,
+    separator: char,
     lines: Enumerate<Lines<'a>>,
     /// How many lines were read.
     read: usize,
@@ -38,7 +39,7 @@ pub struct Rows<'a> {
 
 impl<'a> Rows<'a> {
     pub fn of(form: Form, text: &'a str) -> Rows<'a> {
-        Rows { form, lines: text.lines().enumerate(), read: 0 }
+        Rows { form, separator: form.separator(text), lines: text.lines().enumerate(), read: 0 }
     }
 
     /// The next row, in text of at most so many cells.
@@ -46,7 +47,7 @@ impl<'a> Rows<'a> {
         for (before, text) in self.lines.by_ref() {
             self.read = before + 1;
             let line = Word { line: self.read, column: 1, text };
-            let row = Row { cells: self.form.cells(line, most)?, end: line.rest(text.len()) };
+            let row = Row { cells: self.form.cells(line, self.separator, most)?, end: line.rest(text.len()) };
             if !row.filled().is_empty() {
                 return Ok(Some(row));
             }

@@ -100,7 +100,7 @@ fn cells_of_csv() {
     let head = "sites,2,,\nsite,kind,object,value,start,return,position,sees\n0,write,5,100,0,1,0,\n";
     for (row, what) in [
         ("0,read,5,\"100,0,1,1,0", "column 10: this quote is not closed in its line"),
-        ("0,read,5,\"1\" 0,0,1,1,0", "column 14: after a quoted cell comes a comma or the line's end"),
+        ("0,read,5,\"1\" 0,0,1,1,0", "column 14: after a quoted cell comes , or the line's end"),
         ("0,read,5,,0,1,1,0,,7", "column 20: over this cell no column is named"),
         ("0,read,5,\"1\"\"\",0,1,1,0", "column 11: a value that is not none is a number from 0 to 4294967295"),
         ("0,,5,,0,1,1,0", "column 3: the kind is missing"),
@@ -108,16 +108,26 @@ fn cells_of_csv() {
         ("0,read,5,,0,1", "column 14: a position is a number from 0 to 65535"),
         ("0,read,5,1.7E+12,0,1,1,", "column 10: a value that is not none is a number from 0 to 4294967295"),
         ("0,read,5,,0,1,1,\" 0 1..300\"", "column 24: an event that is seen is a number from 0 to 255"),
+        ("0,read,5,,0,1,1,#REF!", "column 17: an event that is seen is a number from 0 to 255"),
+        ("0,read,5,,0,1,1,0 #N/A", "column 19: an event that is seen is a number from 0 to 255"),
+        ("0,read,5;100,0,1,1,0", "column 8: an object is a number from 0 to 255"),
     ] {
         is_bad(&["make", "--csv"], format!("{head}{row}\r\n"), &format!("line 4, {what}"));
     }
+    let fraction = "sites;2\nsite;kind;object;value;start;return;position;sees\n0;write;5;100,00;0;1;0;\n";
+    let what = "line 3, column 11: a value that is not none is a number from 0 to 4294967295";
+    is_bad(&["make", "--csv"], fraction, what);
     is_bad(&["make", "--csv"], ",sites,2\n", "line 1, column 1: the header word or column is missing");
     is_bad(&["make", "--csv"], "sites,2\nsite,,kind\n", "line 2, column 6: the column is missing");
 }
 
 #[test]
 fn bytes_that_are_no_text() {
-    is_bad(&["make"], b"sites 2\n\xc3\xa4\xff\n", "line 2, column 2: the byte ff is no text in UTF-8");
+    is_bad(
+        &["make"],
+        b"sites 2\n\xc3\xa4\xff\n",
+        "line 2, column 2: the byte ff is no text in UTF-8 (gcr show reads a record)",
+    );
     let ran = piped(&["make"], &bytes("records/clocks.gcr"));
     assert_eq!((ran.status, ran.out.len()), (2, 0));
     assert!(ran.err.starts_with("gcr: standard input: line "), "{}", ran.err);

@@ -27,11 +27,19 @@ impl Form {
         }
     }
 
+    /// What separates the cells of this text.
+    pub fn separator(self, text: &str) -> char {
+        match self {
+            Form::Text => ' ',
+            Form::Csv => csv::separator(text),
+        }
+    }
+
     /// The cells of a line, none where it is a remark. In text the last of so many reaches to the line's end.
-    pub fn cells<'a>(self, line: Word<'a>, most: usize) -> Result<Vec<Word<'a>>, Bad> {
+    pub fn cells<'a>(self, line: Word<'a>, separator: char, most: usize) -> Result<Vec<Word<'a>>, Bad> {
         match self {
             Form::Text => Ok(spaced::cells(line, most)),
-            Form::Csv => csv::cells(line),
+            Form::Csv => csv::cells(line, separator),
         }
     }
 
