@@ -22,7 +22,7 @@ mod telling;
 mod ways;
 
 #[cfg(feature = "library")]
-pub use finding::{Asked, Breaks};
+pub use finding::{events, Asked, Breaks};
 #[cfg(feature = "library")]
 pub use part::{Part, Undrawn};
 #[cfg(feature = "library")]

@@ -24,6 +24,9 @@ fn a_missing_visibility_is_a_dashed_and_crossed_arrow_with_a_sentence() {
     // One cross in the legend, one on the arrow.
     let crosses: Vec<_> = drawing.named("path").filter(|path| path.class() == "cross").collect();
     assert_eq!(crosses.len(), 2);
+    // Under each a pale edge, drawn after the arrow and the band that it may lie on.
+    let edges: Vec<_> = drawing.elements.windows(2).filter(|pair| pair[1].class() == "cross").collect();
+    assert!(edges.iter().all(|pair| pair[0].class() == "edge" && pair[0].attributes["d"] == pair[1].attributes["d"]));
     let arrow = drawing.arrows().find(|path| path.class() == "break unseen").expect("it is there").pieces();
     let ((left, top), (right, bottom)) = crosses[0].pieces()[0];
     let cross = support::frame::Frame { left, top, right, bottom };
@@ -87,6 +90,27 @@ fn of_values_and_orders() -> Vec<Case> {
     ]
 }
 
+/// Each of these events but the first sees one alone: 2 sees 0, then each the one before, and 1 sees the last. All overlap.
+fn long_chain(events: usize) -> Record {
+    let seen = |number: usize| match number {
+        0 => vec![],
+        1 => vec![events - 1],
+        2 => vec![0],
+        _ => vec![number - 1],
+    };
+    one_site((0..events).map(|number| write(7, 0).sees(&seen(number))).collect())
+}
+
+fn of_long_chains() -> Vec<Case> {
+    vec![
+        (10, long_chain(6), "event 1 does not see event 0, though event 0 is seen by event 2, which is seen by event 3, which is seen by event 4, which is seen by event 5, which is seen by event 1"),
+        (10, long_chain(7), "event 1 does not see event 0, though event 0 leads to event 1 by visibility through events 2, 3, 4, 5, 6"),
+        (10, long_chain(8), "event 1 does not see event 0, though event 0 leads to event 1 by visibility through events 2, 3, 4, 5, 6, 7"),
+        (10, long_chain(9), "event 1 does not see event 0, though event 0 leads to event 1 by visibility through events 2, 3, 4, 5, 6 and 2 more, the last of them event 8"),
+        (10, long_chain(256), "event 1 does not see event 0, though event 0 leads to event 1 by visibility through events 2, 3, 4, 5, 6 and 249 more, the last of them event 255"),
+    ]
+}
+
 fn of_missing_visibility() -> Vec<Case> {
     let (unseen, stale) = (records::write_then_read(false), records::shipped()[1].clone());
     let back = |event: Event| one_site(vec![read(0).sees(&[1]), event]);
@@ -119,13 +143,13 @@ fn of_arbitration() -> Vec<Case> {
         Record::in_order(2, events).with_positions(&[1, 0]).apart(difference)
     };
     vec![
-        (3, apart(1, 4), "event 1 is placed before event 0 in arbitration, though event 0 returned at 5, more than 4 ms before event 1 started at 10"),
-        (4, apart(1, 4), "event 1 is placed before event 0 in arbitration, though event 0, a write, returned at 5, more than 4 ms before event 1 started at 10"),
-        (3, apart(1, 0), "event 1 is placed before event 0 in arbitration, though event 0 returned at 5, before event 1 started at 10"),
-        (3, apart(0, 5), "event 1 is placed before event 0 in arbitration, though event 0 returned at 5, before event 1 started at 10"),
-        (4, records::shipped()[7].clone(), "event 1 is placed before event 0 in arbitration, though event 0, a write, returned at 110, more than 39 ms before event 1 started at 150"),
-        (3, records::shipped()[0].clone(), "event 3 is placed before event 2 in arbitration, though event 2 returned at 5, before event 3 started at 6"),
-        (4, writes.clone(), "event 1 is placed before event 0 in arbitration, though event 0, a write, returned at 1, before event 1 started at 2"),
+        (3, apart(1, 4), "event 1 is placed before event 0 in arbitration, though event 0 returned at 5 ms, more than 4 ms before event 1 started at 10 ms"),
+        (4, apart(1, 4), "event 1 is placed before event 0 in arbitration, though event 0, a write, returned at 5 ms, more than 4 ms before event 1 started at 10 ms"),
+        (3, apart(1, 0), "event 1 is placed before event 0 in arbitration, though event 0 returned at 5 ms, before event 1 started at 10 ms"),
+        (3, apart(0, 5), "event 1 is placed before event 0 in arbitration, though event 0 returned at 5 ms, before event 1 started at 10 ms"),
+        (4, records::shipped()[7].clone(), "event 1 is placed before event 0 in arbitration, though event 0, a write, returned at 110 ms, more than 39 ms before event 1 started at 150 ms"),
+        (3, records::shipped()[0].clone(), "event 3 is placed before event 2 in arbitration, though event 2 returned at 5 ms, before event 3 started at 6 ms"),
+        (4, writes.clone(), "event 1 is placed before event 0 in arbitration, though event 0, a write, returned at 1 ms, before event 1 started at 2 ms"),
         (7, writes.clone(), "event 1 is placed before event 0 in arbitration, though both are writes at site 0 and event 0 is the earlier"),
         (8, followed, "event 2 is placed before event 0 in arbitration, though event 1, an earlier read at event 2's site, sees event 0"),
         (8, back.clone(), "arbitration would have to place event 1 before itself, as event 0, an earlier read at event 1's site, sees it"),
@@ -136,7 +160,7 @@ fn of_arbitration() -> Vec<Case> {
 
 #[test]
 fn each_predicate_has_a_sentence_for_its_break() {
-    let cases = [of_values_and_orders(), of_missing_visibility(), of_arbitration()].concat();
+    let cases = [of_values_and_orders(), of_missing_visibility(), of_long_chains(), of_arbitration()].concat();
     assert!({ PREDICATES }.all(|predicate| cases.iter().any(|case| case.0 == predicate)));
     for (predicate, record, sentence) in cases {
         let drawing = asked(predicate, &record);
@@ -166,6 +190,12 @@ fn pair(a: usize, b: usize) -> String {
     } else {
         format!("events {a} and {b}")
     }
+}
+
+#[test]
+fn a_pair_is_told_in_these_words() {
+    assert_eq!(diagram::events(2, 0), "events 2 and 0");
+    assert_eq!(diagram::events(1, 1), "event 1");
 }
 
 #[test]

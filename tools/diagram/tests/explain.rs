@@ -246,16 +246,16 @@ event 0
 
 const EARLY_READ: &str = "\
 early-read.gcr: predicate 3 RealTime is broken at events 0 and 1
-event 1 is placed before event 0 in arbitration, though event 0 returned at 110, more than 39 ms before event 1 started \
-at 150
+event 1 is placed before event 0 in arbitration, though event 0 returned at 110 ms, more than 39 ms before event 1 \
+started at 150 ms
 times are by each site's own clock, and clocks may differ by 39 ms
   event 0: site 0 wrote 7 to object 0, from 100 ms to 110 ms
   event 1: site 1 read none from object 0, from 150 ms to 155 ms; it started more than 39 ms after event 0 returned, but \
 is at 0 in arbitration, before event 0 at 1
 
 early-read.gcr: predicate 4 RealTimeWrites is broken at events 0 and 1
-event 1 is placed before event 0 in arbitration, though event 0, a write, returned at 110, more than 39 ms before event \
-1 started at 150
+event 1 is placed before event 0 in arbitration, though event 0, a write, returned at 110 ms, more than 39 ms before \
+event 1 started at 150 ms
 times are by each site's own clock, and clocks may differ by 39 ms
   event 0: site 0 wrote 7 to object 0, from 100 ms to 110 ms
   event 1: site 1 read none from object 0, from 150 ms to 155 ms; it started more than 39 ms after event 0 returned, but \

@@ -157,6 +157,9 @@ fn the_title_and_the_legend_tell_what_is_left_out() {
         assert_eq!(notes.contains(&format!("Of {all} events {left_out} ")), left_out > 0, "{}", case.name);
         assert_eq!(notes.contains("sees it and all drawn events that it sees"), left_out > 0, "{}", case.name);
         assert_eq!(notes.contains("sees it and all that it sees"), left_out == 0, "{}", case.name);
+        let of_drawn = "A drawn event sees another drawn one only where the arrows tell so, at its own site too;";
+        assert_eq!(notes.contains(of_drawn), left_out > 0, "{}", case.name);
+        assert_eq!(notes.contains("What the arrows do not tell is not seen"), left_out == 0, "{}", case.name);
         let arrows = drawing.named("title").filter(|title| title.text.contains(" sees event "));
         let heads = arrows.filter(|title| title.text.contains(" all ") && !title.text.starts_with("step "));
         assert!(heads.into_iter().all(|title| title.text.contains(" all drawn events that ") == (left_out > 0)));

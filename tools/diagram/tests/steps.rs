@@ -216,6 +216,9 @@ fn the_legend_explains_steps_just_where_there_are_some() {
             let drawing = asked(predicate, &record);
             let (notes, has) = (drawing.joined("note"), !drawing.steps().is_empty());
             assert_eq!((notes.contains(sign), notes.contains(words)), (has, has));
+            let on_way = drawing.texts("note").contains(&"on the way");
+            assert_eq!(on_way, drawing.steps().len() > 1);
+            assert!(!has || !notes.contains("named above"));
         }
     }
 }

@@ -21,11 +21,16 @@ impl Broken {
         (self.way[0], self.way[self.way.len() - 1])
     }
 
-    /// `events 0 and 2`, or `event 1` where both are one.
     pub fn events(&self) -> String {
-        match self.pair() {
-            (a, b) if a == b => format!("event {a}"),
-            (a, b) => format!("events {a} and {b}"),
-        }
+        let (a, b) = self.pair();
+        events(a, b)
+    }
+}
+
+/// A pair of events in words: `events 0 and 2`, or `event 1` where both are one.
+pub fn events(a: usize, b: usize) -> String {
+    match a == b {
+        true => format!("event {a}"),
+        false => format!("events {a} and {b}"),
     }
 }

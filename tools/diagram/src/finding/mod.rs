@@ -4,7 +4,7 @@ mod asked;
 mod broken;
 
 pub use asked::{Asked, Breaks};
-pub use broken::Broken;
+pub use broken::{events, Broken};
 
 use gcr::{Model, Predicate};
 

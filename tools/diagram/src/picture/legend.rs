@@ -16,8 +16,12 @@ const SIGN: f64 = 34.0;
 const STEP: f64 = 24.0;
 const WORDS: f64 = 18.0;
 
-const SIGHT: &str = "An arrow leads from an event to one that sees it. What the arrows do not tell is not seen, at an \
-    event's own site either; what a filled head tells needs no arrow of its own.";
+const SIGHT: &str = "An arrow leads from an event to one that sees it.";
+const UNTOLD: &str = "What the arrows do not tell is not seen, at an event's own site either;";
+/// The same where some events are not drawn.
+const UNTOLD_OF_DRAWN: &str =
+    "A drawn event sees another drawn one only where the arrows tell so, at its own site too;";
+const TOLD: &str = "what a filled head tells needs no arrow of its own.";
 /// Of a read's label.
 pub const OPENING: &str =
     "(opening): the read sees no write on its object and holds the object's opening, the figure that it starts with.";
@@ -36,6 +40,8 @@ pub enum Sign {
     Gap,
     Pair,
     Named,
+    /// An event between the pair's two on the way.
+    OnWay,
     Step,
     Arrow(Says),
     /// The same where some events are not drawn.
@@ -84,11 +90,10 @@ impl Legend {
 }
 
 /// What arrows tell; some may share their lines.
-pub fn of_arrows(is_shared: bool) -> String {
-    match is_shared {
-        true => format!("{SIGHT} {SHARED}"),
-        false => SIGHT.to_string(),
-    }
+pub fn of_arrows(is_part: bool, is_shared: bool) -> String {
+    let untold = if is_part { UNTOLD_OF_DRAWN } else { UNTOLD };
+    let shared = is_shared.then_some(SHARED);
+    [SIGHT, untold, TOLD].into_iter().chain(shared).collect::<Vec<_>>().join(" ")
 }
 
 /// Where only a part is drawn: that, and what it means for arrows.
@@ -128,6 +133,7 @@ fn meaning(sign: Sign) -> &'static str {
         Sign::Gap => "later at its site, but does not see it",
         Sign::Pair => "breaking pair",
         Sign::Named => "named above",
+        Sign::OnWay => "on the way",
         Sign::Step => "step of the way from the pair's first event to its second",
         Sign::OfDrawn(Says::SeesAll) => "sees it and all drawn events that it sees",
         Sign::OfDrawn(Says::SeesAlone) => "sees it, but not all drawn events that it sees",
@@ -152,12 +158,14 @@ fn draw(svg: &mut Svg, sign: Sign, place: Point) {
             svg.path("strokes", &strokes(place, right));
         }
         Sign::Pair => svg.rectangle("ring pair", at(place.x, place.y - 8.0), at(right.x, place.y + 8.0), 5.0),
-        Sign::Named => svg.rectangle("ring named", at(place.x, place.y - 8.0), at(right.x, place.y + 8.0), 5.0),
+        Sign::Named | Sign::OnWay => {
+            svg.rectangle("ring named", at(place.x, place.y - 8.0), at(right.x, place.y + 8.0), 5.0)
+        }
         Sign::Step => svg.path("step", &straight(place, right)),
         Sign::Arrow(says) | Sign::OfDrawn(says) => {
             svg.path(says.class(), &straight(place, right));
             if says.is_missing() {
-                svg.path("cross", &cross(half));
+                cross(svg, half);
             }
         }
     }

@@ -4,6 +4,7 @@ mod axis;
 mod bands;
 mod counts;
 mod heading;
+mod labels;
 mod legend;
 mod lines;
 mod marks;

@@ -3,13 +3,14 @@
 use super::counts::counts;
 use super::legend::{self, Sign};
 use super::marks::{self, Shown};
-use super::{axis, bands, lines, signs};
+use super::{axis, bands, labels, lines, signs};
 use crate::drawing::page::MARGIN;
 use crate::drawing::strokes::rounded;
 use crate::drawing::svg::{at, Svg};
 use crate::layout::across::Across;
 use crate::layout::Layout;
 use crate::part::Drawn;
+use crate::record::Event;
 use crate::sight::{Says, Web};
 use crate::telling::Breach;
 
@@ -104,8 +105,10 @@ impl Scene<'_> {
         signs.extend([head(Says::SeesAll), head(Says::SeesAlone), Sign::Gap]);
         if let Some(breach) = self.breach {
             signs.push(Sign::Pair);
-            signs.extend((!breach.named.is_empty()).then_some(Sign::Named));
-            signs.extend((!breach.steps.is_empty()).then_some(Sign::Step));
+            let has_way = !breach.steps.is_empty();
+            let named = if has_way { Sign::OnWay } else { Sign::Named };
+            signs.extend((!breach.named.is_empty()).then_some(named));
+            signs.extend(has_way.then_some(Sign::Step));
             signs.extend(breach.arrows.iter().map(|arrow| Sign::Arrow(arrow.says)));
         }
         signs
@@ -115,13 +118,15 @@ impl Scene<'_> {
     pub fn words(&self) -> Vec<String> {
         let (drawn, record) = (self.drawn, self.drawn.record);
         let part = self.is_part().then(|| legend::of_part(drawn.numbers.len(), record.events.len()));
-        let arrows = legend::of_arrows(self.layout.may_share_lines());
+        let arrows = legend::of_arrows(self.is_part(), self.layout.may_share_lines());
         let numbers = legend::of_numbers(&self.layout.scale, axis::base(self.across));
-        // The sign stands in labels, which the smallest scale has none of.
-        let has_opening = self.layout.scale.is_labelled && drawn.events().any(|(_, event)| event.holds_opening);
-        let opening = has_opening.then(|| legend::OPENING.to_string());
+        // The smallest scale has no labels.
+        let labelled: Vec<&Event> =
+            drawn.events().map(|(_, event)| event).filter(|_| self.layout.scale.is_labelled).collect();
+        let labels = labels::in_words(&labelled);
+        let opening = labelled.iter().any(|event| event.holds_opening).then(|| legend::OPENING.to_string());
         let clocks = (record.difference > 0).then(|| legend::of_clocks(record.difference));
         let way = self.breach.filter(|breach| !breach.steps.is_empty()).map(|_| legend::WAY.to_string());
-        part.into_iter().chain([arrows, numbers]).chain(opening).chain(clocks).chain(way).collect()
+        part.into_iter().chain([arrows, numbers]).chain(labels).chain(opening).chain(clocks).chain(way).collect()
     }
 }

@@ -33,16 +33,19 @@ pub fn draw(svg: &mut Svg, layout: &Layout, (arrow, route): (&Arrow, &Route), no
     let Some(place) = best else { return };
     counts.retain(|count| !count.frame.overlaps(&place.note));
     if arrow.says.is_missing() {
-        svg.path("cross", &cross(place.on));
+        cross(svg, place.on);
     }
     let base = at((place.note.left + place.note.right) / 2.0, place.note.bottom - 0.25 * FONT);
     svg.centred("said", base, FONT, note);
 }
 
-pub fn cross(place: Point) -> String {
+/// With a pale edge, by which it can be told from an arrow or a band that it lies on.
+pub fn cross(svg: &mut Svg, place: Point) {
     let corner = |x: f64, y: f64| at(place.x + x * CROSS, place.y + y * CROSS);
     let (one, other) = ((corner(-1.0, -1.0), corner(1.0, 1.0)), (corner(-1.0, 1.0), corner(1.0, -1.0)));
-    steps(&[("M", &[one.0]), ("L", &[one.1]), ("M", &[other.0]), ("L", &[other.1])])
+    let strokes = steps(&[("M", &[one.0]), ("L", &[one.1]), ("M", &[other.0]), ("L", &[other.1])]);
+    svg.path("edge", &strokes);
+    svg.path("cross", &strokes);
 }
 
 /// The room between two rows in which an arrow ends: there are no marks in it.

@@ -33,6 +33,7 @@ const RULES: &str = "\
 .break.unseen, .break.unplaced { stroke-dasharray: 9 5; }
 .break.placed { stroke-dasharray: 0.1 6; stroke-linecap: round; }
 .ground { fill: #ffd24d; stroke: #ffffff; stroke-width: 1.5; }
+.edge { fill: none; stroke: #ffffff; stroke-width: 7; stroke-linecap: round; }
 .cross { fill: none; stroke: #d55e00; stroke-width: 3; }
 .said { font-weight: 600; fill: #b04a00; paint-order: stroke; stroke: #ffffff; stroke-width: 4px; stroke-linejoin: round; }
 ";

@@ -57,6 +57,17 @@ impl Event {
         }
     }
 
+    /// What the label says.
+    pub fn label_in_words(&self) -> String {
+        let object = self.object;
+        match (self.is_write, self.value) {
+            (true, value) => format!("a write of {} to object {object}", value.unwrap_or(0)),
+            (false, Some(value)) => format!("a read of object {object} that holds {value}"),
+            (false, None) if self.is_pending() => format!("a read of object {object} that is pending"),
+            (false, None) => format!("a read of object {object} that holds no value"),
+        }
+    }
+
     /// All that the record says of it.
     pub fn details(&self, number: usize) -> String {
         let until = self.end.map_or("pending".to_string(), |end| format!("returned {end}"));

@@ -15,7 +15,7 @@ pub struct Breach {
     /// The breaking pair's arrows, the first with the note. None where the break is in one event's value.
     pub arrows: Vec<Arrow>,
     pair: (usize, usize),
-    /// Other events that the reason names.
+    /// Other events of the way, or that the reason names.
     pub named: Vec<usize>,
     /// The way from the pair's first event to its second, where the reason is one.
     pub steps: Vec<Step>,
@@ -50,7 +50,7 @@ impl Breach {
         events
     }
 
-    /// All that it names.
+    /// All that it is made of.
     pub fn all(&self) -> Vec<usize> {
         [self.events(), self.named.clone()].concat()
     }
@@ -173,7 +173,7 @@ fn returned(record: &Record, a: usize, b: usize, what: &str) -> Reason {
         0 => String::new(),
         skew => format!("more than {skew} ms "),
     };
-    alone(format!(", though event {a}{what} returned at {end}, {by}before event {b} started at {start}"))
+    alone(format!(", though event {a}{what} returned at {end} ms, {by}before event {b} started at {start} ms"))
 }
 
 /// What speaks against the record's pair, or for a pair of an event with itself.

@@ -4,6 +4,8 @@ use crate::record::Record;
 
 /// Ways longer than this are not told step by step.
 const TOLD: usize = 5;
+/// Of more events on the way than these and the last one, only these and the last one are named.
+const NAMED: usize = 5;
 
 #[derive(Clone, Copy, Debug, PartialEq, Eq)]
 pub struct Step {
@@ -41,9 +43,8 @@ pub fn between(steps: &[Step]) -> Vec<usize> {
 pub fn in_words(record: &Record, steps: &[Step]) -> Option<String> {
     let (first, last) = (steps.first()?.from, steps.last()?.to);
     if steps.len() > TOLD {
-        let between: Vec<String> = between(steps).iter().map(usize::to_string).collect();
-        let through = between.join(", ");
-        return Some(format!("event {first} leads to event {last} by {} through events {through}", kinds(steps)));
+        let (kinds, through) = (kinds(steps), named(&between(steps)));
+        return Some(format!("event {first} leads to event {last} by {kinds} through events {through}"));
     }
     let step = |step: &Step| match step.by {
         By::Sight => format!("is seen by event {}", step.to),
@@ -51,6 +52,16 @@ pub fn in_words(record: &Record, steps: &[Step]) -> Option<String> {
     };
     let steps: Vec<String> = steps.iter().map(step).collect();
     Some(format!("event {first} {}", steps.join(", which ")))
+}
+
+/// `2, 3, 4, 5, 6, 7`, or of more `2, 3, 4, 5, 6 and 249 more, the last of them event 255`.
+fn named(events: &[usize]) -> String {
+    let (first, more) = events.split_at(NAMED.min(events.len()));
+    let list = |events: &[usize]| events.iter().map(usize::to_string).collect::<Vec<_>>().join(", ");
+    match more {
+        [] | [_] => list(events),
+        [.., last] => format!("{} and {} more, the last of them event {last}", list(first), more.len()),
+    }
 }
 
 /// What the steps are of.

@@ -1,5 +1,6 @@
 //! Whether a sentence about a break is true of its record, read word by word.
 
+use second::explain::shortest_chain;
 use second::record::Record;
 use second::relations::Relations;
 
@@ -92,17 +93,17 @@ impl Facts<'_> {
                 let is_write = |event: usize| events[event].is_write() && self.is_at(event, site);
                 is_write(a) && is_write(self.subject) && so.has(a, self.subject)
             }
-            ("event # returned at #, before event # started at #", &[a, end, b, start]) => {
+            ("event # returned at # ms, before event # started at # ms", &[a, end, b, start]) => {
                 self.times((a, end), (b, start), 0)
             }
-            ("event #, a write, returned at #, before event # started at #", &[a, end, b, start]) => {
+            ("event #, a write, returned at # ms, before event # started at # ms", &[a, end, b, start]) => {
                 events[a].is_write() && self.times((a, end), (b, start), 0)
             }
-            ("event # returned at #, more than # ms before event # started at #", &[a, end, by, b, start]) => {
+            ("event # returned at # ms, more than # ms before event # started at # ms", &[a, end, by, b, start]) => {
                 self.times((a, end), (b, start), by)
             }
             (
-                "event #, a write, returned at #, more than # ms before event # started at #",
+                "event #, a write, returned at # ms, more than # ms before event # started at # ms",
                 &[a, end, by, b, start],
             ) => events[a].is_write() && self.times((a, end), (b, start), by),
             (shape, numbers) if shape.starts_with("event # leads to event # by ") => self.leads(shape, numbers),
@@ -162,20 +163,29 @@ impl Facts<'_> {
         (0..events.len()).filter(is_seen).filter(is_on).max_by_key(|&write| events[write].position)
     }
 
-    fn is_step(&self, a: usize, b: usize) -> bool {
-        self.relations.vis.has(a, b) || self.relations.so.has(a, b)
+    /// First, last, and those between: all, or the first five, how many more there are, and the last of those.
+    fn leads(&self, shape: &str, numbers: &[usize]) -> bool {
+        let Some(chain) = shortest_chain(&self.relations.step, numbers[0], numbers[1]) else { return false };
+        let (between, named) = (&chain[..chain.len() - 1], &numbers[2..]);
+        let is_named = match (shape.ends_with(" and # more, the last of them event #"), named) {
+            (true, [first @ .., more, last]) => {
+                let (of_way, others) = between.split_at(5);
+                of_way == first && others.len() == *more && others.len() > 1 && others.last() == Some(last)
+            }
+            _ => between == named && (5..=6).contains(&between.len()),
+        };
+        is_named && shape.contains(&format!(" by {} through events #, ", self.kinds(numbers[0], &chain)))
     }
 
-    /// First, last, and those between.
-    fn leads(&self, shape: &str, numbers: &[usize]) -> bool {
-        let way = [&numbers[..1], &numbers[2..], &numbers[1..2]].concat();
-        let seen: Vec<bool> = way.windows(2).map(|pair| self.relations.vis.has(pair[0], pair[1])).collect();
-        let kinds = match (seen.contains(&true), seen.contains(&false)) {
-            (true, true) => " by visibility and site order through ",
-            (true, false) => " by visibility through ",
-            _ => " by site order through ",
-        };
-        shape.contains(kinds) && way.windows(2).all(|pair| self.is_step(pair[0], pair[1]))
+    /// What the steps of a chain are of; one of both counts as visibility.
+    fn kinds(&self, first: usize, chain: &[usize]) -> &'static str {
+        let from = std::iter::once(&first).chain(chain);
+        let seen: Vec<bool> = from.zip(chain).map(|(&a, &b)| self.relations.vis.has(a, b)).collect();
+        match (seen.contains(&true), seen.contains(&false)) {
+            (true, true) => "visibility and site order",
+            (true, false) => "visibility",
+            _ => "site order",
+        }
     }
 
     /// `event 0 is seen by event 1, which is before event 2 at site 1`
