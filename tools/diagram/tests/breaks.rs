@@ -24,9 +24,10 @@ fn a_missing_visibility_is_a_dashed_and_crossed_arrow_with_a_sentence() {
     // One cross in the legend, one on the arrow.
     let crosses: Vec<_> = drawing.named("path").filter(|path| path.class() == "cross").collect();
     assert_eq!(crosses.len(), 2);
-    // Under each a pale edge, drawn after the arrow and the band that it may lie on.
-    let edges: Vec<_> = drawing.elements.windows(2).filter(|pair| pair[1].class() == "cross").collect();
-    assert!(edges.iter().all(|pair| pair[0].class() == "edge" && pair[0].attributes["d"] == pair[1].attributes["d"]));
+    // A pale edge tells it from a band that it lies on, and does not cut the arrow.
+    let at = |class: &str| drawing.elements.iter().rposition(|element| element.class() == class).expect("it is there");
+    assert!(at("step later") < at("edge") && at("edge") < at("break unseen"));
+    assert_eq!(drawing.elements[at("edge")].attributes["d"], crosses[0].attributes["d"]);
     let arrow = drawing.arrows().find(|path| path.class() == "break unseen").expect("it is there").pieces();
     let ((left, top), (right, bottom)) = crosses[0].pieces()[0];
     let cross = support::frame::Frame { left, top, right, bottom };
@@ -39,6 +40,17 @@ fn an_arbitration_that_should_not_be_is_an_arrow_from_the_earlier_place_to_the_l
     assert_eq!(drawing.pairs("break"), [(3, 2)]);
     assert_eq!(drawing.pairs("break placed"), [(3, 2)]);
     assert_eq!(drawing.texts("said"), ["event 3 is placed before event 2 in arbitration"]);
+}
+
+#[test]
+fn a_visibility_that_should_not_be_is_an_arrow_against_that_of_arbitration_and_the_words_are_on_neither() {
+    let separating_4 = Record::from_bytes(include_bytes!("../../../records/separating-4.gcr"));
+    let drawing = asked(2, &separating_4);
+    assert_eq!(drawing.pairs("break"), [(0, 2), (2, 0)]);
+    assert_eq!(drawing.pairs("break placed"), [(2, 0)]);
+    let said = drawing.named("text").find(|text| text.class() == "said").expect("it is there").frame();
+    let pieces = drawing.arrows().flat_map(|arrow| arrow.pieces());
+    assert!(pieces.into_iter().all(|piece| !said.is_crossed(piece)));
 }
 
 #[test]

@@ -165,7 +165,7 @@ fn draw(svg: &mut Svg, sign: Sign, place: Point) {
         Sign::Arrow(says) | Sign::OfDrawn(says) => {
             svg.path(says.class(), &straight(place, right));
             if says.is_missing() {
-                cross(svg, half);
+                svg.path("cross", &cross(half));
             }
         }
     }

@@ -84,7 +84,10 @@ impl Scene<'_> {
         let mut counts = counts(self.layout, &breach.steps);
         let arrows = self.web.arrows.iter().zip(&self.layout.routes);
         let breaking: Vec<_> = arrows.filter(|(arrow, _)| arrow.says.is_of_break()).collect();
-        for (arrow, route) in &breaking {
+        let first = breaking.first().copied();
+        let said = first.and_then(|first| signs::said(self.layout, first, &breach.note, &mut counts));
+        said.iter().for_each(|said| said.edge(svg));
+        for (arrow, route) in breaking {
             svg.between(
                 arrow.says.class(),
                 (arrow.from, arrow.to),
@@ -92,9 +95,7 @@ impl Scene<'_> {
                 &arrow.words(self.is_part()),
             );
         }
-        for (arrow, route) in breaking.into_iter().take(1) {
-            signs::draw(svg, self.layout, (arrow, route), &breach.note, &mut counts);
-        }
+        said.iter().for_each(|said| said.draw(svg));
         counts.iter().for_each(|count| count.draw(svg));
     }
 

@@ -13,6 +13,8 @@ use crate::ways::routes::Route;
 const FONT: f64 = 12.5;
 /// Half of a cross.
 const CROSS: f64 = 6.0;
+/// By how much a note may be higher than beside its arrow: more than from one level line to the next.
+const RAISED: f64 = 9.0;
 /// Where along its way an arrow may have its note, the best first.
 const PARTS: [f64; 5] = [0.5, 0.35, 0.65, 0.2, 0.8];
 
@@ -23,29 +25,46 @@ struct Place {
     note: Frame,
 }
 
+/// A note at its arrow.
+pub struct Said<'a> {
+    note: &'a str,
+    place: Place,
+    is_missing: bool,
+}
+
 /// Off these counts, as far as can be, and where fewest lines run through the note. The counts that stay in its way are
 /// left out.
-pub fn draw(svg: &mut Svg, layout: &Layout, (arrow, route): (&Arrow, &Route), note: &str, counts: &mut Vec<Count>) {
+pub fn said<'a>(layout: &Layout, of: (&Arrow, &Route), note: &'a str, counts: &mut Vec<Count>) -> Option<Said<'a>> {
+    let (arrow, route) = of;
     let size = (bold_width(note, FONT), 1.2 * FONT);
     let covered = |place: &Place| counts.iter().filter(|count| count.frame.overlaps(&place.note)).count();
     let places = places(route, size, &bounds(layout, arrow)).into_iter();
-    let best = places.min_by_key(|place| (covered(place), layout.lines_through(&place.note)));
-    let Some(place) = best else { return };
+    let place = places.min_by_key(|place| (covered(place), layout.lines_through(&place.note)))?;
     counts.retain(|count| !count.frame.overlaps(&place.note));
-    if arrow.says.is_missing() {
-        cross(svg, place.on);
-    }
-    let base = at((place.note.left + place.note.right) / 2.0, place.note.bottom - 0.25 * FONT);
-    svg.centred("said", base, FONT, note);
+    Some(Said { note, place, is_missing: arrow.says.is_missing() })
 }
 
-/// With a pale edge, by which it can be told from an arrow or a band that it lies on.
-pub fn cross(svg: &mut Svg, place: Point) {
+impl Said<'_> {
+    /// Under the cross and its arrow, but over a band that they may lie on.
+    pub fn edge(&self, svg: &mut Svg) {
+        if self.is_missing {
+            svg.path("edge", &cross(self.place.on));
+        }
+    }
+
+    pub fn draw(&self, svg: &mut Svg) {
+        if self.is_missing {
+            svg.path("cross", &cross(self.place.on));
+        }
+        let Frame { left, right, bottom, .. } = self.place.note;
+        svg.centred("said", at((left + right) / 2.0, bottom - 0.25 * FONT), FONT, self.note);
+    }
+}
+
+pub fn cross(place: Point) -> String {
     let corner = |x: f64, y: f64| at(place.x + x * CROSS, place.y + y * CROSS);
     let (one, other) = ((corner(-1.0, -1.0), corner(1.0, 1.0)), (corner(-1.0, 1.0), corner(1.0, -1.0)));
-    let strokes = steps(&[("M", &[one.0]), ("L", &[one.1]), ("M", &[other.0]), ("L", &[other.1])]);
-    svg.path("edge", &strokes);
-    svg.path("cross", &strokes);
+    steps(&[("M", &[one.0]), ("L", &[one.1]), ("M", &[other.0]), ("L", &[other.1])])
 }
 
 /// The room between two rows in which an arrow ends: there are no marks in it.
@@ -83,9 +102,19 @@ fn beside(from: Point, to: Point, size: (f64, f64), bounds: &Frame) -> Vec<Place
     places.filter(|place| (from.y - place.on.y) * (to.y - place.on.y) < 0.0).collect()
 }
 
-/// Above a level line.
+/// Above a level line, or in need above the next one too.
 fn over(from: Point, to: Point, size: (f64, f64), bounds: &Frame) -> Vec<Place> {
-    PARTS.into_iter().map(|part| above(at(from.x + part * (to.x - from.x), from.y), size, bounds)).collect()
+    let on = |part: f64| at(from.x + part * (to.x - from.x), from.y);
+    let place = |raised: f64| PARTS.map(|part| above(on(part), size, bounds).raised(raised));
+    [0.0, RAISED].into_iter().flat_map(place).collect()
+}
+
+impl Place {
+    /// With the note so much higher.
+    fn raised(self, by: f64) -> Place {
+        let note = Frame { top: self.note.top - by, bottom: self.note.bottom - by, ..self.note };
+        Place { note, ..self }
+    }
 }
 
 /// Around the middle above a place, or as near to that as the bounds allow.
