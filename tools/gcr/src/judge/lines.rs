@@ -29,9 +29,6 @@ fn of(question: &Question, broken: &Break) -> String {
         Question::Model(_) => format!(" by {}", broken.by),
         Question::Predicate(_) => String::new(),
     };
-    let pair = match (broken.a, broken.b) {
-        (a, b) if a == b => format!("event {a}"),
-        (a, b) => format!("events {a} and {b}"),
-    };
-    format!("{}{by} at {pair}", question.name())
+    let events = diagram::events(broken.a.into(), broken.b.into());
+    format!("{}{by} at {events}", question.name())
 }
