@@ -2,7 +2,7 @@
 
 use crate::ending::Failure;
 use crate::printable::printable;
-use std::ffi::{OsStr, OsString};
+use std::ffi::OsStr;
 use std::fs::{self, File, Permissions};
 use std::io::{self, BufWriter, Write};
 use std::os::fd::AsFd;
@@ -43,7 +43,19 @@ pub fn written(bytes: &[u8]) -> Result<(), Failure> {
 
 /// Whether a name stands for standard output.
 pub fn is_standard(name: &OsStr) -> bool {
-    name == "-" || name == "/dev/stdout"
+    ["-", "/dev/stdout", "/dev/fd/1", "/proc/self/fd/1"].iter().any(|each| name == *each)
+}
+
+/// Whether what goes to one of these names would take the place of what went to the other.
+pub fn is_one_place(one: &OsStr, other: &OsStr) -> bool {
+    (is_standard(one) && is_standard(other)) || place(Path::new(one)) == place(Path::new(other))
+}
+
+/// Where a file is, or would be.
+fn place(path: &Path) -> PathBuf {
+    let folder = path.parent().filter(|folder| !folder.as_os_str().is_empty()).unwrap_or(Path::new("."));
+    let beside = || fs::canonicalize(folder).map(|folder| folder.join(path.file_name().unwrap_or_default()));
+    fs::canonicalize(path).or_else(|_| beside()).unwrap_or_else(|_| path.into())
 }
 
 /// All of it to a file, or to standard output. A file that could not be written whole is as it was.
@@ -79,8 +91,5 @@ fn replaced(path: &Path, permissions: Option<Permissions>, bytes: &[u8]) -> io::
 }
 
 fn beside(path: &Path) -> PathBuf {
-    let mut name = OsString::from(".");
-    name.push(path.file_name().unwrap_or_default());
-    name.push(format!(".{}", std::process::id()));
-    path.with_file_name(name)
+    path.with_file_name(format!(".gcr.{}", std::process::id()))
 }

@@ -6,8 +6,9 @@ use crate::output::is_standard;
 use crate::source::Source;
 use crate::unknown::unknown;
 use std::ffi::{OsStr, OsString};
-use std::fs;
+use std::fs::{self, Metadata};
 use std::io::{self, IsTerminal};
+use std::os::unix::fs::MetadataExt;
 use std::path::Path;
 
 /// An option that a command has.
@@ -113,7 +114,8 @@ impl Words {
     /// Where this option says that what is made of a source goes. It is not the source itself, which would be lost.
     pub fn made_of(&self, source: &Source, option: &str) -> Result<Option<&OsStr>, Failure> {
         let to = self.one(option)?;
-        let is_same = |to: &&OsStr| source.path().is_some_and(|from| is_one_file(from, Path::new(to)));
+        let from = source.path().unwrap_or(Path::new("/dev/stdin"));
+        let is_same = |to: &&OsStr| is_one_file(from, Path::new(to));
         match to.filter(is_same) {
             Some(_) => Err(self.unclear(&format!("{option} names the file that is read"))),
             None => Ok(to),
@@ -142,7 +144,8 @@ impl Words {
     }
 }
 
-/// Whether two names lead to one file.
+/// Whether two names lead to one file, by its number on its device.
 fn is_one_file(one: &Path, other: &Path) -> bool {
-    matches!((fs::canonicalize(one), fs::canonicalize(other)), (Ok(one), Ok(other)) if one == other && one.is_file())
+    let number = |path| fs::metadata(path).ok().filter(Metadata::is_file).map(|there| (there.dev(), there.ino()));
+    number(one).is_some_and(|one| number(other) == Some(one))
 }

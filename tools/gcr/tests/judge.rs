@@ -85,11 +85,12 @@ fn what_a_folder_has_beside_records_is_told() {
     let record = bytes("records/clocks.gcr");
     folder.file("a.gcr", &record);
     folder.file("B.GCR", &record);
+    folder.file(".gcr", &record);
     folder.file("c.gcr.part", &record);
     fs::create_dir(folder.at("more")).unwrap();
     let ran = gcr(&["judge".as_ref(), folder.path().as_os_str()]);
-    let told = "2 records against Causal: 2 met, 0 broken, 0 refused, 0 not read; 2 other names in folders passed over";
-    assert_eq!((ran.lines()[2], ran.status), (told, 0));
+    let told = "3 records against Causal: 3 met, 0 broken, 0 refused, 0 not read; 2 other names in folders passed over";
+    assert_eq!((ran.lines()[3], ran.status), (told, 0));
 }
 
 #[test]

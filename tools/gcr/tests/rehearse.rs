@@ -221,6 +221,9 @@ fn words_that_are_not_understood_end_with_4() {
     let told = [
         (&["-o", "-", "--bytes-to", "-"][..], "-o and --bytes-to name the same file"),
         (&["-o", "a", "--bytes-to", "a"], "-o and --bytes-to name the same file"),
+        (&["-o", "a", "--bytes-to", "./a"], "-o and --bytes-to name the same file"),
+        (&["-o", "docs/../a", "--bytes-to", "a"], "-o and --bytes-to name the same file"),
+        (&["-o", "-", "--bytes-to", "/dev/stdout"], "-o and --bytes-to name the same file"),
         (&["-o"], "-o takes 1 word"),
         (&["-o", "a", "-o", "b"], "-o is given twice"),
         (&["--byte"], "there is no option --byte; the nearest is --bytes"),

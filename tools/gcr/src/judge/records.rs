@@ -64,7 +64,7 @@ fn names(folder: &Path) -> io::Result<Vec<PathBuf>> {
 }
 
 fn is_named_as_record(path: &Path) -> bool {
-    path.extension().is_some_and(|extension| extension.eq_ignore_ascii_case("gcr"))
+    path.as_os_str().to_string_lossy().to_ascii_lowercase().ends_with(".gcr")
 }
 
 /// Nobody has named it, so it has to be a file: reading a pipe might never end.

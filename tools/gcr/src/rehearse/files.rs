@@ -23,7 +23,7 @@ pub struct Files<'a> {
 impl<'a> Files<'a> {
     pub fn named(words: &'a Words, source: &Source) -> Result<Files<'a>, Failure> {
         let (record, bytes) = (words.made_of(source, RECORD)?, words.made_of(source, BYTES_TO)?);
-        if record.is_some() && record == bytes {
+        if record.zip(bytes).is_some_and(|(record, bytes)| output::is_one_place(record, bytes)) {
             return Err(words.unclear(&format!("{RECORD} and {BYTES_TO} name the same file")));
         }
         record.into_iter().chain(bytes).try_for_each(|to| words.spares_terminal(to))?;

@@ -111,6 +111,8 @@ fn cells_of_csv() {
         ("0,read,5,,0,1,1,#REF!", "column 17: an event that is seen is a number from 0 to 255"),
         ("0,read,5,,0,1,1,0 #N/A", "column 19: an event that is seen is a number from 0 to 255"),
         ("0,read,5;100,0,1,1,0", "column 8: an object is a number from 0 to 255"),
+        ("#REF!,read,5,,0,1,1,0", "column 1: a site is a number from 0 to 255"),
+        ("\"#REF!\",read,5,,0,1,1,0", "column 2: a site is a number from 0 to 255"),
     ] {
         is_bad(&["make", "--csv"], format!("{head}{row}\r\n"), &format!("line 4, {what}"));
     }

@@ -90,7 +90,17 @@ fn what_is_read_is_not_written_over() {
     }
     let what = "--bytes-to names the file that is read (gcr rehearse --help tells more)";
     gcr(&["rehearse", &script, "--bytes-to", &script]).ended(4, what);
+    let ran = shell(&format!("gcr show -o {record} < {record}"));
+    ran.ended(4, "-o names the file that is read (gcr show --help tells more)");
     assert!(fs::read(&record).unwrap() == bytes(RECORD));
+}
+
+#[test]
+fn a_long_name_is_a_name() {
+    let folder = Folder::new();
+    let to = folder.at(&"n".repeat(255));
+    gcr(&["show", RECORD, "-o", &to]).done();
+    assert_eq!(fs::read_to_string(&to).unwrap(), gcr(&["show", RECORD]).done().text());
 }
 
 #[test]

@@ -7,11 +7,20 @@ const SEPARATORS: [char; 2] = [',', ';'];
 
 const QUOTE: char = '"';
 
-/// What separates the cells of a text: the first that could. No cell that is taken has either, so a comma within a
-/// number is found where semicolons separate, and does not begin a cell.
+/// What separates the cells of a text: what its first line says, or the first that could. No cell that is taken has
+/// either, so a comma within a number is found where semicolons separate, and does not begin a cell.
 pub fn separator(text: &str) -> char {
     let rows = text.lines().filter(|line| !is_remark(line));
-    rows.flat_map(str::chars).find(|letter| SEPARATORS.contains(letter)).unwrap_or(SEPARATORS[0])
+    let said = text.lines().next().and_then(said_separator);
+    let found = || rows.flat_map(str::chars).find(|letter| SEPARATORS.contains(letter));
+    said.or_else(found).unwrap_or(SEPARATORS[0])
+}
+
+/// Some spreadsheets begin a table with `sep=;`.
+fn said_separator(line: &str) -> Option<char> {
+    let (name, rest) = line.trim().trim_matches(QUOTE).split_once('=')?;
+    let separator = rest.chars().next()?;
+    (name.eq_ignore_ascii_case("sep") && SEPARATORS.contains(&separator)).then_some(separator)
 }
 
 /// Without the white space and the quotes around them. A quote that is doubled in a quoted cell stays so: no cell that
@@ -27,10 +36,10 @@ pub fn cells(line: Word, separator: char) -> Result<Vec<Word>, Bad> {
     Ok(cells)
 }
 
-/// Some spreadsheets begin with a line that says the separator, and has it.
+/// `#` and a space begin one. A spreadsheet writes `#REF!` where it has no value, and that is none.
 fn is_remark(line: &str) -> bool {
-    let line = line.trim_start().trim_start_matches(QUOTE);
-    line.starts_with('#') || line.starts_with("sep=")
+    let line = line.trim().trim_matches(QUOTE);
+    line == "#" || line.starts_with("# ") || said_separator(line).is_some()
 }
 
 /// The first cell, and what comes after its separator, if there is one.
@@ -99,6 +108,8 @@ mod tests {
         assert_eq!(cells_of("# it's \"so, "), Ok(vec![]));
         assert_eq!(cells_of("\"# one, two\",,"), Ok(vec![]));
         assert_eq!(cells_of("sep=;"), Ok(vec![]));
+        assert_eq!(cells_of("#REF!,1"), Ok(vec![(1, "#REF!"), (7, "1")]));
+        assert_eq!(cells_of("\"#N/A\",1"), Ok(vec![(2, "#N/A"), (8, "1")]));
     }
 
     #[test]
@@ -106,5 +117,6 @@ mod tests {
         assert_eq!(separator("# a;b\nsites,2\n0;1\n"), ',');
         assert_eq!(separator("sites;2\n0,5;1\n"), ';');
         assert_eq!(separator("sites"), ',');
+        assert_eq!(separator("\"SEP=;\"\r\nsites,2\n"), ';');
     }
 }
