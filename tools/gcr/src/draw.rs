@@ -4,6 +4,7 @@ use crate::commands::Command;
 use crate::ending::{Ending, Failure};
 use crate::printable::printable;
 use crate::source::Source;
+use crate::text::number;
 use crate::words::{Opt, Words};
 use crate::{named, output};
 use diagram::{Asked, Part, Undrawn};
@@ -88,8 +89,7 @@ fn part(words: &Words) -> Result<Part, Failure> {
 fn numbers(words: &Words, option: &str) -> Result<Vec<usize>, Failure> {
     let number = |word: &OsString| {
         let text = printable(&word.to_string_lossy());
-        let is_digits = text.bytes().all(|byte| byte.is_ascii_digit());
-        let read = is_digits.then(|| text.parse().ok()).flatten();
+        let read = number(&text).and_then(|number| number.try_into().ok());
         read.ok_or_else(|| words.unclear(&format!("{option} takes numbers, and {text} is none")))
     };
     words.all(option).into_iter().flatten().map(number).collect()

@@ -8,4 +8,4 @@ mod word;
 
 pub use letters::{after, letters};
 pub use reading::read;
-pub use word::{before_remark, words, Bad, Word};
+pub use word::{before_remark, number, words, Bad, Word};

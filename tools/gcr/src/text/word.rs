@@ -31,10 +31,16 @@ impl Word<'_> {
 
     /// A whole number from 0 to the most, in decimal digits alone.
     pub fn number(&self, what: &str, most: u64) -> Result<u64, Bad> {
-        let is_digits = !self.text.is_empty() && self.text.bytes().all(|byte| byte.is_ascii_digit());
-        let number = is_digits.then(|| self.text.parse::<u64>().ok()).flatten();
-        number.filter(|&number| number <= most).ok_or_else(|| self.bad(format!("{what} is a number from 0 to {most}")))
+        number(self.text)
+            .filter(|&number| number <= most)
+            .ok_or_else(|| self.bad(format!("{what} is a number from 0 to {most}")))
     }
+}
+
+/// A whole number in decimal digits alone, without a sign.
+pub fn number(text: &str) -> Option<u64> {
+    let is_digits = text.bytes().all(|byte| byte.is_ascii_digit());
+    is_digits.then(|| text.parse().ok()).flatten()
 }
 
 /// The words of a line, up to a `#`, which begins a remark.
