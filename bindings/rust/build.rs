@@ -1,5 +1,5 @@
-//! Links the proved libraries, and builds them first where one is missing.
-//! `RIZHAKKON_LIB` names another folder to take them from.
+//! Links the proved libraries, and has them built first where one is missing or older than its sources.
+//! `RIZHAKKON_LIB` names another folder to take them from as they are.
 
 use std::env;
 use std::path::{Path, PathBuf};
@@ -25,20 +25,17 @@ fn archive(folder: &Path, library: &str) -> PathBuf {
     folder.join(format!("lib{library}.a"))
 }
 
-/// The repository's own folder of archives, filled where one is missing.
+/// The repository's own folder of archives, filled anew where something is missing or older than its sources. No judge of
+/// other sources is linked: where they cannot be built, this ends with the reason.
 fn built(root: &Path) -> PathBuf {
-    let folder = root.join("target/staticlib");
-    if LIBRARIES.iter().any(|library| !archive(&folder, library).exists()) {
-        build(root);
+    for source in ["crates", "crates.txt", "tools/library"] {
+        println!("cargo:rerun-if-changed={}", root.join(source).display());
     }
-    folder
-}
-
-fn build(root: &Path) {
     let mut command = Command::new("bash");
     let run = command.arg("tools/library").current_dir(root).output().expect("bash runs");
     let said = String::from_utf8_lossy(&run.stdout);
     assert!(run.status.success(), "bash tools/library failed:\n{said}{}", String::from_utf8_lossy(&run.stderr));
+    root.join("target/staticlib")
 }
 
 /// Unbundled, so that the archive is read once, by the final link.
