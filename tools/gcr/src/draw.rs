@@ -2,10 +2,11 @@
 
 use crate::commands::Command;
 use crate::ending::{Ending, Failure};
+use crate::options::{Kind, Operands, Opt};
 use crate::printable::printable;
 use crate::source::Source;
 use crate::text::number;
-use crate::words::{Opt, Words};
+use crate::words::Words;
 use crate::{named, output};
 use diagram::{Asked, Part, Undrawn};
 use gcr::RECORD_MOST;
@@ -14,38 +15,33 @@ use std::ffi::{OsStr, OsString};
 pub const COMMAND: Command = Command {
     name: "draw",
     about: "draws a record, or a part of it, as a picture in SVG",
-    help: HELP,
-    options: OPTIONS,
+    does: DOES,
+    operands: Operands::file("[FILE]"),
+    options: &[
+        Opt::with("--predicate", "P", Kind::Predicate, "shows the break of this predicate, by name or number"),
+        Opt::with("--model", "M", Kind::Model, "shows that of the first predicate of this model that is broken"),
+        Opt::with("--around", "A B", Kind::Number, AROUND),
+        Opt::with("--site", "S", Kind::Number, "draws events of this site").repeated(),
+        Opt::with("--object", "O", Kind::Number, "draws events on this object").repeated(),
+        Opt::with("-o", "PICTURE.svg", Kind::Made, "writes to this file; else the picture goes to standard output"),
+    ],
+    alternatives: &[&["--predicate", "--model"]],
+    notes: NOTES,
+    example: "gcr draw --predicate 5 --around 23 150 -o busy-day.svg records/busy-day.gcr",
     run,
 };
 
-const OPTIONS: &[Opt] = &[
-    Opt::with("--predicate", 1),
-    Opt::with("--model", 1),
-    Opt::with("--around", 2),
-    Opt::with("--site", 1),
-    Opt::with("--object", 1),
-    Opt::with("-o", 1),
-];
+const AROUND: &str = "draws events A and B, and with each the eight that start before it and the eight after it";
 
-const HELP: &str = "
-gcr draw [--predicate P | --model M] [--around A B] [--site S]... [--object O]... [-o PICTURE.svg] [FILE]
-
+const DOES: &str = "
 Draws what each event of a record sees, in SVG, and where a predicate or model is asked, its break.
+";
 
-  --predicate P   shows the break of this predicate, by name or number
-  --model M       shows that of the first predicate of this model that is broken
-  --around A B    draws events A and B, and with each the eight that start before it and the eight after it
-  --site S        draws events of this site; may be given several times
-  --object O      draws events on this object; may be given several times
-  -o PICTURE.svg  writes to this file; else the picture goes to standard output
-
+const NOTES: &str = "
 Of several kinds events are drawn that all of them allow; A, B and the events of a break are always drawn.
 FILE is a record; without it, or where it is -, the record comes from standard input.
 Exit status: 0 drawn, whatever is broken; 2 the record was refused; 3 FILE could not be read or the picture
 not be written; 4 the words were not understood, or the record has no such event or site, or nothing to draw.
-
-  gcr draw --predicate 5 --around 23 150 -o busy-day.svg records/busy-day.gcr
 ";
 
 fn run(words: &Words) -> Result<Ending, Failure> {
@@ -66,9 +62,6 @@ fn undrawn(source: &Source, why: Undrawn) -> Failure {
 }
 
 fn asked(words: &Words) -> Result<Asked, Failure> {
-    words.at_most_one_of(&["--predicate", "--model"])?;
-    words.one("--predicate")?; // at most once, as a model
-    words.one("--model")?;
     Ok(match (named::predicates(words)?.as_slice(), named::models(words)?.as_slice()) {
         (&[predicate, ..], _) => Asked::Predicate(predicate),
         (_, &[model, ..]) => Asked::Model(model),
@@ -77,7 +70,6 @@ fn asked(words: &Words) -> Result<Asked, Failure> {
 }
 
 fn part(words: &Words) -> Result<Part, Failure> {
-    words.one("--around")?; // at most once
     let around = match numbers(words, "--around")?.as_slice() {
         &[a, b] => Some((a, b)),
         _ => None,

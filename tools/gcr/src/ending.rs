@@ -18,6 +18,21 @@ pub enum Ending {
     Unclear = 4,
 }
 
+impl Ending {
+    pub const ALL: [Ending; 5] = [Ending::Well, Ending::Broken, Ending::Refused, Ending::Failed, Ending::Unclear];
+
+    /// As people are told of it.
+    pub fn meaning(self) -> &'static str {
+        match self {
+            Ending::Well => "all met, or done",
+            Ending::Broken => "something is broken",
+            Ending::Refused => "something was refused",
+            Ending::Failed => "a file could not be read or output not be written",
+            Ending::Unclear => "the command line was not understood",
+        }
+    }
+}
+
 impl From<Ending> for ExitCode {
     fn from(ending: Ending) -> ExitCode {
         ExitCode::from(ending as u8)

@@ -2,7 +2,8 @@
 
 use crate::commands::Command;
 use crate::ending::{Ending, Failure};
-use crate::words::{Opt, Words};
+use crate::options::{Kind, Operands, Opt};
+use crate::words::Words;
 use crate::{named, output};
 use diagram::Breaks;
 use gcr::{Model, RECORD_MOST};
@@ -10,27 +11,29 @@ use gcr::{Model, RECORD_MOST};
 pub const COMMAND: Command = Command {
     name: "explain",
     about: "tells in words how a record came to break a predicate",
-    help: HELP,
-    options: OPTIONS,
+    does: DOES,
+    operands: Operands::file("[FILE]"),
+    options: &[
+        Opt::with("--predicate", "P", Kind::Predicate, "this predicate, by name or number").repeated(),
+        Opt::with("--model", "M", Kind::Model, MODEL),
+        Opt::flag("--all", "each of the thirteen predicates that is broken"),
+    ],
+    alternatives: &[&["--predicate", "--model", "--all"]],
+    notes: NOTES,
+    example: "gcr explain --predicate MonotonicReads records/stale-read.gcr",
     run,
 };
 
-const OPTIONS: &[Opt] = &[Opt::with("--predicate", 1), Opt::with("--model", 1), Opt::flag("--all")];
+const MODEL: &str = "each predicate of this model that is broken; without an option the model is Causal";
 
-const HELP: &str = "
-gcr explain [--predicate P | --model M | --all] [FILE]
-
+const DOES: &str = "
 Tells how a record came to break a predicate: the verdict, why that is a break, and each event on the way,
 with its site, object, value and time, how the way comes to it, and at the end what is missing or wrong.
+";
 
-  --predicate P   this predicate, by name or number; may be given several times
-  --model M       each predicate of this model that is broken; without an option the model is Causal
-  --all           each of the thirteen predicates that is broken
-
+const NOTES: &str = "
 FILE is a record; without it, or where it is -, the record comes from standard input.
 Exit status: 0 nothing is broken, 1 a break is told, 2 the record was refused, 3 FILE could not be read.
-
-  gcr explain --predicate MonotonicReads records/stale-read.gcr
 ";
 
 fn run(words: &Words) -> Result<Ending, Failure> {
@@ -47,7 +50,6 @@ fn breaks(words: &Words) -> Result<Breaks, Failure> {
     if words.has("--all") {
         return Ok(Breaks::All);
     }
-    words.one("--model")?; // at most once
     Ok(match (named::predicates(words)?, named::models(words)?.as_slice()) {
         (_, &[model, ..]) => Breaks::OfModel(model),
         (predicates, _) if !predicates.is_empty() => Breaks::Of(predicates),

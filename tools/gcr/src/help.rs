@@ -2,58 +2,104 @@
 
 use crate::commands::{Command, ALL};
 use crate::ending::{Ending, Failure};
+use crate::options::{Kind, Operands, Opt};
 use crate::output;
-use std::ffi::OsString;
+use crate::words::Words;
 
-pub fn overview() -> String {
-    let line = |command: &Command| format!("  {:10}{}\n", command.name, command.about);
-    let commands: String = ALL.iter().map(line).collect();
-    format!(
-        "gcr COMMAND ...: judges, shows and rehearses records of a replicated store, by the proved library
+pub const COMMAND: Command = Command {
+    name: "help",
+    about: "tells how a command is used",
+    does: "Tells how a command is used, as --help after the command does; without one, which commands there are.",
+    operands: Operands::one("[COMMAND]", "command", Kind::Command),
+    options: &[],
+    alternatives: &[],
+    notes: "",
+    example: "gcr help judge",
+    run,
+};
 
-{commands}
-gcr COMMAND --help tells how a command is used, gcr --version which this is.
-Exit status: 0 all met, or done; 1 something is broken; 2 something was refused; 3 a file could not be
-read or output not be written; 4 the command line was not understood. The highest that applies.
-"
-    )
-}
+/// What all commands together do.
+pub const ABOUT: &str = "judges, shows and rehearses records of a replicated store, by the proved library";
 
-pub fn of(command: &Command) -> String {
-    format!("{}\n", command.help.trim())
-}
+/// The letters of the longest line.
+const WIDTH: usize = 110;
 
 /// What may stand in a command's place.
-pub const WORDS: &[&str] = &["help", "--help", "--version"];
+pub const WORDS: &[&str] = &["--help", "--version"];
 
-/// `gcr help` and `gcr help judge`.
-pub fn asked(words: &[OsString]) -> Result<Ending, Failure> {
-    match words {
-        [] => written(&overview()),
-        [word, ..] => written(&of(Command::named(word, &[])?)),
+fn run(words: &Words) -> Result<Ending, Failure> {
+    match words.files.first() {
+        None => written(&overview()),
+        Some(word) => written(&of(Command::named(word, &[])?)),
     }
 }
 
-pub fn version() -> String {
-    format!("gcr {}\n", env!("CARGO_PKG_VERSION"))
+pub fn overview() -> String {
+    let width = ALL.iter().map(|command| command.name.len()).max().unwrap_or(0) + 2;
+    let line = |command: &Command| format!("  {:width$}{}\n", command.name, command.about);
+    let commands: String = ALL.iter().map(line).collect();
+    let statuses: Vec<String> =
+        Ending::ALL.iter().map(|&ending| format!("{} {}", ending as u8, ending.meaning())).collect();
+    let statuses = format!("Exit status: {}. The highest that applies.", statuses.join("; "));
+    format!(
+        "gcr COMMAND ...: {ABOUT}\n\n{commands}\n\
+         gcr COMMAND --help tells how a command is used, gcr --version which this is.\n{}\n",
+        wrapped(statuses.split(' '), 0)
+    )
+}
+
+/// How a command is used, what it does, its options, what else there is to know, and an example.
+pub fn of(command: &Command) -> String {
+    let parts = [
+        usage(command),
+        command.does.trim().to_string(),
+        options(command),
+        command.notes.trim().to_string(),
+        example(command),
+    ];
+    let parts: Vec<String> = parts.into_iter().filter(|part| !part.is_empty()).collect();
+    format!("{}\n", parts.join("\n\n"))
+}
+
+fn usage(command: &Command) -> String {
+    let name = format!("gcr {}", command.name);
+    let pieces = command.usage();
+    wrapped([name.as_str()].into_iter().chain(pieces.iter().map(String::as_str)), name.len() + 1)
+}
+
+/// A line for each, or more where its sentence is long.
+fn options(command: &Command) -> String {
+    let label = |option: &Opt| format!("  {}", option.names_and_values());
+    let width = command.options().map(|option| label(option).len()).max().unwrap_or(0) + 1;
+    let line = |option: &'static Opt| {
+        let (label, sentence) = (format!("{:width$}", label(option)), option.sentence());
+        wrapped([label.as_str()].into_iter().chain(sentence.split(' ')), width + 1)
+    };
+    command.options().map(line).collect::<Vec<_>>().join("\n")
+}
+
+fn example(command: &Command) -> String {
+    match command.example.trim() {
+        one if !one.contains('\n') => format!("Example: {one}"),
+        many => format!("Example:\n{}", many.lines().map(|line| format!("  {line}")).collect::<Vec<_>>().join("\n")),
+    }
+}
+
+/// Pieces with spaces between them, in lines of which all but the first begin with so many spaces.
+fn wrapped<'a>(pieces: impl IntoIterator<Item = &'a str>, indent: usize) -> String {
+    let mut lines: Vec<String> = Vec::new();
+    for piece in pieces {
+        match lines.last_mut() {
+            Some(line) if line.chars().count() + 1 + piece.chars().count() <= WIDTH => {
+                *line = format!("{line} {piece}")
+            }
+            Some(_) => lines.push(format!("{:indent$}{piece}", "")),
+            None => lines.push(piece.to_string()),
+        }
+    }
+    lines.join("\n")
 }
 
 pub fn written(text: &str) -> Result<Ending, Failure> {
     output::written(text.as_bytes()).map(|()| Ending::Well)
-}
-
-#[cfg(test)]
-mod tests {
-    use super::*;
-
-    #[test]
-    fn the_help_of_a_command_names_all_its_options() {
-        for command in ALL {
-            let words: Vec<&str> =
-                command.help.split(|letter: char| letter != '-' && !letter.is_alphanumeric()).collect();
-            for option in command.options {
-                assert!(words.contains(&option.name), "{} {}", command.name, option.name);
-            }
-        }
-    }
 }

@@ -1,33 +1,26 @@
 //! Lists the models and predicates that records are judged by.
 
 use crate::commands::Command;
-use crate::ending::{Ending, Failure};
 use crate::help;
-use crate::words::Words;
+use crate::options::Operands;
 use gcr::{Model, Predicate};
 
 pub const COMMAND: Command = Command {
     name: "list",
     about: "lists the models and predicates, and what they ask",
-    help: HELP,
+    does: DOES,
+    operands: Operands::NONE,
     options: &[],
-    run,
+    alternatives: &[],
+    notes: "",
+    example: "gcr list",
+    run: |_| help::written(&format!("Models\n{}\nPredicates\n{}", models(), predicates())),
 };
 
-const HELP: &str = "
-gcr list : lists the models, each with its predicates, and the predicates, with what they ask
-
-Where a name is asked for, the number will do as well, and letters may be large or small.
-
-Example: gcr list
+const DOES: &str = "
+Lists the models, each with its predicates, and the predicates, with what they ask. Where a name is asked for,
+the number will do as well, and letters may be large or small.
 ";
-
-fn run(words: &Words) -> Result<Ending, Failure> {
-    match words.files.is_empty() {
-        true => help::written(&format!("Models\n{}\nPredicates\n{}", models(), predicates())),
-        false => Err(words.unclear("it takes no file")),
-    }
-}
 
 fn models() -> String {
     let predicates = |model: Model| model.predicates().iter().map(|each| each.name()).collect::<Vec<_>>().join(", ");

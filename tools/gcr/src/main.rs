@@ -12,6 +12,7 @@ mod make;
 mod named;
 mod nearest;
 mod openings;
+mod options;
 mod output;
 mod printable;
 mod rehearse;
@@ -20,6 +21,7 @@ mod source;
 mod table;
 mod text;
 mod unknown;
+mod version;
 mod words;
 
 use commands::Command;
@@ -41,12 +43,11 @@ fn run(words: &[OsString]) -> Result<Ending, Failure> {
     };
     match first.to_str() {
         Some("--help" | "-h") => help::written(&help::overview()),
-        Some("help") => help::asked(rest),
-        Some("--version" | "-V") => help::written(&help::version()),
+        Some("--version" | "-V") => version::told(),
         _ => {
             let command = Command::named(first, help::WORDS)?;
             let words = words::Words::read(command, rest)?;
-            match words.has("--help") {
+            match words.has(words::HELP.name) {
                 true => help::written(&help::of(command)),
                 false => (command.run)(&words),
             }

@@ -2,6 +2,7 @@
 
 use crate::commands::Command;
 use crate::ending::Failure;
+use crate::options::{Kind, Opt};
 use crate::output::is_standard;
 use crate::source::Source;
 use crate::unknown::unknown;
@@ -11,26 +12,8 @@ use std::io::{self, IsTerminal};
 use std::os::unix::fs::MetadataExt;
 use std::path::Path;
 
-/// An option that a command has.
-pub struct Opt {
-    /// With its dashes.
-    pub name: &'static str,
-    /// How many words come after it.
-    pub values: usize,
-}
-
-impl Opt {
-    pub const fn flag(name: &'static str) -> Opt {
-        Opt { name, values: 0 }
-    }
-
-    pub const fn with(name: &'static str, values: usize) -> Opt {
-        Opt { name, values }
-    }
-}
-
 /// Every command has it.
-const HELP: Opt = Opt::flag("--help");
+pub const HELP: Opt = Opt::flag("--help", "tells this").or("-h");
 
 /// What a command was given.
 pub struct Words {
@@ -40,19 +23,22 @@ pub struct Words {
 }
 
 impl Words {
-    /// Options may stand before and after files; after `--` all words are files.
+    /// Options may stand before and after files; after `--` all words are files. Who asks for help has it, whatever else
+    /// was given.
     pub fn read(command: &'static Command, words: &[OsString]) -> Result<Words, Failure> {
         let mut read = Words { command, given: Vec::new(), files: Vec::new() };
         let mut words = words.iter();
         while let Some(word) = words.next() {
             match word.to_str() {
                 Some("--") => read.files.extend(words.by_ref().cloned()),
-                Some("-h") => read.given.push((HELP.name, Vec::new())),
                 Some(option) if option.starts_with('-') && option != "-" => read.option(option, &mut words)?,
                 _ => read.files.push(word.clone()),
             }
         }
-        Ok(read)
+        match read.has(HELP.name) {
+            true => Ok(read),
+            false => read.fit().map(|()| read),
+        }
     }
 
     /// `--model causal` or `--model=causal`.
@@ -61,18 +47,41 @@ impl Words {
             Some((name, value)) if word.starts_with("--") => (name, Some(OsString::from(value))),
             _ => (word, None),
         };
-        let options = || self.command.options.iter().chain([&HELP]);
-        let Some(option) = options().find(|option| option.name == name) else {
-            return Err(self.unclear(&unknown("option", name, options().map(|option| option.name))));
+        let Some(option) = self.command.options().find(|option| option.is(name)) else {
+            let right = self.command.options().map(|option| option.name);
+            return Err(self.unclear(&unknown("option", name, right)));
         };
+        let count = option.places().count();
         let mut values: Vec<OsString> = joined.into_iter().collect();
-        values.extend(rest.take(option.values.saturating_sub(values.len())).cloned());
-        if values.len() != option.values {
-            let words = if option.values == 1 { "word" } else { "words" };
-            return Err(self.unclear(&format!("{name} takes {} {words}", option.values)));
+        values.extend(rest.take(count.saturating_sub(values.len())).cloned());
+        if values.len() != count {
+            return Err(self.unclear(&format!("{name} takes {}", counted(count))));
         }
+        self.are_right(option.name, option.kind, &values)?;
         self.given.push((option.name, values));
         Ok(())
+    }
+
+    /// Where fixed words are asked for, these are such.
+    fn are_right(&self, what: &str, kind: Kind, words: &[OsString]) -> Result<(), Failure> {
+        let wrong = words.iter().find(|word| !kind.allows(word));
+        wrong.map_or(Ok(()), |word| Err(self.unclear(&unknown(what, &word.to_string_lossy(), kind.words()))))
+    }
+
+    /// What was given may be given together, and so often.
+    fn fit(&self) -> Result<(), Failure> {
+        let is_once = |option: &&Opt| !option.is_repeated && !option.values.is_empty();
+        let twice = self.command.options().filter(is_once).find(|option| self.all(option.name).len() > 1);
+        if let Some(option) = twice {
+            return Err(self.unclear(&format!("{} is given twice", option.name)));
+        }
+        self.command.alternatives.iter().try_for_each(|names| self.at_most_one_of(names))?;
+        let operands = &self.command.operands;
+        if self.files.len() > operands.most {
+            let count = if operands.most == 0 { "no" } else { "one" };
+            return Err(self.unclear(&format!("it takes {count} {}", operands.what)));
+        }
+        self.are_right(operands.what, operands.kind, &self.files)
     }
 
     pub fn has(&self, name: &str) -> bool {
@@ -86,21 +95,13 @@ impl Words {
     }
 
     /// The word after an option that may be given once.
-    pub fn one(&self, name: &str) -> Result<Option<&OsStr>, Failure> {
-        match self.all(name).as_slice() {
-            [] => Ok(None),
-            [values] => Ok(values.first().map(OsString::as_os_str)),
-            _ => Err(self.unclear(&format!("{name} is given twice"))),
-        }
+    pub fn one(&self, name: &str) -> Option<&OsStr> {
+        self.all(name).first().and_then(|values| values.first()).map(OsString::as_os_str)
     }
 
     /// The one file that it is given.
     pub fn file(&self) -> Result<Source, Failure> {
-        match self.files.as_slice() {
-            [] => self.standard_input(),
-            [file] => Ok(Source::named(file)),
-            _ => Err(self.unclear("it takes one file")),
-        }
+        self.files.first().map_or_else(|| self.standard_input(), |file| Ok(Source::named(file)))
     }
 
     /// Where no file is named: nobody who types a command wants it to wait for a record's bytes from the keyboard.
@@ -113,7 +114,7 @@ impl Words {
 
     /// Where this option says that what is made of a source goes. It is not the source itself, which would be lost.
     pub fn made_of(&self, source: &Source, option: &str) -> Result<Option<&OsStr>, Failure> {
-        let to = self.one(option)?;
+        let to = self.one(option);
         let from = source.path().unwrap_or(Path::new("/dev/stdin"));
         let is_same = |to: &&OsStr| is_one_file(from, Path::new(to));
         match to.filter(is_same) {
@@ -141,6 +142,14 @@ impl Words {
 
     pub fn unclear(&self, message: &str) -> Failure {
         Failure::unclear(format!("{message} (gcr {} --help tells more)", self.command.name))
+    }
+}
+
+fn counted(words: usize) -> String {
+    match words {
+        0 => "no word".to_string(),
+        1 => "1 word".to_string(),
+        _ => format!("{words} words"),
     }
 }
 

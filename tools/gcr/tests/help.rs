@@ -13,7 +13,7 @@ fn helps() -> Vec<(String, String)> {
     let overview = gcr(&["--help"]).done();
     let lines = overview.lines().into_iter().filter_map(|line| line.strip_prefix("  "));
     let names: Vec<&str> = lines.filter_map(|line| line.split(' ').next()).collect();
-    assert_eq!(names, ["judge", "show", "make", "explain", "rehearse", "draw", "list"]);
+    assert_eq!(names, ["judge", "show", "make", "explain", "rehearse", "draw", "list", "version", "help"]);
     let help = |name: &str| (name.to_string(), gcr(&[name, "--help"]).done().text().to_string());
     names.into_iter().map(help).collect()
 }
@@ -27,10 +27,15 @@ fn options(help: &str) -> Vec<&str> {
     options
 }
 
-/// The lines that show how a command is run.
-fn examples<'a>(name: &str, help: &'a str) -> Vec<&'a str> {
-    let shown = help.lines().filter_map(|line| line.strip_prefix("Example: ").or(line.strip_prefix("  ")));
-    shown.filter(|line| line.contains(&format!("gcr {name}"))).collect()
+/// The line that shows how a command is run: on the same line as its heading, or below it.
+fn example(help: &str) -> &str {
+    let (_, example) = help.split_once("\nExample:").unwrap_or_else(|| panic!("no example in {help}"));
+    example.trim_start().lines().next().expect("a line")
+}
+
+/// The lines of a help that tell its options.
+fn option_lines(help: &str) -> Vec<&str> {
+    help.lines().filter(|line| line.starts_with("  -")).collect()
 }
 
 #[test]
@@ -39,10 +44,28 @@ fn help_is_asked_for_in_three_ways_and_is_short() {
         for words in [["help", &name], [&name, "-h"]] {
             assert_eq!(gcr(&words).done().text(), help);
         }
-        assert!(help.starts_with(&format!("gcr {name} ")), "{help}");
+        assert!(help.split_whitespace().take(2).eq(["gcr", &name]), "{help}");
         assert!(help.lines().count() <= 30, "{help}");
         let long = help.lines().find(|line| line.chars().count() > WIDTH);
         assert_eq!(long, None, "{name}");
+    }
+}
+
+/// The usage has an option in brackets, with those that do not go together in one pair, and a line tells what it does.
+#[test]
+fn a_help_is_made_of_the_options() {
+    let judge = gcr(&["judge", "--help"]).done();
+    let usage = "gcr judge [--model M]... [--predicate P]... [--all] [--json | --csv] [--quiet] [FILE | FOLDER | -]...";
+    assert_eq!(judge.lines()[0], usage);
+    assert!(judge.lines().contains(&"  -q, --quiet    nothing of records that are met"), "{}", judge.text());
+    for (name, help) in helps() {
+        let (usage, _) = help.split_once("\n\n").expect("a usage");
+        for line in option_lines(&help) {
+            let option = line.split([' ', ',']).rfind(|word| word.starts_with('-')).expect("an option");
+            assert!(option == "--help" || usage.contains(&format!("{option}")), "{name} {option}");
+        }
+        let last = option_lines(&help).last().expect("a line").split_whitespace().collect::<Vec<_>>();
+        assert_eq!(last, ["-h,", "--help", "tells", "this"], "{name}");
     }
 }
 
@@ -63,12 +86,11 @@ fn options_that_a_help_names_are_there() {
 fn every_help_has_an_example_and_it_runs() {
     for (name, help) in helps() {
         let folder = Folder::with(&["records"]);
-        assert!(!examples(&name, &help).is_empty(), "{help}");
-        for line in examples(&name, &help) {
-            let ran = shell_in(folder.path(), line);
-            assert!(ran.status <= 1 && ran.err.is_empty(), "{line}: {} {}", ran.status, ran.err);
-            assert!(!ran.out.is_empty() || folder.names().len() > 1, "{line} writes nothing");
-        }
+        let line = example(&help);
+        assert!(line.contains(&format!("gcr {name}")), "{line}");
+        let ran = shell_in(folder.path(), line);
+        assert!(ran.status <= 1 && ran.err.is_empty(), "{line}: {} {}", ran.status, ran.err);
+        assert!(!ran.out.is_empty() || folder.names().len() > 1, "{line} writes nothing");
     }
 }
 

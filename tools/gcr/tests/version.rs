@@ -18,7 +18,10 @@ fn header() -> String {
 
 #[test]
 fn the_command_tells_the_version_of_the_header() {
-    assert_eq!(gcr(&["--version"]).done().text(), format!("gcr {}\n", header()));
+    for word in ["--version", "-V", "version"] {
+        assert_eq!(gcr(&[word]).done().text(), format!("gcr {}\n", header()), "{word}");
+    }
+    gcr(&["version", "3"]).ended(4, "it takes no file (gcr version --help tells more)");
 }
 
 #[test]

@@ -13,8 +13,9 @@ mod summary;
 
 use crate::commands::Command;
 use crate::ending::{Ending, Failure};
+use crate::options::{Kind, Operands, Opt};
 use crate::output::Output;
-use crate::words::{Opt, Words};
+use crate::words::Words;
 use asked::Question;
 use form::Form;
 use found::Found;
@@ -25,37 +26,37 @@ use summary::Summary;
 pub const COMMAND: Command = Command {
     name: "judge",
     about: "judges records, files or a folder's, against models or predicates",
-    help: HELP,
+    does: DOES,
+    operands: Operands::files("[FILE | FOLDER | -]..."),
     options: &[
-        Opt::with("--model", 1),
-        Opt::with("--predicate", 1),
-        Opt::flag("--all"),
-        Opt::flag("--json"),
-        Opt::flag("--csv"),
-        Opt::flag("--quiet"),
+        Opt::with("--model", "M", Kind::Model, "a model by name or number; without any it is Causal, the house's rule")
+            .repeated(),
+        Opt::with("--predicate", "P", Kind::Predicate, "a predicate by name or number").repeated(),
+        Opt::flag("--all", "all thirteen predicates"),
+        Opt::flag("--json", "an object for each record, a line each"),
+        Opt::flag("--csv", "rows for each record"),
+        Opt::flag("--quiet", "nothing of records that are met").or("-q"),
     ],
+    alternatives: &[&["--json", "--csv"]],
+    notes: NOTES,
+    example: EXAMPLE,
     run,
 };
 
-const HELP: &str = "
-gcr judge [--model M]... [--predicate P]... [--all] [--json | --csv] [--quiet] [FILE | FOLDER | -]...
-
+const DOES: &str = "
 Judges each record and writes a line for it: met, or what is broken and at which events, or why it was
 refused. A folder stands for its files that end in .gcr; - or no file is standard input.
+";
 
-  --model M      a model by name or number; without any option it is Causal, the house's rule
-  --predicate P  a predicate by name or number
-  --all          all thirteen predicates
-  --json         an object for each record, a line each
-  --csv          rows for each record
-  --quiet        nothing of records that are met
-
+const NOTES: &str = "
 Exit status: 0 all met, 1 something broken, 2 something refused, 3 something not read; the highest counts.
+";
 
-  gcr judge records/clocks.gcr records/stale-read.gcr
-  records/clocks.gcr: met
-  records/stale-read.gcr: broken: Causal by CausalVisibility at events 0 and 2
-  2 records against Causal: 1 met, 1 broken, 0 refused, 0 not read
+const EXAMPLE: &str = "
+gcr judge records/clocks.gcr records/stale-read.gcr
+records/clocks.gcr: met
+records/stale-read.gcr: broken: Causal by CausalVisibility at events 0 and 2
+2 records against Causal: 1 met, 1 broken, 0 refused, 0 not read
 ";
 
 fn run(words: &Words) -> Result<Ending, Failure> {

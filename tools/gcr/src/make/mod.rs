@@ -6,28 +6,36 @@ pub use encoding::encoded;
 
 use crate::commands::Command;
 use crate::ending::{Ending, Failure};
+use crate::options::{Kind, Operands, Opt};
 use crate::output;
 use crate::table::Form;
 use crate::text;
-use crate::words::{Opt, Words};
+use crate::words::Words;
 use std::ffi::OsStr;
 
-pub const COMMAND: Command =
-    Command { name: "make", about: "makes a record of text", help: HELP, options: OPTIONS, run };
+pub const COMMAND: Command = Command {
+    name: "make",
+    about: "makes a record of text",
+    does: DOES,
+    operands: Operands::file("[FILE]"),
+    options: &[
+        Opt::with("-o", "OUT", Kind::Made, "writes the record to this file; else it goes to standard output"),
+        Opt::flag("--csv", "the text has cells with commas between them; so it is read too where FILE ends in .csv"),
+    ],
+    alternatives: &[],
+    notes: NOTES,
+    example: "gcr show records/stale-read.gcr > day.txt; gcr make day.txt -o day.gcr",
+    run,
+};
 
-const OPTIONS: &[Opt] = &[Opt::with("-o", 1), Opt::flag("--csv")];
+const DOES: &str = "
+Makes a record of text as gcr show writes it, if the proved reader passes it. FILE is the text; without it, or
+where it is -, the text comes from standard input.
+";
 
-const HELP: &str = "
-gcr make [FILE] [-o OUT] [--csv]: makes a record of text as gcr show writes it, if the proved reader passes it
-
-  FILE    the text; standard input where there is none, or where it is -
-  -o OUT  writes the record to this file; else it goes to standard output
-  --csv   the text has cells with commas between them; so it is read too where FILE ends in .csv
-
+const NOTES: &str = "
 Before the columns come the number of sites and, where there are such, the difference of clocks and openings.
 The columns event and state may be left out. # begins a remark. What is wrong is told by line and column.
-
-Example: gcr show records/stale-read.gcr > day.txt; gcr make day.txt -o day.gcr
 ";
 
 fn run(words: &Words) -> Result<Ending, Failure> {

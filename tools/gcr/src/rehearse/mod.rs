@@ -12,10 +12,11 @@ mod writing;
 
 use crate::commands::Command;
 use crate::ending::{Ending, Failure};
+use crate::options::{Kind, Operands, Opt};
 use crate::output;
 use crate::source::Source;
 use crate::text;
-use crate::words::{Opt, Words};
+use crate::words::Words;
 use files::Files;
 use rehearsal::Rehearsal;
 use script::Script;
@@ -23,20 +24,24 @@ use script::Script;
 pub const COMMAND: Command = Command {
     name: "rehearse",
     about: "runs a script of calls over the store's sites",
-    help: HELP,
-    options: OPTIONS,
+    does: DOES,
+    operands: Operands::file("[SCRIPT]"),
+    options: &[
+        Opt::with(files::RECORD, "RECORD", Kind::Made, "the record that the rehearsal leaves goes to this file"),
+        Opt::flag(BYTES, "the script is in the paper's form: a byte of sites, 132 bytes of openings, 8 bytes a call"),
+        Opt::with(files::BYTES_TO, "FILE", Kind::Made, "the script goes to this file in that form"),
+    ],
+    alternatives: &[],
+    notes: NOTES,
+    example: "printf 'sites 2\\nput 0 5 100\\nclose\\nget 1 5\\n' | gcr rehearse -o day.gcr",
     run,
 };
 
-const OPTIONS: &[Opt] = &[Opt::with(files::RECORD, 1), Opt::flag(BYTES), Opt::with(files::BYTES_TO, 1)];
-
 const BYTES: &str = "--bytes";
 
-const HELP: &str = "
-gcr rehearse [SCRIPT] [-o RECORD] [--bytes] [--bytes-to FILE]: runs a script of calls over the store's sites
-
-It writes the script with the answer of each call beside it, which is again a script. Without a file, or of -,
-it reads standard input. A line of a script is one of
+const DOES: &str = "
+Runs a script of calls over the store's sites, and writes it with the answer of each call beside it, which is
+again a script. Without a file, or of -, it reads standard input. A line of a script is one of
   sites N                  first: how many, 1 to 8
   open OBJECT VALUE        what an object, 0 to 31, starts with; before the first call
   put SITE OBJECT VALUE    an event, as is a get; events have numbers from 0
@@ -45,15 +50,11 @@ it reads standard input. A line of a script is one of
   close                    delivers to each site every put that it lacks
   call B0 B1 ... B7        any call, as its bytes in hexadecimal
 Sites have numbers from 0; # begins a remark.
+";
 
-  -o RECORD        the record that the rehearsal leaves goes to this file
-  --bytes          the script is in the paper's form: a byte of sites, 132 bytes of openings, 8 bytes a call
-  --bytes-to FILE  the script goes to this file in that form
+const NOTES: &str = "
 To - they go to standard output, in place of the lines.
 Exit status: 0 every call was done; 2 a call, or all of the script, was refused.
-
-Example:
-  printf 'sites 2\\nput 0 5 100\\nclose\\nget 1 5\\n' | gcr rehearse -o day.gcr
 ";
 
 fn run(words: &Words) -> Result<Ending, Failure> {

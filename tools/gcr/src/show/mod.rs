@@ -2,29 +2,40 @@
 
 use crate::commands::Command;
 use crate::ending::{Ending, Failure};
+use crate::options::{Kind, Operands, Opt};
 use crate::output;
 use crate::table::{written, Form};
-use crate::words::{Opt, Words};
+use crate::words::Words;
 use gcr::{Record, RECORD_MOST};
 use std::ffi::OsStr;
 
-pub const COMMAND: Command =
-    Command { name: "show", about: "writes a record as text", help: HELP, options: OPTIONS, run };
+pub const COMMAND: Command = Command {
+    name: "show",
+    about: "writes a record as text",
+    does: DOES,
+    operands: Operands::file("[FILE]"),
+    options: &[
+        Opt::with("-o", "OUT", Kind::Made, "writes to this file"),
+        Opt::flag(
+            "--csv",
+            "writes cells with commas between them, for a spreadsheet; so does an OUT that ends in .csv",
+        ),
+    ],
+    alternatives: &[],
+    notes: NOTES,
+    example: "gcr show records/stale-read.gcr",
+    run,
+};
 
-const OPTIONS: &[Opt] = &[Opt::with("-o", 1), Opt::flag("--csv")];
+const DOES: &str = "
+Writes a record as text, a line for each event. FILE is the record; without it, or where it is -, the record
+comes from standard input.
+";
 
-const HELP: &str = "
-gcr show [FILE] [-o OUT] [--csv]: writes a record as text, a line for each event
-
-  FILE    the record; standard input where there is none, or where it is -
-  -o OUT  writes to this file
-  --csv   writes cells with commas between them, for a spreadsheet; so does an OUT that ends in .csv
-
+const NOTES: &str = "
 The text has a header, then the columns: the event's number, site, kind, object, value, state, start, return,
 its position in the order of all events, and the events that it sees, in ranges: 0..5 7 is 0 to 5, and 7.
 gcr make makes the same record of it again.
-
-Example: gcr show records/stale-read.gcr
 ";
 
 fn run(words: &Words) -> Result<Ending, Failure> {
