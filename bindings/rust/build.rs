@@ -1,5 +1,5 @@
-//! Links the proved libraries, and builds them first where one is missing.
-//! `RIZHAKKON_LIB` names another folder to take them from.
+//! Links the proved libraries: those of the package that this is in, or the repository's, which are built first where
+//! one is missing. `RIZHAKKON_LIB` names another folder to take them from.
 
 use std::env;
 use std::path::{Path, PathBuf};
@@ -13,7 +13,7 @@ fn main() {
     let here = PathBuf::from(env::var_os("CARGO_MANIFEST_DIR").expect("cargo sets it"));
     let folder = match env::var_os(FOLDER) {
         Some(folder) => here.join(folder),
-        None => built(&here.join("../..")),
+        None => own(&here.join("../..")),
     };
     println!("cargo:rustc-link-search=native={}", folder.display());
     for library in LIBRARIES {
@@ -25,10 +25,24 @@ fn archive(folder: &Path, library: &str) -> PathBuf {
     folder.join(format!("lib{library}.a"))
 }
 
-/// The repository's own folder of archives, filled where one is missing.
+fn has_all(folder: &Path) -> bool {
+    LIBRARIES.iter().all(|library| archive(folder, library).exists())
+}
+
+/// The package's folder of archives where this is in one, else the repository's.
+fn own(root: &Path) -> PathBuf {
+    let packaged = root.join("lib");
+    if has_all(&packaged) {
+        packaged
+    } else {
+        built(root)
+    }
+}
+
+/// The repository's folder of archives, filled where one is missing.
 fn built(root: &Path) -> PathBuf {
     let folder = root.join("target/staticlib");
-    if LIBRARIES.iter().any(|library| !archive(&folder, library).exists()) {
+    if !has_all(&folder) {
         build(root);
     }
     folder
