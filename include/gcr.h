@@ -1,27 +1,12 @@
 /* Grain position records: the calls of the proved judge and rehearsal, for C and C++ hosts. The archive libgcr.a has
  * these calls. The reader's call, gcr_read, is in gcr_reader.h, which this header includes, and in the archive
- * libgcr_reader.a. What gcr_reader.h says of memory, stack, threads and answers holds here, and so do its refusals 3 to
- * 10; a judging call and gcr_explain bring their own work slice, so 1 never refuses them. The further refusals:
+ * libgcr_reader.a; words are in libgcr_words.a. The shared object libgcr.so has all that both headers have.
  *
- *   Asked before 3
- *    2  the predicate or model number is not 1 to 13
- *   Asked of an explanation, 41 after 2 and 42 after 10
- *   41  the slice of events has fewer than 256 entries
- *   42  the predicate is met
- *   Asked of a rehearsal, in this order
- *   20  the sites are not 1 to 8
- *   21  the script is not a multiple of 8 bytes, or is longer than 32,768
- *   22  the record buffer is shorter than 19,456 bytes
- *   23  the answer buffer is shorter than the script
- *   40  the openings are not 132 bytes, or hold a value under a clear bit
- *   Asked of each call of a script, in this order; found in the answer buffer
- *   31  the call is not well formed
- *   32  its site is not below the site count
- *   33  its object is above 31, or the delivered event is not a put already done
- *   34  a put or get where there are 256 events already
- *   35  a delivery to a site that knows the put
- *   36  a delivery to a site that lacks a put which this one needs
- */
+ * What gcr_reader.h says of memory, stack, threads and answers holds here, and so do its refusals 3 to 10; a judging
+ * call and gcr_explain bring their own work slice, so 1 never refuses them. Before 3 they ask 2. An explanation is
+ * asked 41 after 2, and 42 after 10; a rehearsal 20 to 23 and then 40; and each call of a script 31 to 36, which are
+ * found in its answer. The questions and sentences are the table of docs/FORMAT.md, 'Refusals', and the list of
+ * gcr_refusals.h. */
 #ifndef GCR_H
 #define GCR_H
 
@@ -96,6 +81,17 @@ uint64_t gcr_explain(uint32_t predicate, const uint8_t *record, size_t len, uint
  * refused changes only its own answer, and the script goes on. */
 uint64_t gcr_rehearse(uint32_t sites, const uint8_t *openings, size_t openings_len, const uint8_t *script,
                       size_t script_len, uint8_t *record, size_t record_len, uint8_t *answers, size_t answers_len);
+
+/* WORDS, from libgcr_words.a or libgcr.so, as gcr_reader.h has them. */
+
+/* The name of a predicate and of a model, 1 to 13; NULL of any other number. */
+const char *gcr_predicate_name(uint32_t predicate);
+const char *gcr_model_name(uint32_t model);
+
+/* The numbers of the predicates that a model asks, in its order, and 0 after the last; of a number that is no model 0
+ * alone. So it is never NULL, and this goes through all of them:
+ *   for (const uint32_t *p = gcr_model_predicates(model); *p; p++) */
+const uint32_t *gcr_model_predicates(uint32_t model);
 
 /* Gives an object an opening, in place of one that it has, and answers 1. Of an object from 32 on it answers 0 and
  * changes nothing. Begin with zeros, `uint8_t openings[GCR_OPENINGS_BYTES] = {0};`: what is made so is never refused

@@ -1,6 +1,7 @@
 /* Grain position records: the call of the proved reader, for C and C++ hosts. The archive libgcr_reader.a has this call
- * and no other: a members' site needs it and this header alone. The calls of the judge and of the rehearsal are in
- * gcr.h and in the archive libgcr.a.
+ * and no other: a members' site needs it and this header alone, and libgcr_words.a where it wants the words. The
+ * shared object libgcr_reader.so has both. The calls of the judge and of the rehearsal are in gcr.h and in the archive
+ * libgcr.a.
  *
  * Memory, stack, threads and answers are the same for the calls of both headers.
  *
@@ -14,19 +15,9 @@
  * THREADS. The library has no static state. Calls may run at the same time where none writes a buffer that another
  * one uses.
  *
- * ANSWERS. Any input is answered: nothing aborts, and a refusal has the number of the first question that got a no. It
- * also has a place, which is 0 where the table names none.
- *
- *   Asked of a record, in this order (2 is a question of the judge's, in gcr.h)
- *    1  the work slice has fewer than 1,024 words
- *    3  the length is not a multiple of 512 from 512 to 19,456
- *    4  a block's check is wrong                                         place: lowest such block
- *    5  block 0 is not as laid out, in the edition of its letters: GCR1 or GCR2
- *    6  the number of blocks does not fit the number of events
- *    7  a slot is not as laid out                                        place: lowest such slot
- *    8  an arbitration position is too large or a lower event's          place: lowest such event
- *    9  a visible set holds its own event or one that is not there       place: lowest such event
- *   10  visibility runs in a ring                                        place: lowest event on one
+ * ANSWERS. Any input is answered: nothing aborts, and a refusal has the number of the first question that got a no, and
+ * a place, which is 0 where the question has none. The questions, their places and their sentences are the table of
+ * docs/FORMAT.md, 'Refusals'; for programs it is the list of gcr_refusals.h. A record is asked 1 and 3 to 10 here.
  */
 #ifndef GCR_READER_H
 #define GCR_READER_H
@@ -38,7 +29,7 @@
 extern "C" {
 #endif
 
-#define GCR_VERSION "0.7.0" /* of both headers, both archives and the command gcr, which come together */
+#define GCR_VERSION "0.7.1" /* of the headers, archives, shared objects and the command gcr, which come together */
 
 #define GCR_RECORD_MOST 19456  /* bytes of the longest record */
 #define GCR_WORK_WORDS 1024    /* the words that gcr_read asks for */
@@ -68,6 +59,15 @@ static inline uint32_t gcr_refused_place(uint64_t answer) { return (uint32_t)(an
 static inline int gcr_is_visible(const uint64_t *work, size_t a, size_t b) {
     return (int)(work[4 * b + a / 64] >> a % 64 & 1);
 }
+
+/* WORDS, from libgcr_words.a or a shared object. They are text of the library's own, which stays as it is and is never
+ * freed. */
+
+/* The version of the library that the host runs with; GCR_VERSION is that of the header it was compiled with. */
+const char *gcr_version(void);
+
+/* The sentence of a refusal, by its number; NULL where none has this number. It says 'at this place' of the place. */
+const char *gcr_refusal_sentence(uint32_t number);
 
 /* An opening is the figure that an object starts the day with: what a read of the object should hold that sees no
  * write on it. Openings are GCR_OPENINGS_BYTES bytes. The first four have a bit for each of objects 0 to 31, object k's

@@ -1,5 +1,5 @@
-//! Links the proved libraries, and has them built first where one is missing or older than its sources.
-//! `RIZHAKKON_LIB` names another folder to take them from as they are.
+//! Links the proved libraries: those of the package that this is in, or the repository's, which are built first where one
+//! is missing or older than its sources. `RIZHAKKON_LIB` names another folder to take them from, as they are.
 
 use std::env;
 use std::path::{Path, PathBuf};
@@ -13,7 +13,7 @@ fn main() {
     let here = PathBuf::from(env::var_os("CARGO_MANIFEST_DIR").expect("cargo sets it"));
     let folder = match env::var_os(FOLDER) {
         Some(folder) => here.join(folder),
-        None => built(&here.join("../..")),
+        None => own(&here.join("../..")),
     };
     println!("cargo:rustc-link-search=native={}", folder.display());
     for library in LIBRARIES {
@@ -25,7 +25,16 @@ fn archive(folder: &Path, library: &str) -> PathBuf {
     folder.join(format!("lib{library}.a"))
 }
 
-/// The repository's own folder of archives, filled anew where something is missing or older than its sources. No judge of
+/// The package's folder of archives where this is in one, else the repository's.
+fn own(root: &Path) -> PathBuf {
+    let packaged = root.join("lib");
+    match LIBRARIES.iter().all(|library| archive(&packaged, library).exists()) {
+        true => packaged,
+        false => built(root),
+    }
+}
+
+/// The repository's folder of archives, filled anew where something is missing or older than its sources. No judge of
 /// other sources is linked: where they cannot be built, this ends with the reason.
 fn built(root: &Path) -> PathBuf {
     for source in ["crates", "crates.txt", "tools/library"] {
