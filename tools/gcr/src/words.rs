@@ -158,3 +158,59 @@ fn is_one_file(one: &Path, other: &Path) -> bool {
     let number = |path| fs::metadata(path).ok().filter(Metadata::is_file).map(|there| (there.dev(), there.ino()));
     number(one).is_some_and(|one| number(other) == Some(one))
 }
+
+#[cfg(test)]
+mod tests {
+    use super::*;
+    use crate::ending::Ending;
+    use crate::help;
+    use crate::options::Operands;
+
+    static PAINT: Command = Command {
+        name: "paint",
+        about: "",
+        does: "",
+        operands: Operands::NONE,
+        options: &[
+            Opt::with("--color", "WHEN", Kind::OneOf(&["always", "auto", "never"]), "paints"),
+            Opt::flag("--quiet", "says nothing").or("-q"),
+            Opt::with("--site", "S", Kind::Number, "paints this site").repeated(),
+        ],
+        alternatives: &[&["--color", "--quiet"]],
+        notes: "",
+        example: "",
+        run: |_| Ok(Ending::Well),
+    };
+
+    fn read(words: &[&str]) -> Result<Words, String> {
+        let words: Vec<OsString> = words.iter().map(OsString::from).collect();
+        let message = |failure: Failure| failure.message.replace(" (gcr paint --help tells more)", "");
+        Words::read(&PAINT, &words).map_err(message)
+    }
+
+    fn wrong(words: &[&str]) -> String {
+        read(words).err().expect("it is not understood")
+    }
+
+    #[test]
+    fn fixed_words_are_asked_for_by_the_table() {
+        assert_eq!(read(&["--color", "auto"]).unwrap().one("--color"), Some(OsStr::new("auto")));
+        assert_eq!(wrong(&["--color=alwyas"]), "there is no --color alwyas; the nearest is always");
+        assert!(help::of(&PAINT).contains("--color WHEN  paints; WHEN is always, auto or never\n"));
+    }
+
+    #[test]
+    fn a_letter_stands_for_its_option() {
+        assert!(read(&["-q"]).unwrap().has("--quiet"));
+        assert_eq!(wrong(&["-q", "--color", "auto"]), "--color and --quiet do not go together");
+        assert_eq!(wrong(&["--quiet=yes"]), "--quiet takes no word");
+    }
+
+    #[test]
+    fn an_option_comes_as_often_as_the_table_says() {
+        assert_eq!(read(&["--site", "1", "--site=2"]).unwrap().all("--site").len(), 2);
+        assert_eq!(wrong(&["--color", "auto", "--color", "auto"]), "--color is given twice");
+        assert_eq!(wrong(&["file"]), "it takes no file");
+        assert!(read(&["--help", "file", "-q", "--color", "auto"]).is_ok());
+    }
+}
