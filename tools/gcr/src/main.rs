@@ -9,6 +9,7 @@ mod explain;
 mod help;
 mod judge;
 mod list;
+mod made;
 mod make;
 mod manual;
 mod named;

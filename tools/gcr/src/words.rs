@@ -4,6 +4,7 @@ use crate::commands::Command;
 use crate::ending::Failure;
 use crate::options::{Kind, Opt};
 use crate::output::is_standard;
+use crate::printable::printable;
 use crate::source::Source;
 use crate::unknown::unknown;
 use std::ffi::{OsStr, OsString};
@@ -112,15 +113,24 @@ impl Words {
         }
     }
 
-    /// Where this option says that what is made of a source goes. It is not the source itself, which would be lost.
+    /// Where this option says that what is made of a source goes. It is not the source itself, which would be lost, nor
+    /// a file of another kind.
     pub fn made_of(&self, source: &Source, option: &str) -> Result<Option<&OsStr>, Failure> {
-        let to = self.one(option);
-        let from = source.path().unwrap_or(Path::new("/dev/stdin"));
-        let is_same = |to: &&OsStr| is_one_file(from, Path::new(to));
-        match to.filter(is_same) {
-            Some(_) => Err(self.unclear(&format!("{option} names the file that is read"))),
-            None => Ok(to),
+        let Some(to) = self.one(option) else { return Ok(None) };
+        if is_one_file(source.path().unwrap_or(Path::new("/dev/stdin")), Path::new(to)) {
+            return Err(self.unclear(&format!("{option} names the file that is read")));
         }
+        self.spares_others(option, to).map(|()| Some(to))
+    }
+
+    fn spares_others(&self, option: &str, to: &OsStr) -> Result<(), Failure> {
+        let kind = self.command.options().find(|each| each.is(option)).map(|each| each.kind);
+        let Some(Kind::Made(made)) = kind.filter(|_| !is_standard(to)) else { return Ok(()) };
+        let name = printable(&to.to_string_lossy());
+        let unread = |error| Failure::failed(format!("cannot read {name}: {error}"));
+        let Some(lost) = made.would_lose(Path::new(to)).map_err(unread)? else { return Ok(()) };
+        let why = format!("{option} names {name}, which is {lost}, and {}", made.rule());
+        Err(self.unclear(&format!("{why}: name another file, or remove this one")))
     }
 
     /// Bytes that are no text are for a file or a pipe.
@@ -184,7 +194,7 @@ mod tests {
 
     fn read(words: &[&str]) -> Result<Words, String> {
         let words: Vec<OsString> = words.iter().map(OsString::from).collect();
-        let message = |failure: Failure| failure.message.replace(" (gcr paint --help tells more)", "");
+        let message = |failure: Failure| failure.message.expect("words").replace(" (gcr paint --help tells more)", "");
         Words::read(&PAINT, &words).map_err(message)
     }
 

@@ -36,7 +36,7 @@ fn case(pattern: &str, done: &str) -> String {
 
 fn of_kind(kind: Kind) -> String {
     match kind {
-        Kind::File | Kind::Made => "_gcr_files \"$1\"".to_string(),
+        Kind::File | Kind::Made(_) => "_gcr_files \"$1\"".to_string(),
         Kind::Nothing | Kind::Number => ":".to_string(),
         Kind::Model | Kind::Predicate | Kind::Command | Kind::OneOf(_) => words(&kind.words()),
     }

@@ -44,7 +44,7 @@ fn value(option: &Opt) -> String {
 
 fn of_kind(kind: Kind) -> Option<String> {
     match kind {
-        Kind::File | Kind::Made => Some("-F".to_string()),
+        Kind::File | Kind::Made(_) => Some("-F".to_string()),
         Kind::Nothing | Kind::Number => None,
         Kind::Model | Kind::Predicate | Kind::Command | Kind::OneOf(_) => {
             Some(format!("-f -a {}", fish(&kind.words().join(" "))))

@@ -55,7 +55,7 @@ fn operands(command: &Command) -> Option<String> {
 
 fn action(kind: Kind) -> String {
     match kind {
-        Kind::File | Kind::Made => "_files".to_string(),
+        Kind::File | Kind::Made(_) => "_files".to_string(),
         Kind::Nothing | Kind::Number => " ".to_string(),
         Kind::Model | Kind::Predicate | Kind::Command | Kind::OneOf(_) => {
             format!("_gcr_names {}", kind.words().join(" "))
