@@ -26,6 +26,6 @@ pub use finding::{events, Asked, Breaks};
 #[cfg(feature = "library")]
 pub use part::{Part, Undrawn};
 #[cfg(feature = "library")]
-pub use picture::draw;
+pub use picture::{draw, Picture};
 #[cfg(feature = "library")]
 pub use telling::{explain, Explanation};

@@ -10,7 +10,7 @@ use support::records;
 /// The picture of a record of this name.
 fn drawn_as(name: &str) -> String {
     let record = records::write_then_read(true).to_bytes();
-    draw(name, &record, Asked::Model(Model::Causal), &Part::whole()).expect("it is drawn")
+    draw(name, &record, Asked::Model(Model::Causal), &Part::whole()).expect("it is drawn").svg
 }
 
 #[test]

@@ -36,7 +36,7 @@ fn case(seed: u64, record: Record) -> Case {
     let predicate = (seed % 2 == 1).then_some(1 + (seed / 2 % 13) as u32);
     let (part, asked) = (parts::random(seed, &record), of(predicate));
     let drawing = match draw("record", &record.to_bytes(), asked, &part) {
-        Ok(picture) => Some(Drawing::read(&picture)),
+        Ok(picture) => Some(Drawing::read(&picture.svg)),
         Err(why) => {
             assert_eq!(why, Undrawn::Nothing, "seed {seed}");
             None

@@ -12,7 +12,7 @@ const LISTING: &[u8] = include_bytes!("../../../records/listing.gcr");
 const STALE_READ: &[u8] = include_bytes!("../../../records/stale-read.gcr");
 
 fn drawn(bytes: &[u8], asked: Asked) -> String {
-    draw("record", bytes, asked, &Part::whole()).expect("it is drawn")
+    draw("record", bytes, asked, &Part::whole()).expect("it is drawn").svg
 }
 
 fn refused(bytes: &[u8], asked: Asked) -> String {
@@ -35,8 +35,20 @@ fn the_pictures_of_the_documents_are_what_is_drawn() {
         let record = std::fs::read(format!("{root}/records/{name}.gcr")).expect("it ships");
         let picture = draw(&format!("{name}.gcr"), &record, Asked::Predicate(predicate(number)), &part);
         let kept = std::fs::read_to_string(format!("{root}/docs/pictures/{name}.svg")).expect("it is kept");
-        assert!(picture.expect("it is drawn") == kept, "{name}");
+        assert!(picture.expect("it is drawn").svg == kept, "{name}");
     }
+}
+
+/// In the heading's words, without the name.
+#[test]
+fn what_is_drawn_is_told_in_short() {
+    let told = |bytes, asked, part: &Part| draw("record", bytes, asked, part).expect("it is drawn").told;
+    let whole = Part::whole();
+    let broken = "3 events at 2 sites; model 4 Causal is broken by predicate 10 CausalVisibility at events 0 and 2";
+    assert_eq!(told(STALE_READ, Asked::Model(Model::Causal), &whole), broken);
+    assert_eq!(told(LISTING, Asked::Model(Model::Causal), &whole), "5 events at 2 sites; model 4 Causal is met");
+    let part = Part { sites: vec![1], ..Part::whole() };
+    assert_eq!(told(STALE_READ, Asked::Nothing, &part), "2 of 3 events at 1 of 2 sites");
 }
 
 #[test]

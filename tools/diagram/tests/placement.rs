@@ -35,7 +35,7 @@ fn of(record: Record, number: u64, name: &str) -> Vec<(String, Drawing)> {
     let named = |predicate: u32| format!("{name} {number}, predicate {predicate}");
     let part = parts::random(number, &record);
     let part = draw("record", &record.to_bytes(), Asked::Predicate(asking::predicate(predicate(7))), &part);
-    let part = part.ok().map(|picture| (format!("{name} {number}, part"), Drawing::read(&picture)));
+    let part = part.ok().map(|picture| (format!("{name} {number}, part"), Drawing::read(&picture.svg)));
     let whole = [
         (format!("{name} {number}"), plain(&record)),
         (named(predicate(0)), asked(predicate(0), &record)),

@@ -4,7 +4,7 @@ use crate::ending::{Ending, Failure};
 use crate::options::{Operands, Opt};
 use crate::unknown::unknown;
 use crate::words::{Words, HELP};
-use crate::{draw, explain, help, judge, list, make, rehearse, show, version};
+use crate::{completions, draw, explain, help, judge, list, make, manual, rehearse, show, version};
 use std::ffi::OsStr;
 
 /// All that there is to tell of a command: its help, its completions and its part of the manual are made of this.
@@ -34,25 +34,33 @@ pub const ALL: &[Command] = &[
     rehearse::COMMAND,
     draw::COMMAND,
     list::COMMAND,
+    completions::COMMAND,
+    manual::COMMAND,
     version::COMMAND,
     help::COMMAND,
 ];
 
+/// The words that a command line may begin with.
+pub fn first_words() -> Vec<&'static str> {
+    ALL.iter().map(|command| command.name).chain(help::INSTEAD.iter().map(|option| option.name)).collect()
+}
+
 impl Command {
-    /// Beside the commands these words would be right.
-    pub fn named(word: &OsStr, others: &[&str]) -> Result<&'static Command, Failure> {
+    /// Where it is none, one of these words would be right.
+    pub fn named(word: &OsStr, right: &[&str]) -> Result<&'static Command, Failure> {
         let word = word.to_string_lossy();
-        let unknown = || {
-            let right = ALL.iter().map(|command| command.name).chain(others.iter().copied());
-            let unknown = unknown("command", &word, right);
-            Failure::unclear(format!("{unknown} (gcr --help tells them all)"))
-        };
-        ALL.iter().find(|command| command.name == word).ok_or_else(unknown)
+        let unknown = || unknown("command", &word, right.iter().copied());
+        let unclear = || Failure::unclear(format!("{} (gcr --help tells them all)", unknown()));
+        ALL.iter().find(|command| command.name == word).ok_or_else(unclear)
     }
 
     /// All that it has.
     pub fn options(&self) -> impl Iterator<Item = &'static Opt> {
         self.options.iter().chain([&HELP])
+    }
+
+    pub fn option_names(&self) -> Vec<&'static str> {
+        self.options().flat_map(Opt::names).collect()
     }
 
     /// What comes after its name, in pieces that stay whole: `[--json | --csv]`, `[--site S]...`, `[FILE]`.

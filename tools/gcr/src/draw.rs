@@ -2,6 +2,7 @@
 
 use crate::commands::Command;
 use crate::ending::{Ending, Failure};
+use crate::made::Made;
 use crate::options::{Kind, Operands, Opt};
 use crate::printable::printable;
 use crate::source::Source;
@@ -9,7 +10,7 @@ use crate::text::number;
 use crate::words::Words;
 use crate::{named, output};
 use diagram::{Asked, Part, Undrawn};
-use gcr::RECORD_MOST;
+use gcr::{Model, RECORD_MOST};
 use std::ffi::{OsStr, OsString};
 
 pub const COMMAND: Command = Command {
@@ -19,29 +20,35 @@ pub const COMMAND: Command = Command {
     operands: Operands::file("[FILE]"),
     options: &[
         Opt::with("--predicate", "P", Kind::Predicate, "shows the break of this predicate, by name or number"),
-        Opt::with("--model", "M", Kind::Model, "shows that of the first predicate of this model that is broken"),
+        Opt::with("--model", "M", Kind::Model, MODEL),
+        Opt::flag("--plain", "judges nothing, and shows what the record says alone"),
         Opt::with("--around", "A B", Kind::Number, AROUND),
         Opt::with("--site", "S", Kind::Number, "draws events of this site").repeated(),
         Opt::with("--object", "O", Kind::Number, "draws events on this object").repeated(),
-        Opt::with("-o", "PICTURE.svg", Kind::Made, "writes to this file; else the picture goes to standard output"),
+        Opt::with("-o", "PICTURE.svg", Kind::Made(Made::Picture), "writes to this file; else to standard output"),
+        Opt::flag("--quiet", "does not say what was drawn").or("-q"),
     ],
-    alternatives: &[&["--predicate", "--model"]],
+    alternatives: &[&["--predicate", "--model", "--plain"]],
     notes: NOTES,
     example: "gcr draw --predicate 5 --around 23 150 -o busy-day.svg records/busy-day.gcr",
     run,
 };
 
+const MODEL: &str = "shows that of this model's first broken predicate; where nothing is asked it is Causal";
+
 const AROUND: &str = "draws events A and B, and with each the eight that start before it and the eight after it";
 
 const DOES: &str = "
-Draws what each event of a record sees, in SVG, and where a predicate or model is asked, its break.
+Draws what each event of a record sees, in SVG, and the break of a predicate or model, if there is one. What
+was drawn is said in a line, on standard error where the picture goes to standard output.
 ";
 
 const NOTES: &str = "
 Of several kinds events are drawn that all of them allow; A, B and the events of a break are always drawn.
 FILE is a record; without it, or where it is -, the record comes from standard input.
 Exit status: 0 drawn, whatever is broken; 2 the record was refused; 3 FILE could not be read or the picture
-not be written; 4 the words were not understood, or the record has no such event or site, or nothing to draw.
+not be written; 4 the words were not understood, the record has no such event or site, or nothing to draw, or
+the file that would be replaced is no picture.
 ";
 
 fn run(words: &Words) -> Result<Ending, Failure> {
@@ -50,7 +57,19 @@ fn run(words: &Words) -> Result<Ending, Failure> {
     let to = words.made_of(&source, "-o")?.unwrap_or(OsStr::new("-"));
     let bytes = source.bytes(RECORD_MOST + 1)?;
     let picture = diagram::draw(&source.short_name(), &bytes, asked, &part).map_err(|why| undrawn(&source, why))?;
-    output::saved(to, picture.as_bytes())?;
+    output::saved(to, picture.svg.as_bytes())?;
+    match words.has("--quiet") {
+        true => Ok(Ending::Well),
+        false => say(&source, to, &picture.told),
+    }
+}
+
+/// Beside the picture and not in it: by the file's name, or the record's where the picture has none.
+fn say(source: &Source, to: &OsStr, told: &str) -> Result<Ending, Failure> {
+    match output::is_standard(to) {
+        true => output::remarked(&format!("{}: {told}", source.name())),
+        false => output::written(format!("{}: {told}\n", printable(&to.to_string_lossy())).as_bytes())?,
+    }
     Ok(Ending::Well)
 }
 
@@ -63,9 +82,10 @@ fn undrawn(source: &Source, why: Undrawn) -> Failure {
 
 fn asked(words: &Words) -> Result<Asked, Failure> {
     Ok(match (named::predicates(words)?.as_slice(), named::models(words)?.as_slice()) {
+        _ if words.has("--plain") => Asked::Nothing,
         (&[predicate, ..], _) => Asked::Predicate(predicate),
         (_, &[model, ..]) => Asked::Model(model),
-        _ => Asked::Nothing,
+        _ => Asked::Model(Model::Causal),
     })
 }
 

@@ -1,6 +1,8 @@
 //! How the command ends.
 
+use crate::output;
 use std::fmt::Display;
+use std::io::{self, ErrorKind};
 use std::process::ExitCode;
 
 /// The exit status, the highest that applies.
@@ -43,20 +45,29 @@ impl From<Ending> for ExitCode {
 #[derive(Clone, Debug, PartialEq, Eq)]
 pub struct Failure {
     pub ending: Ending,
-    pub message: String,
+    /// None where whoever would read it has gone.
+    pub message: Option<String>,
 }
 
 impl Failure {
     pub fn unclear(message: impl Into<String>) -> Failure {
-        Failure { ending: Ending::Unclear, message: message.into() }
+        Failure { ending: Ending::Unclear, message: Some(message.into()) }
     }
 
     pub fn refused(message: impl Into<String>) -> Failure {
-        Failure { ending: Ending::Refused, message: message.into() }
+        Failure { ending: Ending::Refused, message: Some(message.into()) }
     }
 
     pub fn failed(message: impl Into<String>) -> Failure {
-        Failure { ending: Ending::Failed, message: message.into() }
+        Failure { ending: Ending::Failed, message: Some(message.into()) }
+    }
+
+    /// What was written to this could not be written. Who has closed a pipe wants no more of it, and no word of that.
+    pub fn unwritten(to: &str, error: io::Error) -> Failure {
+        match error.kind() {
+            ErrorKind::BrokenPipe => Failure { ending: Ending::Failed, message: None },
+            _ => Failure::failed(format!("cannot write {to}: {error}")),
+        }
     }
 
     /// A record, a script or text of this name, and why it is refused.
@@ -64,10 +75,8 @@ impl Failure {
         Failure::refused(format!("{name}: {why}"))
     }
 
-    /// On standard error. That this cannot be written cannot be told anywhere else.
     pub fn told(self) -> ExitCode {
-        use std::io::Write;
-        let _ = writeln!(std::io::stderr(), "gcr: {}", self.message);
+        self.message.iter().for_each(|message| output::remarked(message));
         self.ending.into()
     }
 }

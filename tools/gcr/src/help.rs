@@ -25,12 +25,15 @@ pub const ABOUT: &str = "judges, shows and rehearses records of a replicated sto
 const WIDTH: usize = 110;
 
 /// What may stand in a command's place.
-pub const WORDS: &[&str] = &["--help", "--version"];
+pub const INSTEAD: &[Opt] = &[
+    Opt::flag("--help", "tells which commands there are").or("-h"),
+    Opt::flag("--version", "tells which version this is").or("-V"),
+];
 
 fn run(words: &Words) -> Result<Ending, Failure> {
     match words.files.first() {
         None => written(&overview()),
-        Some(word) => written(&of(Command::named(word, &[])?)),
+        Some(word) => written(&of(Command::named(word, &Kind::Command.words())?)),
     }
 }
 

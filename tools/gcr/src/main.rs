@@ -2,13 +2,16 @@
 //! files, asks, and writes what it was told.
 
 mod commands;
+mod completions;
 mod draw;
 mod ending;
 mod explain;
 mod help;
 mod judge;
 mod list;
+mod made;
 mod make;
+mod manual;
 mod named;
 mod nearest;
 mod openings;
@@ -45,7 +48,7 @@ fn run(words: &[OsString]) -> Result<Ending, Failure> {
         Some("--help" | "-h") => help::written(&help::overview()),
         Some("--version" | "-V") => version::told(),
         _ => {
-            let command = Command::named(first, help::WORDS)?;
+            let command = Command::named(first, &commands::first_words())?;
             let words = words::Words::read(command, rest)?;
             match words.has(words::HELP.name) {
                 true => help::written(&help::of(command)),

@@ -2,6 +2,7 @@
 //! made of these.
 
 use crate::commands;
+use crate::made::Made;
 use gcr::{Model, Predicate};
 use std::ffi::OsStr;
 
@@ -35,8 +36,8 @@ pub enum Kind {
     Number,
     /// That is read.
     File,
-    /// That is written.
-    Made,
+    /// To which this is written.
+    Made(Made),
 }
 
 impl Opt {
@@ -119,7 +120,7 @@ impl Kind {
             Kind::Predicate => Predicate::ALL.iter().map(|predicate| predicate.name()).collect(),
             Kind::Command => commands::ALL.iter().map(|command| command.name).collect(),
             Kind::OneOf(words) => words.to_vec(),
-            Kind::Nothing | Kind::Number | Kind::File | Kind::Made => Vec::new(),
+            Kind::Nothing | Kind::Number | Kind::File | Kind::Made(_) => Vec::new(),
         }
     }
 }

@@ -31,7 +31,12 @@ impl Output {
 }
 
 fn unwritten(error: io::Error) -> Failure {
-    Failure::failed(format!("cannot write to standard output: {error}"))
+    Failure::unwritten("to standard output", error)
+}
+
+/// A remark on standard error. That it cannot be written cannot be told anywhere else.
+pub fn remarked(text: &str) {
+    let _ = writeln!(io::stderr(), "gcr: {text}");
 }
 
 /// All of it to standard output.
@@ -71,7 +76,7 @@ pub fn saved(to: &OsStr, bytes: &[u8]) -> Result<(), Failure> {
         Ok(_) => File::create(&path).and_then(|mut file| file.write_all(bytes)),
         Err(_) => replaced(&path, None, bytes),
     };
-    done.map_err(|error| Failure::failed(format!("cannot write {}: {error}", printable(&to.to_string_lossy()))))
+    done.map_err(|error| Failure::unwritten(&printable(&to.to_string_lossy()), error))
 }
 
 /// By a file beside it that takes its place, and its permissions, when it is whole.

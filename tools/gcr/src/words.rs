@@ -4,6 +4,7 @@ use crate::commands::Command;
 use crate::ending::Failure;
 use crate::options::{Kind, Opt};
 use crate::output::is_standard;
+use crate::printable::printable;
 use crate::source::Source;
 use crate::unknown::unknown;
 use std::ffi::{OsStr, OsString};
@@ -112,15 +113,24 @@ impl Words {
         }
     }
 
-    /// Where this option says that what is made of a source goes. It is not the source itself, which would be lost.
+    /// Where this option says that what is made of a source goes. It is not the source itself, which would be lost, nor
+    /// a file of another kind.
     pub fn made_of(&self, source: &Source, option: &str) -> Result<Option<&OsStr>, Failure> {
-        let to = self.one(option);
-        let from = source.path().unwrap_or(Path::new("/dev/stdin"));
-        let is_same = |to: &&OsStr| is_one_file(from, Path::new(to));
-        match to.filter(is_same) {
-            Some(_) => Err(self.unclear(&format!("{option} names the file that is read"))),
-            None => Ok(to),
+        let Some(to) = self.one(option) else { return Ok(None) };
+        if is_one_file(source.path().unwrap_or(Path::new("/dev/stdin")), Path::new(to)) {
+            return Err(self.unclear(&format!("{option} names the file that is read")));
         }
+        self.spares_others(option, to).map(|()| Some(to))
+    }
+
+    fn spares_others(&self, option: &str, to: &OsStr) -> Result<(), Failure> {
+        let kind = self.command.options().find(|each| each.is(option)).map(|each| each.kind);
+        let Some(Kind::Made(made)) = kind.filter(|_| !is_standard(to)) else { return Ok(()) };
+        let name = printable(&to.to_string_lossy());
+        let unread = |error| Failure::failed(format!("cannot read {name}: {error}"));
+        let Some(lost) = made.would_lose(Path::new(to)).map_err(unread)? else { return Ok(()) };
+        let why = format!("{option} names {name}, which is {lost}, and {}", made.rule());
+        Err(self.unclear(&format!("{why}: name another file, or remove this one")))
     }
 
     /// Bytes that are no text are for a file or a pipe.
@@ -157,4 +167,60 @@ fn counted(words: usize) -> String {
 fn is_one_file(one: &Path, other: &Path) -> bool {
     let number = |path| fs::metadata(path).ok().filter(Metadata::is_file).map(|there| (there.dev(), there.ino()));
     number(one).is_some_and(|one| number(other) == Some(one))
+}
+
+#[cfg(test)]
+mod tests {
+    use super::*;
+    use crate::ending::Ending;
+    use crate::help;
+    use crate::options::Operands;
+
+    static PAINT: Command = Command {
+        name: "paint",
+        about: "",
+        does: "",
+        operands: Operands::NONE,
+        options: &[
+            Opt::with("--color", "WHEN", Kind::OneOf(&["always", "auto", "never"]), "paints"),
+            Opt::flag("--quiet", "says nothing").or("-q"),
+            Opt::with("--site", "S", Kind::Number, "paints this site").repeated(),
+        ],
+        alternatives: &[&["--color", "--quiet"]],
+        notes: "",
+        example: "",
+        run: |_| Ok(Ending::Well),
+    };
+
+    fn read(words: &[&str]) -> Result<Words, String> {
+        let words: Vec<OsString> = words.iter().map(OsString::from).collect();
+        let message = |failure: Failure| failure.message.expect("words").replace(" (gcr paint --help tells more)", "");
+        Words::read(&PAINT, &words).map_err(message)
+    }
+
+    fn wrong(words: &[&str]) -> String {
+        read(words).err().expect("it is not understood")
+    }
+
+    #[test]
+    fn fixed_words_are_asked_for_by_the_table() {
+        assert_eq!(read(&["--color", "auto"]).unwrap().one("--color"), Some(OsStr::new("auto")));
+        assert_eq!(wrong(&["--color=alwyas"]), "there is no --color alwyas; the nearest is always");
+        assert!(help::of(&PAINT).contains("--color WHEN  paints; WHEN is always, auto or never\n"));
+    }
+
+    #[test]
+    fn a_letter_stands_for_its_option() {
+        assert!(read(&["-q"]).unwrap().has("--quiet"));
+        assert_eq!(wrong(&["-q", "--color", "auto"]), "--color and --quiet do not go together");
+        assert_eq!(wrong(&["--quiet=yes"]), "--quiet takes no word");
+    }
+
+    #[test]
+    fn an_option_comes_as_often_as_the_table_says() {
+        assert_eq!(read(&["--site", "1", "--site=2"]).unwrap().all("--site").len(), 2);
+        assert_eq!(wrong(&["--color", "auto", "--color", "auto"]), "--color is given twice");
+        assert_eq!(wrong(&["file"]), "it takes no file");
+        assert!(read(&["--help", "file", "-q", "--color", "auto"]).is_ok());
+    }
 }

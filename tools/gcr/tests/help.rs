@@ -3,20 +3,11 @@
 mod support;
 
 use support::folder::Folder;
+use support::helps::{helps, Help};
 use support::{gcr, shell_in};
 
 /// The letters of the longest line.
 const WIDTH: usize = 110;
-
-/// The commands that `gcr --help` names, each with its help.
-fn helps() -> Vec<(String, String)> {
-    let overview = gcr(&["--help"]).done();
-    let lines = overview.lines().into_iter().filter_map(|line| line.strip_prefix("  "));
-    let names: Vec<&str> = lines.filter_map(|line| line.split(' ').next()).collect();
-    assert_eq!(names, ["judge", "show", "make", "explain", "rehearse", "draw", "list", "version", "help"]);
-    let help = |name: &str| (name.to_string(), gcr(&[name, "--help"]).done().text().to_string());
-    names.into_iter().map(help).collect()
-}
 
 /// The options that a text names.
 fn options(help: &str) -> Vec<&str> {
@@ -27,20 +18,18 @@ fn options(help: &str) -> Vec<&str> {
     options
 }
 
-/// The line that shows how a command is run: on the same line as its heading, or below it.
-fn example(help: &str) -> &str {
-    let (_, example) = help.split_once("\nExample:").unwrap_or_else(|| panic!("no example in {help}"));
-    example.trim_start().lines().next().expect("a line")
-}
-
-/// The lines of a help that tell its options.
-fn option_lines(help: &str) -> Vec<&str> {
-    help.lines().filter(|line| line.starts_with("  -")).collect()
+/// All commands are told of.
+#[test]
+fn the_overview_names_the_commands() {
+    let names: Vec<String> = helps().into_iter().map(|help| help.name).collect();
+    let due =
+        ["judge", "show", "make", "explain", "rehearse", "draw", "list", "completions", "manual", "version", "help"];
+    assert_eq!(names, due);
 }
 
 #[test]
 fn help_is_asked_for_in_three_ways_and_is_short() {
-    for (name, help) in helps() {
+    for Help { name, text: help } in helps() {
         for words in [["help", &name], [&name, "-h"]] {
             assert_eq!(gcr(&words).done().text(), help);
         }
@@ -58,21 +47,20 @@ fn a_help_is_made_of_the_options() {
     let usage = "gcr judge [--model M]... [--predicate P]... [--all] [--json | --csv] [--quiet] [FILE | FOLDER | -]...";
     assert_eq!(judge.lines()[0], usage);
     assert!(judge.lines().contains(&"  -q, --quiet    nothing of records that are met"), "{}", judge.text());
-    for (name, help) in helps() {
-        let (usage, _) = help.split_once("\n\n").expect("a usage");
-        for line in option_lines(&help) {
-            let option = line.split([' ', ',']).rfind(|word| word.starts_with('-')).expect("an option");
-            assert!(option == "--help" || usage.contains(&format!("{option}")), "{name} {option}");
+    for help in helps() {
+        for option in help.options() {
+            let is_told = help.usage().contains(option) || option == "--help" || option.len() == 2;
+            assert!(is_told, "{} {option}", help.name);
         }
-        let last = option_lines(&help).last().expect("a line").split_whitespace().collect::<Vec<_>>();
-        assert_eq!(last, ["-h,", "--help", "tells", "this"], "{name}");
+        let last = help.option_lines().last().expect("a line").split_whitespace().collect::<Vec<_>>();
+        assert_eq!(last, ["-h,", "--help", "tells", "this"], "{}", help.name);
     }
 }
 
 /// After `--help` words are understood, and nothing is done.
 #[test]
 fn options_that_a_help_names_are_there() {
-    for (name, help) in helps() {
+    for Help { name, text: help } in helps() {
         for option in options(&help) {
             let ran = gcr(&[&name, "--help", option]);
             let needs_words = ran.err.starts_with(&format!("gcr: {option} takes "));
@@ -84,10 +72,9 @@ fn options_that_a_help_names_are_there() {
 
 #[test]
 fn every_help_has_an_example_and_it_runs() {
-    for (name, help) in helps() {
-        let folder = Folder::with(&["records"]);
-        let line = example(&help);
-        assert!(line.contains(&format!("gcr {name}")), "{line}");
+    for help in helps() {
+        let (folder, line) = (Folder::with(&["records"]), help.example());
+        assert!(line.contains(&format!("gcr {}", help.name)), "{line}");
         let ran = shell_in(folder.path(), line);
         assert!(ran.status <= 1 && ran.err.is_empty(), "{line}: {} {}", ran.status, ran.err);
         assert!(!ran.out.is_empty() || folder.names().len() > 1, "{line} writes nothing");
@@ -104,7 +91,7 @@ fn wrong_commands_get_the_nearest_right_one() {
     let told = |word: &str, right: &str| {
         format!("there is no command {word}; the nearest is {right} (gcr --help tells them all)")
     };
-    for (name, _) in helps() {
+    for Help { name, .. } in helps() {
         let wrong = cut(&name);
         gcr(&[wrong]).ended(4, &told(wrong, &name));
         gcr(&["help", wrong]).ended(4, &told(wrong, &name));
@@ -117,7 +104,7 @@ fn wrong_commands_get_the_nearest_right_one() {
 
 #[test]
 fn wrong_options_get_the_nearest_right_one() {
-    for (name, help) in helps() {
+    for Help { name, text: help } in helps() {
         let more = format!("(gcr {name} --help tells more)");
         for option in options(&help).into_iter().filter(|option| option.len() > 2).chain(["--help"]) {
             let wrong = cut(option);

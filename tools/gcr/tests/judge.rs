@@ -313,10 +313,9 @@ fn names_cannot_break_lines() {
 
 #[test]
 fn output_that_is_lost_is_told() {
-    for ran in [to_full_device(&["judge", "records"]), to_closed_pipe(&["judge", "records"])] {
-        assert!(ran.err.starts_with("gcr: cannot write to standard output: "), "{}", ran.err);
-        assert_eq!(ran.status, 3);
-    }
+    let full = "cannot write to standard output: No space left on device (os error 28)";
+    to_full_device(&["judge", "records"]).ended(3, full);
+    to_closed_pipe(&["judge", "records"]).ends(3);
 }
 
 #[test]

@@ -34,12 +34,36 @@ pub struct Told<'a> {
     pub events: &'a [String],
 }
 
+impl Told<'_> {
+    /// How much is drawn, and the verdict where something was asked.
+    pub fn in_short(&self) -> String {
+        let verdict = self.finding.map_or(String::new(), |finding| format!("; {}", finding.verdict()));
+        format!("{}{verdict}", self.much())
+    }
+
+    /// `3 events at 2 sites`, and whether their clocks may differ.
+    fn much(&self) -> String {
+        let record = self.drawn.record;
+        let events = counted(self.drawn.numbers.len(), record.events.len(), "event");
+        let sites = counted(self.drawn.sites.len(), record.sites, "site");
+        let clocks = match record.difference {
+            0 => String::new(),
+            difference => format!(", clocks may differ by {difference} ms"),
+        };
+        format!("{events} at {sites}{clocks}")
+    }
+
+    fn title(&self) -> String {
+        format!("{}: {}", self.name, self.much())
+    }
+}
+
 impl Heading {
     /// No line is longer than the picture is wide.
     pub fn new(told: &Told, width: f64) -> Heading {
-        let mut heading = Heading { title: title(told), lines: Vec::new() };
+        let mut heading = Heading { title: told.title(), lines: Vec::new() };
         let most = width - 2.0 * MARGIN;
-        heading.add("title", &title(told), most);
+        heading.add("title", &told.title(), most);
         if let Some(finding) = told.finding {
             heading.add(if finding.broken.is_some() { "broken" } else { "met" }, &finding.verdict(), most);
             told.breach.iter().for_each(|breach| heading.add("reason", &breach.sentence(), most));
@@ -90,17 +114,6 @@ fn shortened(events: &[String]) -> Vec<String> {
     }
     let between = format!("({left_out} more events on the way: point at a step for its event)");
     [&events[..ENDS], &[between], &events[events.len() - ENDS..]].concat()
-}
-
-fn title(told: &Told) -> String {
-    let (drawn, record) = (told.drawn, told.drawn.record);
-    let events = counted(drawn.numbers.len(), record.events.len(), "event");
-    let sites = counted(drawn.sites.len(), record.sites, "site");
-    let clocks = match record.difference {
-        0 => String::new(),
-        difference => format!(", clocks may differ by {difference} ms"),
-    };
-    format!("{}: {events} at {sites}{clocks}", told.name)
 }
 
 /// `3 events`, or `17 of 256 events` where some are left out.

@@ -25,12 +25,20 @@ use heading::{Heading, Told};
 use legend::Legend;
 use scene::Scene;
 
+/// A record as it is drawn.
+#[derive(Clone, Debug, PartialEq, Eq)]
+pub struct Picture {
+    pub svg: String,
+    /// What is drawn, in the heading's words: `3 events at 2 sites; model 4 Causal is met`.
+    pub told: String,
+}
+
 /// Draws a record in SVG, or a part of it, with what is asked of it.
 ///
 /// # Errors
 ///
 /// By 3 to 10, where the record does not pass its questions; and where it does not have what the part names.
-pub fn draw(name: &str, bytes: &[u8], asked: Asked, part: &Part) -> Result<String, Undrawn> {
+pub fn draw(name: &str, bytes: &[u8], asked: Asked, part: &Part) -> Result<Picture, Undrawn> {
     let record = Record::read(bytes)?;
     let finding = asked.judge(bytes)?;
     let broken = finding.as_ref().and_then(|finding| finding.broken.as_ref());
@@ -38,10 +46,11 @@ pub fn draw(name: &str, bytes: &[u8], asked: Asked, part: &Part) -> Result<Strin
     let way = broken.zip(breach.as_ref()).map(|(broken, breach)| Way { record: &record, broken, breach });
     let events: Vec<String> = way.iter().flat_map(Way::lines).collect();
     let drawn = part.of(&record, &breach.as_ref().map_or(Vec::new(), Breach::all))?;
-    Ok(picture(&Told { name, drawn: &drawn, finding: finding.as_ref(), breach: breach.as_ref(), events: &events }))
+    let told = Told { name, drawn: &drawn, finding: finding.as_ref(), breach: breach.as_ref(), events: &events };
+    Ok(Picture { svg: svg(&told), told: told.in_short() })
 }
 
-fn picture(told: &Told) -> String {
+fn svg(told: &Told) -> String {
     let Told { drawn, breach, events, .. } = *told;
     let scale = Scale::of(drawn.numbers.len());
     let across = Across::new(drawn, &scale);

@@ -25,7 +25,7 @@ pub fn drawing(asked: Asked, record: &Record) -> Drawing {
 
 /// The same of a part.
 pub fn part_of(part: &Part, asked: Asked, record: &Record) -> Drawing {
-    Drawing::read(&draw(NAME, &record.to_bytes(), asked, part).expect("it is drawn"))
+    Drawing::read(&draw(NAME, &record.to_bytes(), asked, part).expect("it is drawn").svg)
 }
 
 /// The same with nothing asked.

@@ -6,6 +6,7 @@ pub use encoding::encoded;
 
 use crate::commands::Command;
 use crate::ending::{Ending, Failure};
+use crate::made::Made;
 use crate::options::{Kind, Operands, Opt};
 use crate::output;
 use crate::table::Form;
@@ -19,7 +20,12 @@ pub const COMMAND: Command = Command {
     does: DOES,
     operands: Operands::file("[FILE]"),
     options: &[
-        Opt::with("-o", "OUT", Kind::Made, "writes the record to this file; else it goes to standard output"),
+        Opt::with(
+            "-o",
+            "OUT",
+            Kind::Made(Made::Record),
+            "writes the record to this file; else it goes to standard output",
+        ),
         Opt::flag("--csv", "the text has cells with commas between them; so it is read too where FILE ends in .csv"),
     ],
     alternatives: &[],

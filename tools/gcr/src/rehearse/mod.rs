@@ -12,6 +12,7 @@ mod writing;
 
 use crate::commands::Command;
 use crate::ending::{Ending, Failure};
+use crate::made::Made;
 use crate::options::{Kind, Operands, Opt};
 use crate::output;
 use crate::source::Source;
@@ -27,9 +28,14 @@ pub const COMMAND: Command = Command {
     does: DOES,
     operands: Operands::file("[SCRIPT]"),
     options: &[
-        Opt::with(files::RECORD, "RECORD", Kind::Made, "the record that the rehearsal leaves goes to this file"),
+        Opt::with(
+            files::RECORD,
+            "RECORD",
+            Kind::Made(Made::Record),
+            "the record that the rehearsal leaves goes to this file",
+        ),
         Opt::flag(BYTES, "the script is in the paper's form: a byte of sites, 132 bytes of openings, 8 bytes a call"),
-        Opt::with(files::BYTES_TO, "FILE", Kind::Made, "the script goes to this file in that form"),
+        Opt::with(files::BYTES_TO, "FILE", Kind::Made(Made::Script), "the script goes to this file in that form"),
     ],
     alternatives: &[],
     notes: NOTES,

@@ -2,6 +2,7 @@
 
 use crate::commands::Command;
 use crate::ending::{Ending, Failure};
+use crate::made::Made;
 use crate::options::{Kind, Operands, Opt};
 use crate::output;
 use crate::table::{written, Form};
@@ -15,7 +16,7 @@ pub const COMMAND: Command = Command {
     does: DOES,
     operands: Operands::file("[FILE]"),
     options: &[
-        Opt::with("-o", "OUT", Kind::Made, "writes to this file"),
+        Opt::with("-o", "OUT", Kind::Made(Made::Text), "writes to this file"),
         Opt::flag(
             "--csv",
             "writes cells with commas between them, for a spreadsheet; so does an OUT that ends in .csv",

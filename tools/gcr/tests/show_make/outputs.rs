@@ -27,7 +27,7 @@ fn a_full_device() {
 #[test]
 fn a_closed_pipe() {
     for (name, file) in both(&Folder::new()) {
-        to_closed_pipe(&[name, &file]).ended(3, "cannot write to standard output: Broken pipe (os error 32)");
+        to_closed_pipe(&[name, &file]).ends(3);
     }
 }
 

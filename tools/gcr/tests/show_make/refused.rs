@@ -80,11 +80,11 @@ fn heads_that_no_record_has() {
 fn nothing_is_written_then() {
     let folder = Folder::new();
     let text = folder.file("ring.txt", format!("sites 1\n{COLUMNS}0 write 5 1 0 1 0 1\n0 write 5 1 2 3 1 0\n"));
-    let there = folder.file("there.gcr", "as it was");
+    let there = folder.file("there.gcr", "GCR as it was");
     let ring = "line 3, column 19: refused 10 0: Visibility runs in a ring through the event at this place.";
     gcr(&["make", &text, "-o", &there]).ended(2, &format!("{text}: {ring}"));
     gcr(&["make", &text, "-o", &folder.at("new.gcr")]).ended(2, &format!("{text}: {ring}"));
-    assert_eq!(fs::read_to_string(&there).unwrap(), "as it was");
+    assert_eq!(fs::read_to_string(&there).unwrap(), "GCR as it was");
     assert_eq!(folder.names(), ["ring.txt", "there.gcr"]);
 }
 

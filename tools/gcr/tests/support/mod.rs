@@ -2,6 +2,7 @@
 #![allow(dead_code)] // each test takes what it needs
 
 pub mod folder;
+pub mod helps;
 pub mod json;
 mod ran;
 
@@ -56,9 +57,14 @@ pub fn shell(line: &str) -> Ran {
 
 /// The same in another folder.
 pub fn shell_in(at: &Path, line: &str) -> Ran {
+    by_shell("sh", at, line)
+}
+
+/// The same by this shell.
+pub fn by_shell(shell: &str, at: &Path, line: &str) -> Ran {
     let folder = Path::new(env!("CARGO_BIN_EXE_gcr")).parent().expect("it is in a folder");
     let path = format!("{}:{}", folder.display(), std::env::var("PATH").unwrap_or_default());
-    let mut command = Command::new("sh");
+    let mut command = Command::new(shell);
     Ran::of(command.arg("-c").arg(line).env("PATH", path).current_dir(at).stdout(Stdio::piped()), b"")
 }
 
