@@ -1,5 +1,5 @@
-/* Holds the headers' unpacking against a small rehearsal, and what gcr_judge_all and gcr_explain write against
- * gcr_judge_predicate.
+/* Holds the headers' unpacking against a small rehearsal, what gcr_judge_all and gcr_explain write against
+ * gcr_judge_predicate, and the words against the list of refusals and against what models are judged by.
  * Names each check that fails; exits with 0 where none does. */
 #include "gcr.h"
 #include <stdio.h>
@@ -230,6 +230,49 @@ static int explanations_are_refused(void) {
            is_not_explained(10, 1000, GCR_EXPLAIN_ENTRIES, 3) && is_not_explained(10, LENGTH, GCR_EXPLAIN_ENTRIES, 42);
 }
 
+/* The list of refusals, as a host may take it. */
+static const struct refusal {
+    uint32_t number;
+    const char *sentence;
+} refusals[] = {
+#define GCR_REFUSAL(number, question, place, sentence) {number, sentence},
+#include "gcr_refusals.h"
+};
+
+/* Each of the list has its sentence, and no other number that an answer has room for has one. */
+static int sentences_are_right(void) {
+    size_t listed = sizeof refusals / sizeof *refusals, found = 0;
+    int right = gcr_refusal_sentence(UINT32_MAX) == NULL;
+    for (size_t i = 0; i < listed; i++) {
+        const char *sentence = gcr_refusal_sentence(refusals[i].number);
+        right &= sentence && strcmp(sentence, refusals[i].sentence) == 0;
+    }
+    for (uint32_t number = 0; number < 1024; number++)
+        found += gcr_refusal_sentence(number) != NULL;
+    return right && found == listed;
+}
+
+static int is_no_number(uint32_t number) {
+    return !gcr_predicate_name(number) && !gcr_model_name(number) && *gcr_model_predicates(number) == 0;
+}
+
+/* The model breaks as the first of these predicates that breaks, or is met where none does. */
+static int list_is_right(uint32_t model) {
+    uint64_t found = 0;
+    const uint32_t *predicate = gcr_model_predicates(model);
+    int listed = *predicate != 0;
+    for (; *predicate && gcr_is_met(found); predicate++)
+        found = gcr_judge_predicate(*predicate, record, LENGTH);
+    return listed && found == gcr_judge_model(model, record, LENGTH);
+}
+
+static int words_of_numbers_are_right(void) {
+    int right = is_no_number(0) && is_no_number(GCR_PREDICATES + 1) && is_no_number(UINT32_MAX);
+    for (uint32_t number = 1; number <= GCR_PREDICATES; number++)
+        right &= gcr_predicate_name(number) && gcr_model_name(number) && list_is_right(number);
+    return right && strcmp(gcr_version(), GCR_VERSION) == 0;
+}
+
 /* 1 where the check failed, with its name written. */
 static int wrong(const char *name, int right) {
     if (!right)
@@ -249,5 +292,7 @@ int main(void) {
     failed += wrong("an explanation", explanations_are_right());
     failed += wrong("a count of entries", count_is_right());
     failed += wrong("a refusal to explain", explanations_are_refused());
+    failed += wrong("a sentence", sentences_are_right());
+    failed += wrong("a name, a model's list or the version", words_of_numbers_are_right());
     return failed != 0;
 }

@@ -1,4 +1,4 @@
-//! One version: that of the header, which the command tells and both packages have.
+//! One version: that of the header, which the command tells, and both packages and the module in Python have.
 
 mod support;
 
@@ -25,8 +25,12 @@ fn the_command_tells_the_version_of_the_header() {
 }
 
 #[test]
-fn both_packages_have_the_version_of_the_header() {
-    for file in ["bindings/rust/Cargo.toml", "tools/gcr/Cargo.toml"] {
-        assert_eq!(between(file, "\nversion = \"", "\""), header(), "{file}");
+fn packages_and_module_have_the_version_of_the_header() {
+    for (file, before) in [
+        ("bindings/rust/Cargo.toml", "\nversion = \""),
+        ("tools/gcr/Cargo.toml", "\nversion = \""),
+        ("bindings/python/gcr.py", "\nVERSION = \""),
+    ] {
+        assert_eq!(between(file, before, "\""), header(), "{file}");
     }
 }
