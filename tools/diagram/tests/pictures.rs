@@ -19,21 +19,23 @@ fn refused(bytes: &[u8], asked: Asked) -> String {
     draw("record", bytes, asked, &Part::whole()).expect_err("it is refused").to_string()
 }
 
-/// The records of the pictures that documents have, the predicates that are asked, and the parts that are drawn.
-fn kept() -> [(&'static str, u32, Part); 6] {
+/// The records of the pictures that documents have, what is asked of them, and the parts that are drawn.
+fn kept() -> [(&'static str, Asked, Part); 6] {
     let busy_day = Part { around: Some((23, 150)), sites: vec![4, 5], objects: Vec::new() };
-    let whole = |name, predicate| (name, predicate, Part::whole());
-    let [stale_read, listing, opening] = [whole("stale-read", 5), whole("listing", 3), whole("opening", 1)];
+    let asked = |number| Asked::Predicate(predicate(number));
+    let whole = |name, number| (name, asked(number), Part::whole());
+    let stale_read = ("stale-read", Asked::Model(Model::Causal), Part::whole());
+    let [listing, opening] = [whole("listing", 3), whole("opening", 1)];
     let [early_read, long_way] = [whole("early-read", 3), whole("long-way", 10)];
-    [stale_read, listing, opening, early_read, long_way, ("busy-day", 5, busy_day)]
+    [stale_read, listing, opening, early_read, long_way, ("busy-day", asked(5), busy_day)]
 }
 
 #[test]
 fn the_pictures_of_the_documents_are_what_is_drawn() {
     let root = format!("{}/../..", env!("CARGO_MANIFEST_DIR"));
-    for (name, number, part) in kept() {
+    for (name, asked, part) in kept() {
         let record = std::fs::read(format!("{root}/records/{name}.gcr")).expect("it ships");
-        let picture = draw(&format!("{name}.gcr"), &record, Asked::Predicate(predicate(number)), &part);
+        let picture = draw(&format!("{name}.gcr"), &record, asked, &part);
         let kept = std::fs::read_to_string(format!("{root}/docs/pictures/{name}.svg")).expect("it is kept");
         assert!(picture.expect("it is drawn").svg == kept, "{name}");
     }
