@@ -68,7 +68,7 @@ fn shells_accept_their_scripts() {
 fn scripts_are_whole() {
     for shell in SHELLS {
         let script = script(shell);
-        let is_even = |line: &str| line.replace("\\'", "").matches('\'').count() % 2 == 0;
+        let is_even = |line: &str| line.replace("\\'", "").matches('\'').count().is_multiple_of(2);
         let code = script.lines().filter(|line| !line.starts_with('#'));
         code.for_each(|line| assert!(is_even(line), "{shell}: {line}"));
         let count = |word: &str| script.lines().filter(|line| line.trim() == word).count();

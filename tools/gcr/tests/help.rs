@@ -57,6 +57,22 @@ fn a_help_is_made_of_the_options() {
     }
 }
 
+/// What the page of the command shows as a usage is the usage, and it has every option.
+#[test]
+fn the_page_has_the_usages_and_options() {
+    let page = include_str!("../../../docs/COMMAND.md");
+    let words = |text: &str| text.split_whitespace().collect::<Vec<_>>().join(" ");
+    let spans: Vec<String> = page.split('`').skip(1).step_by(2).map(words).collect();
+    for help in helps() {
+        let begin = format!("gcr {} [--", help.name);
+        let shown = spans.iter().filter(|span| span.starts_with(&begin));
+        shown.for_each(|span| assert_eq!(*span, words(help.usage())));
+        let named = page.split(|letter: char| letter != '-' && !letter.is_alphanumeric()).collect::<Vec<_>>();
+        help.options().into_iter().for_each(|option| assert!(named.contains(&option), "{} {option}", help.name));
+    }
+    assert!(spans.iter().any(|span| span.starts_with("gcr draw [--")));
+}
+
 /// After `--help` words are understood, and nothing is done.
 #[test]
 fn options_that_a_help_names_are_there() {

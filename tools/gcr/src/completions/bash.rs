@@ -6,7 +6,7 @@ use crate::options::{Kind, Opt};
 
 pub fn script() -> String {
     let places = ALL.iter().flat_map(Command::options).map(|option| option.places().count()).max();
-    include_str!("bash.sh")
+    include_str!("script.bash")
         .replace("@VALUES@", &ALL.iter().flat_map(values).collect::<Vec<_>>().join("\n"))
         .replace("@OPTIONS@", &lines(|command| words(&command.option_names())))
         .replace("@OPERANDS@", &lines(|command| of_kind(command.operands.kind)))

@@ -6,7 +6,7 @@ use crate::help::INSTEAD;
 use crate::options::{Kind, Opt};
 
 pub fn script() -> String {
-    include_str!("fish.sh")
+    include_str!("script.fish")
         .replace("@COMMANDS@", &commands().join("\n"))
         .replace("@OPTIONS@", &ALL.iter().flat_map(of_command).collect::<Vec<_>>().join("\n"))
 }

@@ -7,7 +7,7 @@ mod zsh;
 use crate::commands::Command;
 use crate::ending::{Ending, Failure};
 use crate::help;
-use crate::options::{Kind, Operands};
+use crate::options::{either, Kind, Operands};
 use crate::words::Words;
 
 pub const COMMAND: Command = Command {
@@ -41,7 +41,7 @@ fn run(words: &Words) -> Result<Ending, Failure> {
         Some("bash") => help::written(&bash::script()),
         Some("zsh") => help::written(&zsh::script()),
         Some("fish") => help::written(&fish::script()),
-        _ => Err(words.unclear("name a shell: bash, zsh or fish")),
+        _ => Err(words.unclear(&format!("name a shell: {}", either(SHELLS)))),
     }
 }
 

@@ -6,7 +6,7 @@ use crate::help::INSTEAD;
 use crate::options::{Kind, Opt};
 
 pub fn script() -> String {
-    include_str!("zsh.sh").replace("@COMMANDS@", &commands()).replace("@ARGUMENTS@", &arguments())
+    include_str!("script.zsh").replace("@COMMANDS@", &commands()).replace("@ARGUMENTS@", &arguments())
 }
 
 fn commands() -> String {
