@@ -49,10 +49,14 @@ impl Failure {
         Failure::refused(format!("{name}: {why}"))
     }
 
-    /// On standard error. That this cannot be written cannot be told anywhere else.
     pub fn told(self) -> ExitCode {
-        use std::io::Write;
-        let _ = writeln!(std::io::stderr(), "gcr: {}", self.message);
+        say(&self.message);
         self.ending.into()
     }
+}
+
+/// On standard error. That this cannot be written cannot be told anywhere else.
+pub fn say(message: impl Display) {
+    use std::io::Write;
+    let _ = writeln!(std::io::stderr(), "gcr: {message}");
 }

@@ -20,9 +20,9 @@ gcr show [FILE] [-o OUT] [--csv]: writes a record as text, a line for each event
   -o OUT  writes to this file
   --csv   writes cells with commas between them, for a spreadsheet; so does an OUT that ends in .csv
 
-The text has a header, then the columns: the event's number, site, kind, object, value, state, start, return,
-its position in the order of all events, and the events that it sees, in ranges: 0..5 7 is 0 to 5, and 7.
-gcr make makes the same record of it again.
+The text has a header, which ends with the number of events, then the columns: the event's number, site,
+kind, object, value, state, start, return, its position in the order of all events, and the events that it
+sees, in ranges: 0..5 7 is 0 to 5, and 7. gcr make makes the same record of it again.
 
 Example: gcr show records/stale-read.gcr
 ";

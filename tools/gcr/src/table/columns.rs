@@ -1,6 +1,7 @@
 //! The columns, and the row that names them.
 
 use super::form::Form;
+use super::names::{NONE, NOTHING};
 use super::rows::Row;
 use crate::text::{Bad, Word};
 
@@ -40,8 +41,8 @@ impl Column {
         }
     }
 
-    pub fn names() -> impl Iterator<Item = &'static str> {
-        Column::ALL.into_iter().map(Column::name)
+    pub fn names() -> Vec<&'static str> {
+        Column::ALL.into_iter().map(Column::name).collect()
     }
 
     pub fn named(word: Word) -> Option<Column> {
@@ -52,31 +53,66 @@ impl Column {
     fn may_be_left_out(self) -> bool {
         matches!(self, Column::Event | Column::State)
     }
+
+    /// What is written where there is none, if that may be.
+    pub fn nothing(self) -> Option<&'static str> {
+        match self {
+            Column::Value => Some(NONE),
+            Column::Return | Column::Sees => Some(NOTHING),
+            _ => None,
+        }
+    }
+}
+
+/// What becomes of columns that a record has not.
+#[derive(Clone, Copy, Debug, PartialEq, Eq)]
+pub enum Others {
+    Refused,
+    PassedOver,
+}
+
+impl Others {
+    /// By which they are passed over.
+    pub const OPTION: &str = "--ignore-other-columns";
 }
 
 /// Which columns there are, in their order.
-pub struct Columns {
+pub struct Columns<'a> {
     form: Form,
-    named: Vec<Column>,
+    named: Vec<Named<'a>>,
 }
 
-impl Columns {
-    pub fn read(form: Form, row: &Row) -> Result<Columns, Bad> {
+struct Named<'a> {
+    name: Word<'a>,
+    /// None is passed over.
+    column: Option<Column>,
+}
+
+impl<'a> Columns<'a> {
+    /// Whether a row is the one that names them: no header row has any of their names.
+    pub fn are_in(row: &Row) -> bool {
+        row.cells.iter().any(|cell| Column::named(*cell).is_some())
+    }
+
+    pub fn read(form: Form, others: Others, row: &Row<'a>) -> Result<Columns<'a>, Bad> {
         let mut columns = Columns { form, named: Vec::new() };
         for &cell in row.filled() {
-            columns.name(cell)?;
+            columns.name(others, cell)?;
         }
         columns.are_all_there(row)?;
         columns.end_in_sees(row)?;
         Ok(columns)
     }
 
-    fn name(&mut self, cell: Word) -> Result<(), Bad> {
-        let column = Column::named(cell).ok_or_else(|| cell.unknown("column", Column::names()))?;
-        if self.place(column).is_some() {
-            return Err(cell.bad(format!("the column {} is named twice", column.name())));
+    fn name(&mut self, others: Others, name: Word<'a>) -> Result<(), Bad> {
+        let column = Column::named(name);
+        match column {
+            None if name.text.is_empty() || others == Others::Refused => return Err(unknown(name)),
+            Some(column) if self.place(column).is_some() => {
+                return Err(name.bad(format!("the column {} is named twice", column.name())))
+            }
+            _ => self.named.push(Named { name, column }),
         }
-        self.named.push(column);
         Ok(())
     }
 
@@ -102,24 +138,41 @@ impl Columns {
         self.named.len()
     }
 
+    /// The names of those that are passed over.
+    pub fn others(&self) -> Vec<Word<'a>> {
+        self.named.iter().filter(|named| named.column.is_none()).map(|named| named.name).collect()
+    }
+
     pub fn place(&self, column: Column) -> Option<usize> {
-        self.named.iter().position(|named| *named == column)
+        self.named.iter().position(|named| named.column == Some(column))
     }
 
     /// What a row has in this column, if the table has such a column.
-    pub fn cell<'a>(&self, column: Column, row: &Row<'a>) -> Option<Word<'a>> {
+    pub fn cell(&self, column: Column, row: &Row<'a>) -> Option<Word<'a>> {
         self.place(column).map(|place| row.cell(place))
     }
 
-    /// In text no cell can be empty, and in CSV no column is without a name.
+    /// Every column has its cell, in CSV an empty one too: a row with fewer was cut. No cell is without a column.
     pub fn fit(&self, row: &Row) -> Result<(), Bad> {
         let over = row.cells.iter().skip(self.count()).find(|cell| !cell.text.is_empty());
         match (over, self.named.get(row.cells.len())) {
-            (Some(cell), _) => Err(cell.bad("over this cell no column is named")),
-            (None, Some(column)) if self.form == Form::Text => {
-                Err(row.end.bad(format!("the row ends before its {}", column.name())))
-            }
+            (Some(cell), _) => Err(cell.bad(format!("over {} no column is named", cell.shown()))),
+            (None, Some(missing)) => Err(row.end.bad(format!("the row ends before its {}", missing.told()))),
             _ => Ok(()),
         }
     }
+}
+
+impl Named<'_> {
+    /// Its name, and what a cell that is forgotten may have.
+    fn told(&self) -> String {
+        let nothing = self.column.and_then(Column::nothing);
+        let may_be = nothing.map_or(String::new(), |nothing| format!(", which may be {nothing}"));
+        format!("{}{may_be}", self.name.shown())
+    }
+}
+
+fn unknown(name: Word) -> Bad {
+    let bad = name.unknown(&[("column", Column::names())]);
+    Bad { what: format!("{}; {} passes over others", bad.what, Others::OPTION), ..bad }
 }

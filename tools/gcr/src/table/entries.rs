@@ -8,10 +8,11 @@ pub enum Entry {
     Sites,
     Clocks,
     Opening,
+    Events,
 }
 
 impl Entry {
-    const ALL: [Entry; 4] = [Entry::Edition, Entry::Sites, Entry::Clocks, Entry::Opening];
+    const ALL: [Entry; 5] = [Entry::Edition, Entry::Sites, Entry::Clocks, Entry::Opening, Entry::Events];
 
     /// The word that its row begins with.
     pub fn name(self) -> &'static str {
@@ -20,11 +21,12 @@ impl Entry {
             Entry::Sites => "sites",
             Entry::Clocks => "clocks",
             Entry::Opening => "opening",
+            Entry::Events => "events",
         }
     }
 
-    pub fn names() -> impl Iterator<Item = &'static str> {
-        Entry::ALL.into_iter().map(Entry::name)
+    pub fn names() -> Vec<&'static str> {
+        Entry::ALL.into_iter().map(Entry::name).collect()
     }
 
     pub fn named(word: Word) -> Option<Entry> {
@@ -38,6 +40,7 @@ impl Entry {
             Entry::Sites => &["number of sites"],
             Entry::Clocks => &["difference of clocks"],
             Entry::Opening => &["object", "value"],
+            Entry::Events => &["number of events"],
         }
     }
 

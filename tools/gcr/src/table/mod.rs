@@ -8,9 +8,13 @@ mod header;
 mod names;
 mod ranges;
 mod reading;
+mod refused;
 mod rows;
+mod whole;
 mod writing;
 
+#[cfg(test)]
+mod cuts;
 #[cfg(test)]
 mod damaged;
 #[cfg(test)]
@@ -18,6 +22,7 @@ mod round_trips;
 #[cfg(test)]
 mod samples;
 
+pub use columns::Others;
 pub use form::Form;
 pub use reading::Table;
 pub use writing::written;
