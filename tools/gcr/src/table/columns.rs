@@ -1,80 +1,10 @@
-//! The columns, and the row that names them.
+//! The row that names the columns.
 
+use super::column::Column;
 use super::form::Form;
-use super::names::{NONE, NOTHING};
+use super::others::{self, Others};
 use super::rows::Row;
 use crate::text::{Bad, Word};
-
-#[derive(Clone, Copy, Debug, PartialEq, Eq)]
-pub enum Column {
-    Event,
-    Site,
-    Kind,
-    Object,
-    Value,
-    State,
-    Start,
-    Return,
-    Position,
-    Sees,
-}
-
-impl Column {
-    /// As they are written.
-    pub const ALL: [Column; 10] = {
-        use Column::*;
-        [Event, Site, Kind, Object, Value, State, Start, Return, Position, Sees]
-    };
-
-    pub fn name(self) -> &'static str {
-        match self {
-            Column::Event => "event",
-            Column::Site => "site",
-            Column::Kind => "kind",
-            Column::Object => "object",
-            Column::Value => "value",
-            Column::State => "state",
-            Column::Start => "start",
-            Column::Return => "return",
-            Column::Position => "position",
-            Column::Sees => "sees",
-        }
-    }
-
-    pub fn names() -> Vec<&'static str> {
-        Column::ALL.into_iter().map(Column::name).collect()
-    }
-
-    pub fn named(word: Word) -> Option<Column> {
-        Column::ALL.into_iter().find(|column| word.is(column.name()))
-    }
-
-    /// Rows count, and a return says the state.
-    fn may_be_left_out(self) -> bool {
-        matches!(self, Column::Event | Column::State)
-    }
-
-    /// What is written where there is none, if that may be.
-    pub fn nothing(self) -> Option<&'static str> {
-        match self {
-            Column::Value => Some(NONE),
-            Column::Return | Column::Sees => Some(NOTHING),
-            _ => None,
-        }
-    }
-}
-
-/// What becomes of columns that a record has not.
-#[derive(Clone, Copy, Debug, PartialEq, Eq)]
-pub enum Others {
-    Refused,
-    PassedOver,
-}
-
-impl Others {
-    /// By which they are passed over.
-    pub const OPTION: &str = "--ignore-other-columns";
-}
 
 /// Which columns there are, in their order.
 pub struct Columns<'a> {
@@ -107,13 +37,15 @@ impl<'a> Columns<'a> {
     fn name(&mut self, others: Others, name: Word<'a>) -> Result<(), Bad> {
         let column = Column::named(name);
         match column {
-            None if name.text.is_empty() || others == Others::Refused => return Err(unknown(name)),
+            None if name.text.is_empty() || others == Others::Refused => Err(others::unknown(name)),
             Some(column) if self.place(column).is_some() => {
-                return Err(name.bad(format!("the column {} is named twice", column.name())))
+                Err(name.bad(format!("the column {} is named twice", column.name())))
             }
-            _ => self.named.push(Named { name, column }),
+            _ => {
+                self.named.push(Named { name, column });
+                Ok(())
+            }
         }
-        Ok(())
     }
 
     fn are_all_there(&self, row: &Row) -> Result<(), Bad> {
@@ -170,9 +102,4 @@ impl Named<'_> {
         let may_be = nothing.map_or(String::new(), |nothing| format!(", which may be {nothing}"));
         format!("{}{may_be}", self.name.shown())
     }
-}
-
-fn unknown(name: Word) -> Bad {
-    let bad = name.unknown(&[("column", Column::names())]);
-    Bad { what: format!("{}; {} passes over others", bad.what, Others::OPTION), ..bad }
 }

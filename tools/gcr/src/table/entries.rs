@@ -1,5 +1,6 @@
 //! What header rows may say.
 
+use super::rows::Row;
 use crate::text::{Bad, Word};
 
 #[derive(Clone, Copy, PartialEq, Eq)]
@@ -44,13 +45,13 @@ impl Entry {
         }
     }
 
-    /// Whether these are as many as come after the name.
-    pub fn takes(self, name: Word, values: &[Word]) -> Result<(), Bad> {
-        let expected = self.values();
+    /// What comes after the name in its row, if that is as much as there should be.
+    pub fn takes<'r, 'a>(self, row: &'r Row<'a>) -> Result<&'r [Word<'a>], Bad> {
+        let (expected, values) = (self.values(), row.filled().get(1..).unwrap_or_default());
         match (expected.get(values.len()), values.get(expected.len())) {
-            (Some(missing), _) => Err(name.bad(format!("after {} comes the {missing}", self.name()))),
+            (Some(missing), _) => Err(row.first().bad(format!("after {} comes the {missing}", self.name()))),
             (_, Some(more)) => Err(more.bad(format!("after {} this is too much", self.name()))),
-            _ => Ok(()),
+            _ => Ok(values),
         }
     }
 }

@@ -1,6 +1,7 @@
 //! A row's event.
 
-use super::columns::{Column, Columns};
+use super::column::Column;
+use super::columns::Columns;
 use super::names::{is_nothing, kind, state};
 use super::ranges;
 use super::rows::Row;

@@ -33,8 +33,7 @@ pub struct Header<'a> {
 impl<'a> Header<'a> {
     /// One row more.
     pub fn take(&mut self, entry: Entry, row: &Row<'a>) -> Result<(), Bad> {
-        let (name, values) = (row.first(), row.filled().get(1..).unwrap_or_default());
-        entry.takes(name, values)?;
+        let (name, values) = (row.first(), entry.takes(row)?);
         match entry {
             Entry::Edition => once(&mut self.edition, name, values[0], edition),
             Entry::Sites => once(&mut self.sites, name, values[0], sites),

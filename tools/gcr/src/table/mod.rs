@@ -1,11 +1,13 @@
 //! A record as a table: header rows, the row of columns, then a row for each event. `show` writes it, `make` reads it.
 
+mod column;
 mod columns;
 mod entries;
 mod events;
 mod form;
 mod header;
 mod names;
+mod others;
 mod ranges;
 mod reading;
 mod refused;
@@ -22,7 +24,7 @@ mod round_trips;
 #[cfg(test)]
 mod samples;
 
-pub use columns::Others;
 pub use form::Form;
+pub use others::Others;
 pub use reading::Table;
 pub use writing::written;

@@ -1,10 +1,12 @@
 //! Reading a table.
 
-use super::columns::{Column, Columns, Others};
+use super::column::Column;
+use super::columns::Columns;
 use super::entries::Entry;
 use super::events::EventRow;
 use super::form::Form;
 use super::header::Header;
+use super::others::{passed_over, Others};
 use super::rows::{Row, Rows};
 use super::whole::{are_not_too_many, doubt, is_whole};
 use crate::text::{Bad, Word};
@@ -59,21 +61,25 @@ fn head<'a>(form: Form, rows: &mut Rows<'a>) -> Result<(Header<'a>, Row<'a>), Ba
     let mut header = Header::default();
     loop {
         let row = rows.next(usize::MAX)?.ok_or_else(|| no_columns(rows.end()))?;
-        match Entry::named(row.first()) {
-            Some(entry) => header.take(entry, &row)?,
-            None if Columns::are_in(&row) => return Ok((header, row)),
-            None => return Err(no_head(form, row.first())),
+        if Columns::are_in(&row) {
+            return Ok((header, row));
         }
+        let entry = Entry::named(row.first()).ok_or_else(|| no_head(form, row.first()))?;
+        header.take(entry, &row)?;
     }
 }
 
 fn event_rows<'a>(rows: &mut Rows<'a>, columns: usize) -> Result<Vec<Row<'a>>, Bad> {
     let mut events = Vec::new();
     while let Some(row) = rows.next(columns)? {
-        if let Some(entry) = Entry::named(row.first()) {
-            return Err(row.first().bad(format!("{} is said before the columns, and not after them", entry.name())));
+        // a site's own column may have such a word too
+        match Entry::named(row.first()).filter(|entry| entry.takes(&row).is_ok()) {
+            Some(entry) => {
+                let what = format!("{} is said before the columns, and not after them", entry.name());
+                return Err(row.first().bad(what));
+            }
+            None => events.push(row),
         }
-        events.push(row);
     }
     Ok(events)
 }
@@ -87,16 +93,4 @@ fn no_head(form: Form, first: Word) -> Bad {
 
 fn no_columns(end: Word) -> Bad {
     end.bad(format!("the row of columns is missing: {}", Column::names().join(" ")))
-}
-
-/// So many names of columns are shown.
-const NAMES: usize = 9;
-
-fn passed_over(others: &[Word]) -> Option<String> {
-    let names: Vec<String> = others.iter().take(NAMES).map(Word::shown).collect();
-    let more = others.len() - names.len();
-    let more = if more == 0 { String::new() } else { format!(" and {more} more") };
-    let are = if others.len() == 1 { "column is" } else { "columns are" };
-    let said = || format!("{} {are} passed over: {}{more}", others.len(), names.join(", "));
-    (!others.is_empty()).then(said)
 }

@@ -1,6 +1,6 @@
 //! Writing a table.
 
-use super::columns::Column;
+use super::column::Column;
 use super::form::Form;
 use super::header;
 use super::names::{kind_name, state_name};

@@ -37,6 +37,15 @@ fn they_are_passed_over_and_told() {
 }
 
 #[test]
+fn the_first_may_have_words_of_the_header() {
+    let own =
+        LOG.replace("site,kind", "events,site,kind").replace("\n0,", "\nopening,0,").replace("\n1,", "\nsites,1,");
+    let record = piped(&["make", "--csv"], LOG.as_bytes()).done().out;
+    let told = "gcr: standard input: 1 column is passed over: events\n";
+    assert_eq!(made(&["make", "--csv", OPTION], &own), (0, told.to_string(), record));
+}
+
+#[test]
 fn in_text_they_are_words() {
     let text = "sites 2\ncall site kind who object value start return position sees
 c7a1 0 write ana 5 100 0 1 0 -\n- 1 read bo 5 100 2 3 1 0..0 0\n";

@@ -1,6 +1,6 @@
 //! Question 8: a position that is not there, or is another event's.
 
-use super::super::columns::Column;
+use super::super::column::Column;
 use super::{no_such, Refused};
 use crate::text::Bad;
 

@@ -1,6 +1,6 @@
 //! Question 7: an event that no slot can hold.
 
-use super::super::columns::Column;
+use super::super::column::Column;
 use super::{no_such, Refused};
 use crate::text::Bad;
 use gcr::Kind;

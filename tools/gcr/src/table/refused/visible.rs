@@ -1,6 +1,6 @@
 //! Questions 9 and 10: what an event cannot see.
 
-use super::super::columns::Column;
+use super::super::column::Column;
 use super::super::ranges::{parts, Range};
 use super::{no_such, Refused};
 use crate::text::Bad;
