@@ -39,9 +39,9 @@ fn said(ran: Ran) -> (String, String) {
 
 #[test]
 fn a_picture_goes_to_standard_output_whatever_the_verdict() {
-    let kept = include_str!("../../../docs/pictures/stale-read.svg");
-    for predicate in ["5", "MonotonicReads", "monotonic-reads"] {
-        assert!(picture(&["--predicate", predicate, &record("stale-read.gcr")]) == kept);
+    let kept = include_str!("../../../docs/pictures/long-way.svg");
+    for predicate in ["10", "CausalVisibility", "causal-visibility"] {
+        assert!(picture(&["--predicate", predicate, &record("long-way.gcr")]) == kept);
     }
     let sequential = drawn("long-way.gcr", Asked::Model(Model::Sequential), &Part::whole());
     assert!(picture(&[&record("long-way.gcr"), "--model=sequential"]) == sequential);

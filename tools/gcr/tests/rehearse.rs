@@ -175,7 +175,8 @@ fn bad_text_is_refused_with_its_line_and_column() {
     refused_whole(
         &[],
         b"sites 2\n  clsoe\n",
-        "standard input: line 2, column 3: there is no word clsoe; the nearest is close",
+        "standard input: line 2, column 3: there is no word clsoe; the nearest is close; the words are sites, \
+         open, put, get, deliver, close, call",
     );
     refused_whole(
         &[],

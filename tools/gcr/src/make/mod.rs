@@ -2,14 +2,14 @@
 
 mod encoding;
 
-pub use encoding::encoded;
+pub use encoding::{encoded, Encoded};
 
 use crate::commands::Command;
 use crate::ending::{Ending, Failure};
 use crate::made::Made;
 use crate::options::{Kind, Operands, Opt};
 use crate::output;
-use crate::table::Form;
+use crate::table::{Form, Others};
 use crate::text;
 use crate::words::Words;
 use std::ffi::OsStr;
@@ -27,6 +27,7 @@ pub const COMMAND: Command = Command {
             "writes the record to this file; else it goes to standard output",
         ),
         Opt::flag("--csv", "the text has cells with commas between them; so it is read too where FILE ends in .csv"),
+        Opt::flag(Others::OPTION, "passes over columns that a record has not, and says which"),
     ],
     alternatives: &[],
     notes: NOTES,
@@ -40,7 +41,8 @@ where it is -, the text comes from standard input.
 ";
 
 const NOTES: &str = "
-Before the columns come the number of sites and, where there are such, the difference of clocks and openings.
+Before the columns come the number of sites and, where there are such, the difference of clocks, openings and
+the number of events, to which the rows are held: a text that was cut is refused.
 The columns event and state may be left out. # begins a remark. What is wrong is told by line and column.
 ";
 
@@ -50,7 +52,10 @@ fn run(words: &Words) -> Result<Ending, Failure> {
     words.spares_terminal(to)?;
     let form = Form::of(words.has("--csv"), source.path().map(|path| path.as_os_str()));
     let text = text::read(&source, " (gcr show reads a record)")?;
-    let record = encoded(form, &text).map_err(|what| Failure::of_refusal(&source.name(), what))?;
+    let others = if words.has(Others::OPTION) { Others::PassedOver } else { Others::Refused };
+    let Encoded { record, remarks } =
+        encoded(form, others, &text).map_err(|what| Failure::of_refusal(&source.name(), what))?;
+    remarks.iter().for_each(|remark| output::remarked(&format!("{}: {remark}", source.name())));
     output::saved(to, &record)?;
     Ok(Ending::Well)
 }

@@ -20,10 +20,10 @@ struct Field {
     at: Range<usize>,
 }
 
-const SITE: Field = Field { name: "SITE", what: "a site", at: 1..2 };
-const OBJECT: Field = Field { name: "OBJECT", what: "an object", at: 2..3 };
-const VALUE: Field = Field { name: "VALUE", what: "a value", at: 4..8 };
-const EVENT: Field = Field { name: "EVENT", what: "an event", at: 4..6 };
+const SITE: Field = Field { name: "SITE", what: "site", at: 1..2 };
+const OBJECT: Field = Field { name: "OBJECT", what: "object", at: 2..3 };
+const VALUE: Field = Field { name: "VALUE", what: "value", at: 4..8 };
+const EVENT: Field = Field { name: "EVENT", what: "event", at: 4..6 };
 
 pub const FORMS: &[Form] = &[
     Form { word: "put", kind: 1, fields: &[SITE, OBJECT, VALUE] },

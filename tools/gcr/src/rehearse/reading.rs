@@ -34,7 +34,7 @@ impl Reader {
             OPEN => self.opening(first, taken(first, rest, &["OBJECT", "VALUE"])?),
             RAW => self.call(first, read_raw(taken(first, rest, &RAW_NAMES)?)?),
             word => {
-                let form = Form::named(word).ok_or_else(|| first.unknown("word", right()))?;
+                let form = Form::named(word).ok_or_else(|| first.unknown(&[("word", right())]))?;
                 self.call(first, form.read(taken(first, rest, &form.names())?)?)
             }
         }
@@ -44,7 +44,7 @@ impl Reader {
         if self.sites.is_some() {
             return Err(first.bad("sites N comes once"));
         }
-        self.sites = Some(words[0].number("the number of sites", u8::MAX.into())? as u8);
+        self.sites = Some(words[0].number("number of sites", u8::MAX.into())? as u8);
         Ok(())
     }
 
@@ -80,6 +80,6 @@ fn taken<'a, 't>(first: &Word, rest: &'a [Word<'t>], names: &[&str]) -> Result<&
 }
 
 /// The words that lines begin with.
-fn right() -> impl Iterator<Item = &'static str> {
-    [SITES, OPEN, RAW].into_iter().chain(FORMS.iter().map(|form| form.word))
+fn right() -> Vec<&'static str> {
+    [SITES, OPEN].into_iter().chain(FORMS.iter().map(|form| form.word)).chain([RAW]).collect()
 }

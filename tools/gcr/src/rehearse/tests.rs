@@ -169,26 +169,22 @@ fn bad_text_is_told_with_its_line_and_column() {
         ("sites 2\nclose\nsites 2", "line 3, column 1: sites N comes once"),
         ("sites", "line 1, column 6: N is missing: sites N"),
         ("sites 2 3", "line 1, column 9: nothing comes after sites N"),
-        ("sites two", "line 1, column 7: the number of sites is a number from 0 to 255"),
-        ("sites 256", "line 1, column 7: the number of sites is a number from 0 to 255"),
-        ("sites 2\nopen 32 1", "line 2, column 6: only objects 0 to 31 have openings"),
-        ("sites 2\nopen 5 4294967296", "line 2, column 8: an opening is a number from 0 to 4294967295"),
+        ("sites two", "line 1, column 7: the number of sites is two, and may be a whole number from 0 to 255"),
+        ("sites 256", "line 1, column 7: the number of sites is 256, and may be 0 to 255"),
+        ("sites 2\nopen 32 1", "line 2, column 6: the object of an opening is 32, and may be 0 to 31"),
+        ("sites 2\nopen 5 4294967296", "line 2, column 8: the opening is 4294967296, and may be 0 to 4294967295"),
         ("open 5 1\nopen 05 1", "line 2, column 6: object 5 has an opening already"),
         ("sites 2\nclose\nopen 5 1", "line 3, column 1: openings come before the first call"),
         ("sites 2\nput 0 5 # 1", "line 2, column 8: VALUE is missing: put SITE OBJECT VALUE"),
         ("sites 2\nput", "line 2, column 4: SITE is missing: put SITE OBJECT VALUE"),
         ("sites 2\nput 0 5 1 2", "line 2, column 11: nothing comes after put SITE OBJECT VALUE"),
-        ("sites 2\nput 256 5 1", "line 2, column 5: a site is a number from 0 to 255"),
-        ("sites 2\nget 0 -1", "line 2, column 7: an object is a number from 0 to 255"),
-        ("sites 2\ndeliver 65536 0", "line 2, column 9: an event is a number from 0 to 65535"),
+        ("sites 2\nput 256 5 1", "line 2, column 5: the site is 256, and may be 0 to 255"),
+        ("sites 2\nget 0 -1", "line 2, column 7: the object is -1, and may be a whole number from 0 to 255"),
+        ("sites 2\ndeliver 65536 0", "line 2, column 9: the event is 65536, and may be 0 to 65535"),
         ("sites 2\nclose 1", "line 2, column 7: nothing comes after close"),
         ("sites 2\ncall 09 00", "line 2, column 11: B2 is missing: call B0 B1 B2 B3 B4 B5 B6 B7"),
         ("sites 2\ncall 9 00 00 00 00 00 00 00", "line 2, column 6: a byte is two hexadecimal digits, 00 to ff"),
         ("sites 2\ncall 00 +1 00 00 00 00 00 00", "line 2, column 9: a byte is two hexadecimal digits, 00 to ff"),
-        ("site 2", "line 1, column 1: there is no word site; the nearest is sites"),
-        ("sites 2\n\tdelivr 0 1", "line 2, column 2: there is no word delivr; the nearest is deliver"),
-        ("sites 2\nPut 0 5 1", "line 2, column 1: there is no word Put; the nearest is put"),
-        ("sites 2\r\nä\u{202e} 0", "line 2, column 1: there is no word ä\u{fffd}"),
     ];
     for (text, due) in told {
         assert_eq!(bad(text), due, "{text}");
@@ -196,9 +192,16 @@ fn bad_text_is_told_with_its_line_and_column() {
 }
 
 #[test]
-fn a_long_unknown_word_is_shown_by_its_start() {
-    let due = format!("line 1, column 1: there is no word {}…", "x".repeat(32));
-    assert_eq!(bad(&"x".repeat(1_000_000)), due);
+fn an_unknown_word_is_told_with_the_right_ones() {
+    let told = |text: &str, at: &str, found: &str| {
+        let right = "the words are sites, open, put, get, deliver, close, call";
+        assert_eq!(bad(text), format!("{at}: there is no word {found}; {right}"));
+    };
+    told("site 2", "line 1, column 1", "site; the nearest is sites");
+    told("sites 2\n\tdelivr 0 1", "line 2, column 2", "delivr; the nearest is deliver");
+    told("sites 2\nPut 0 5 1", "line 2, column 1", "Put; the nearest is put");
+    told("sites 2\r\nä\u{202e} 0", "line 2, column 1", "ä\u{fffd}");
+    told(&"x".repeat(1_000_000), "line 1, column 1", &format!("{}…", "x".repeat(32)));
 }
 
 #[test]

@@ -1,15 +1,16 @@
 //! A row's event.
 
-use super::columns::{Column, Columns};
+use super::column::Column;
+use super::columns::Columns;
 use super::names::{is_nothing, kind, state};
 use super::ranges;
 use super::rows::Row;
 use crate::text::{Bad, Word};
-use gcr::{Event, VisibleSet};
+use gcr::Event;
 
 /// A row under its columns.
 pub struct EventRow<'r, 'a> {
-    pub columns: &'r Columns,
+    pub columns: &'r Columns<'a>,
     pub row: &'r Row<'a>,
 }
 
@@ -19,15 +20,14 @@ impl<'a> EventRow<'_, 'a> {
         self.columns.fit(self.row)?;
         self.counts(number)?;
         let mut event = Event::blank();
-        event.site = self.cell(Column::Site).number("a site", u8::MAX.into())? as u8;
+        event.site = self.number(Column::Site, u8::MAX.into())? as u8;
         event.kind = kind(self.cell(Column::Kind))?;
-        event.object = self.cell(Column::Object).number("an object", u8::MAX.into())? as u8;
-        let value = self.unless_nothing(Column::Value, "a value that is not none", u32::MAX.into())?;
-        event.value = value.map(|value| value as u32);
-        event.start = self.cell(Column::Start).number("a start", u64::MAX)?;
-        event.end = self.unless_nothing(Column::Return, "a return that is not -", u64::MAX)?;
-        event.position = self.cell(Column::Position).number("a position", u16::MAX.into())? as u16;
-        event.visible = seen(self.cell(Column::Sees))?;
+        event.object = self.number(Column::Object, u8::MAX.into())? as u8;
+        event.value = self.unless_nothing(Column::Value, u32::MAX.into())?.map(|value| value as u32);
+        event.start = self.number(Column::Start, u64::MAX)?;
+        event.end = self.unless_nothing(Column::Return, u64::MAX)?;
+        event.position = self.number(Column::Position, u16::MAX.into())? as u16;
+        event.visible = ranges::read(self.cell(Column::Sees))?;
         self.agrees_in_state(&event)?;
         Ok(event)
     }
@@ -36,19 +36,26 @@ impl<'a> EventRow<'_, 'a> {
         self.columns.cell(column, self.row).unwrap_or(self.row.end)
     }
 
-    fn unless_nothing(&self, column: Column, what: &str, most: u64) -> Result<Option<u64>, Bad> {
+    fn number(&self, column: Column, most: u64) -> Result<u64, Bad> {
+        self.cell(column).number(column.name(), most)
+    }
+
+    fn unless_nothing(&self, column: Column, most: u64) -> Result<Option<u64>, Bad> {
         let cell = self.cell(column);
-        match is_nothing(&cell) {
-            true => Ok(None),
-            false => cell.number(what, most).map(Some),
+        if is_nothing(&cell) {
+            return Ok(None);
         }
+        let nothing = column.nothing().unwrap_or_default();
+        let beyond = || cell.beyond(column.name(), &format!("0 to {most}, or {nothing}"));
+        cell.at_most(most).map(Some).ok_or_else(beyond)
     }
 
     /// Where rows are numbered, they count.
     fn counts(&self, number: usize) -> Result<(), Bad> {
         match self.columns.cell(Column::Event, self.row) {
-            Some(cell) if cell.number("an event", u64::MAX)? != number as u64 => {
-                Err(cell.bad(format!("this is event {number}: rows count from 0")))
+            Some(cell) if cell.at_most(u64::MAX) != Some(number as u64) => {
+                let is = cell.found();
+                Err(cell.bad(format!("the event is {is}, and this row is event {number}: rows count from 0")))
             }
             _ => Ok(()),
         }
@@ -59,17 +66,10 @@ impl<'a> EventRow<'_, 'a> {
         let Some(cell) = self.columns.cell(Column::State, self.row).filter(|cell| !cell.text.is_empty()) else {
             return Ok(());
         };
-        match (state(cell)?, event.is_pending()) {
-            (true, false) => Err(cell.bad("a pending event has no return, and this one has")),
-            (false, true) => Err(cell.bad("a returned event has a return, and this one has none")),
+        match (state(cell)?, event.end) {
+            (true, Some(end)) => Err(cell.bad(format!("a pending event has no return, and this one has {end}"))),
+            (false, None) => Err(cell.bad("a returned event has a return, and this one has none")),
             _ => Ok(()),
         }
-    }
-}
-
-fn seen(cell: Word) -> Result<VisibleSet, Bad> {
-    match is_nothing(&cell) {
-        true => Ok(VisibleSet::none()),
-        false => ranges::read(cell),
     }
 }

@@ -5,76 +5,107 @@ use super::rows::Row;
 use crate::openings;
 use crate::text::{Bad, Word};
 use gcr::{Edition, Openings, Record};
+use std::ops::RangeInclusive;
 use std::str::FromStr;
+
+/// How many sites a record may have.
+pub const SITES: RangeInclusive<u8> = 1..=8;
+
+/// What a row says, and the word that says it.
+#[derive(Clone, Copy)]
+pub struct Said<'a, T> {
+    pub value: T,
+    pub word: Word<'a>,
+}
 
 /// What was said so far.
 #[derive(Default)]
-pub struct Header {
-    edition: Option<Edition>,
-    sites: Option<u8>,
-    clocks: Option<u32>,
+pub struct Header<'a> {
+    edition: Option<Said<'a, Edition>>,
+    pub sites: Option<Said<'a, u8>>,
+    pub clocks: Option<Said<'a, u32>>,
     openings: Openings,
+    /// The object of the first.
+    pub opening: Option<Word<'a>>,
+    pub events: Option<Said<'a, u64>>,
 }
 
-impl Header {
+impl<'a> Header<'a> {
     /// One row more.
-    pub fn take(&mut self, entry: Entry, row: &Row) -> Result<(), Bad> {
-        let (name, values) = (row.first(), row.filled().get(1..).unwrap_or_default());
-        entry.takes(name, values)?;
+    pub fn take(&mut self, entry: Entry, row: &Row<'a>) -> Result<(), Bad> {
+        let (name, values) = (row.first(), entry.takes(row)?);
         match entry {
-            Entry::Edition => once(&mut self.edition, name, edition(values[0])?),
-            Entry::Sites => once(&mut self.sites, name, sites(values[0])?),
-            Entry::Clocks => once(&mut self.clocks, name, difference(values[0])?),
+            Entry::Edition => once(&mut self.edition, name, values[0], edition),
+            Entry::Sites => once(&mut self.sites, name, values[0], sites),
+            Entry::Clocks => once(&mut self.clocks, name, values[0], difference),
+            Entry::Events => once(&mut self.events, name, values[0], events),
             Entry::Opening => {
                 self.openings = openings::opened(self.openings, values[0], values[1])?;
+                self.opening.get_or_insert(values[0]);
                 Ok(())
             }
         }
     }
 
     /// A record without events yet. How many sites there are cannot be told by those that did something.
-    pub fn record(self, columns: Word) -> Result<Record, Bad> {
+    pub fn record(&self, columns: Word) -> Result<Record, Bad> {
         let missing =
             || columns.bad("the number of sites is missing: sites and the number stand in a row before the columns");
-        let mut record = Record::new(self.edition.unwrap_or(Edition::Gcr2), self.sites.ok_or_else(missing)?);
-        record.difference = self.clocks.unwrap_or(0);
+        let edition = self.edition.map_or(Edition::Gcr2, |said| said.value);
+        let mut record = Record::new(edition, self.sites.ok_or_else(missing)?.value);
+        record.difference = self.clocks.map_or(0, |said| said.value);
         record.openings = self.openings;
         Ok(record)
     }
 }
 
-fn once<T>(place: &mut Option<T>, name: Word, value: T) -> Result<(), Bad> {
-    match place.replace(value) {
-        Some(_) => Err(name.bad(format!("{} is said twice", name.shown()))),
+fn once<'a, T>(
+    place: &mut Option<Said<'a, T>>,
+    name: Word,
+    word: Word<'a>,
+    read: fn(Word) -> Result<T, Bad>,
+) -> Result<(), Bad> {
+    match place.replace(Said { value: read(word)?, word }) {
+        Some(first) => Err(name.bad(format!("{} is said twice, first in line {}", name.shown(), first.word.line))),
         None => Ok(()),
     }
 }
 
 fn edition(word: Word) -> Result<Edition, Bad> {
-    let unknown = |_| word.unknown("edition", Edition::ALL.iter().map(|edition| edition.letters()));
-    Edition::from_str(word.text).map_err(unknown)
+    let letters = Edition::ALL.iter().map(|edition| edition.letters()).collect();
+    Edition::from_str(word.text).map_err(|_| word.unknown(&[("edition", letters)]))
 }
 
 fn sites(word: Word) -> Result<u8, Bad> {
-    word.number("the number of sites", u8::MAX.into()).map(|sites| sites as u8)
+    word.at_most(u8::MAX.into()).map(|sites| sites as u8).ok_or_else(|| no_sites(word))
+}
+
+/// No record has so many.
+pub fn no_sites(word: Word) -> Bad {
+    word.beyond("number of sites", &format!("{} to {}", SITES.start(), SITES.end()))
 }
 
 fn difference(word: Word) -> Result<u32, Bad> {
-    word.number("the difference of clocks", u32::MAX.into()).map(|difference| difference as u32)
+    word.number("difference of clocks", u32::MAX.into()).map(|difference| difference as u32)
 }
 
-/// The rows that say it.
+fn events(word: Word) -> Result<u64, Bad> {
+    word.number("number of events", u64::MAX)
+}
+
+/// The rows that say it. How many events follow is the last that is said before them.
 pub fn rows(record: &Record) -> Vec<Vec<String>> {
-    let row = |entry: Entry, values: &[u32]| {
-        let values = values.iter().map(u32::to_string);
+    let row = |entry: Entry, values: &[u64]| {
+        let values = values.iter().map(u64::to_string);
         [entry.name().to_string()].into_iter().chain(values).collect::<Vec<_>>()
     };
     let mut rows = vec![vec![Entry::Edition.name().to_string(), record.edition.letters().to_string()]];
     rows.push(row(Entry::Sites, &[record.sites.into()]));
     if record.edition != Edition::Gcr1 {
-        rows.push(row(Entry::Clocks, &[record.difference]));
+        rows.push(row(Entry::Clocks, &[record.difference.into()]));
     }
-    let opening = |(object, value): (u8, u32)| row(Entry::Opening, &[object.into(), value]);
+    let opening = |(object, value): (u8, u32)| row(Entry::Opening, &[object.into(), value.into()]);
     rows.extend(openings::all(&record.openings).map(opening));
+    rows.push(row(Entry::Events, &[record.count() as u64]));
     rows
 }

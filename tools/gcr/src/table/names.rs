@@ -39,5 +39,5 @@ fn name<T: PartialEq>(names: &[(&'static str, T)], of: T) -> &'static str {
 
 fn named<T: Copy>(names: &[(&str, T)], what: &str, cell: Word) -> Result<T, Bad> {
     let found = names.iter().find(|(name, _)| cell.is(name));
-    found.map(|&(_, each)| each).ok_or_else(|| cell.unknown(what, names.iter().map(|(name, _)| *name)))
+    found.map(|&(_, each)| each).ok_or_else(|| cell.unknown(&[(what, names.iter().map(|(name, _)| *name).collect())]))
 }

@@ -1,5 +1,6 @@
 //! What an event sees, in ranges: `0..5 7` is 0 to 5, with both, and 7.
 
+use super::names::is_nothing;
 use crate::text::{Bad, Word};
 use gcr::{VisibleSet, EVENTS_MOST};
 
@@ -24,22 +25,44 @@ pub fn written(seen: &VisibleSet) -> String {
     ranges.iter().map(range).collect::<Vec<_>>().join(" ")
 }
 
+/// Events that stand together in a cell, with both ends.
+pub struct Range<'a> {
+    pub word: Word<'a>,
+    pub first: u16,
+    pub last: u16,
+}
+
 /// Ranges in any order; what stands in two of them is seen.
 pub fn read(cell: Word) -> Result<VisibleSet, Bad> {
-    cell.words().iter().try_fold(VisibleSet::none(), |seen, range| {
-        let (first, last) = ends(range)?;
-        (first..=last).try_fold(seen, VisibleSet::with).ok_or_else(|| range.bad("no record has such events"))
+    parts(cell)?.iter().try_fold(VisibleSet::none(), |seen, range| {
+        let all = (range.first..=range.last).try_fold(seen, VisibleSet::with);
+        all.ok_or_else(|| range.word.bad("no record has such events"))
     })
 }
 
-fn ends(range: &Word) -> Result<(u16, u16), Bad> {
-    let event = |word: &Word| word.number("an event that is seen", LAST).map(|event| event as u16);
-    let Some((first, last)) = range.split(TO) else { return event(range).map(|event| (event, event)) };
-    let (first, last) = (event(&first)?, event(&last)?);
-    match first <= last {
-        true => Ok((first, last)),
-        false => Err(range.bad("this range ends before it begins")),
+/// The ranges as they stand in the cell.
+pub fn parts(cell: Word) -> Result<Vec<Range>, Bad> {
+    if is_nothing(&cell) {
+        return Ok(Vec::new());
     }
+    cell.words().into_iter().map(part).collect()
+}
+
+fn part(word: Word) -> Result<Range, Bad> {
+    let Some((first, last)) = word.split(TO) else {
+        let event = event(word, &format!("0 to {LAST}, or a range as 0{TO}5"))?;
+        return Ok(Range { word, first: event, last: event });
+    };
+    let may_be = format!("0 to {LAST}");
+    let (first, last) = (event(first, &may_be)?, event(last, &may_be)?);
+    match first <= last {
+        true => Ok(Range { word, first, last }),
+        false => Err(word.bad(format!("the range {} ends before it begins", word.shown()))),
+    }
+}
+
+fn event(word: Word, may_be: &str) -> Result<u16, Bad> {
+    word.at_most(LAST).map(|event| event as u16).ok_or_else(|| word.beyond("seen event", may_be))
 }
 
 #[cfg(test)]
@@ -56,26 +79,25 @@ mod tests {
         assert_eq!(read_of("0..3 7  255"), Ok(vec![0, 1, 2, 3, 7, 255]));
         assert_eq!(read_of("7 5..5 4..6"), Ok(vec![4, 5, 6, 7]));
         assert_eq!(read_of("0..255").map(|seen| seen.len()), Ok(256));
-        assert_eq!(read_of(""), Ok(vec![]));
+        assert_eq!((read_of(""), read_of("-")), (Ok(vec![]), Ok(vec![])));
     }
 
     #[test]
     fn a_range_that_is_wrong_has_its_own_place() {
-        let number = "an event that is seen is a number from 0 to 255";
         for (text, column, what) in [
-            ("0 256", 12, number),
-            ("0 3..256", 15, number),
-            ("0 ..3", 12, number),
-            ("3..", 13, number),
-            ("1...3", 13, number),
-            ("1-3", 10, number),
-            ("#REF!", 10, number),
-            ("0 #N/A", 12, number),
-            ("0#0", 10, number),
-            ("0 5..4", 12, "this range ends before it begins"),
+            ("0 256", 12, "256, and may be 0 to 255, or a range as 0..5"),
+            ("0 3..256", 15, "256, and may be 0 to 255"),
+            ("0 ..3", 12, "missing, and may be 0 to 255"),
+            ("3..", 13, "missing, and may be 0 to 255"),
+            ("1...3", 13, ".3, and may be a whole number from 0 to 255"),
+            ("1-3", 10, "1-3, and may be a whole number from 0 to 255, or a range as 0..5"),
+            ("#REF!", 10, "#REF!, and may be a whole number from 0 to 255, or a range as 0..5"),
+            ("0 #N/A", 12, "#N/A, and may be a whole number from 0 to 255, or a range as 0..5"),
+            ("0#0", 10, "0#0, and may be a whole number from 0 to 255, or a range as 0..5"),
         ] {
-            assert_eq!(read_of(text), Err(format!("line 4, column {column}: {what}")), "{text}");
+            assert_eq!(read_of(text), Err(format!("line 4, column {column}: the seen event is {what}")), "{text}");
         }
+        assert_eq!(read_of("0 5..4"), Err("line 4, column 12: the range 5..4 ends before it begins".to_string()));
     }
 
     #[test]

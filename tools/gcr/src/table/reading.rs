@@ -1,76 +1,96 @@
 //! Reading a table.
 
-use super::columns::{Column, Columns};
+use super::column::Column;
+use super::columns::Columns;
 use super::entries::Entry;
 use super::events::EventRow;
 use super::form::Form;
 use super::header::Header;
+use super::others::{passed_over, Others};
 use super::rows::{Row, Rows};
+use super::whole::{are_not_too_many, doubt, is_whole};
 use crate::text::{Bad, Word};
-use gcr::{Record, Refusal};
+use gcr::Record;
 
 /// What a text says, and where.
 pub struct Table<'a> {
     pub record: Record,
-    columns: Columns,
+    pub header: Header<'a>,
+    columns: Columns<'a>,
     /// Event k's stands at k.
     rows: Vec<Row<'a>>,
+    /// Where the text may have been cut.
+    doubt: Option<Bad>,
 }
 
 impl<'a> Table<'a> {
-    pub fn read(form: Form, text: &'a str) -> Result<Table<'a>, Bad> {
+    pub fn read(form: Form, others: Others, text: &'a str) -> Result<Table<'a>, Bad> {
         let mut rows = Rows::of(form, text);
-        let mut header = Header::default();
-        let named = loop {
-            let row = rows.next(usize::MAX)?.ok_or_else(|| no_columns(rows.end()))?;
-            match Column::named(row.first()) {
-                Some(_) => break row,
-                None => take(&mut header, form, &row)?,
-            }
-        };
-        let columns = Columns::read(form, &named)?;
-        let mut table = Table { record: header.record(named.first())?, columns, rows: Vec::new() };
-        while let Some(row) = rows.next(table.columns.count())? {
-            table.push(row)?;
-        }
+        let (header, named) = head(form, &mut rows)?;
+        let columns = Columns::read(form, others, &named)?;
+        let record = header.record(named.first())?;
+        let events = event_rows(&mut rows, columns.count())?;
+        is_whole(&header, &events, rows.unended())?;
+        are_not_too_many(&events)?;
+        let mut table = Table { record, header, columns, rows: events, doubt: doubt(rows.unended()) };
+        table.fill()?;
         Ok(table)
     }
 
-    fn push(&mut self, row: Row<'a>) -> Result<(), Bad> {
-        if Entry::named(row.first()).is_some() {
-            return Err(row.first().bad("header rows stand before the columns"));
+    fn fill(&mut self) -> Result<(), Bad> {
+        for (number, row) in self.rows.iter().enumerate() {
+            self.record.push(EventRow { columns: &self.columns, row }.event(number)?);
         }
-        let event = EventRow { columns: &self.columns, row: &row }.event(self.record.count())?;
-        self.record.push(event);
-        self.rows.push(row);
         Ok(())
     }
 
-    /// What the reader's refusal of the record is about, where it is about an event.
-    pub fn place(&self, refusal: Refusal) -> Option<Word<'a>> {
-        let row = || self.rows.get(refusal.place as usize);
-        let cell = |column| row().and_then(|row| self.columns.cell(column, row));
-        match refusal.number {
-            7 => row().map(Row::first),
-            8 => cell(Column::Position),
-            9 | 10 => cell(Column::Sees),
-            _ => None,
-        }
+    /// The row of this event.
+    pub fn row(&self, event: usize) -> Option<EventRow<'_, 'a>> {
+        self.rows.get(event).map(|row| EventRow { columns: &self.columns, row })
+    }
+
+    /// What is to be said of a text though it is taken.
+    pub fn remarks(&self) -> Vec<String> {
+        let others = passed_over(&self.columns.others());
+        others.into_iter().chain(self.doubt.iter().map(Bad::to_string)).collect()
     }
 }
 
-fn take(header: &mut Header, form: Form, row: &Row) -> Result<(), Bad> {
-    let first = row.first();
-    match Entry::named(first) {
-        Some(entry) => header.take(entry, row),
-        None if form == Form::Text && first.text.contains(',') => {
-            Err(first.bad("rows with commas are read with --csv"))
+/// The rows up to the one that names the columns, and that one.
+fn head<'a>(form: Form, rows: &mut Rows<'a>) -> Result<(Header<'a>, Row<'a>), Bad> {
+    let mut header = Header::default();
+    loop {
+        let row = rows.next(usize::MAX)?.ok_or_else(|| no_columns(rows.end()))?;
+        if Columns::are_in(&row) {
+            return Ok((header, row));
         }
-        None => Err(first.unknown("header word or column", Entry::names().chain(Column::names()))),
+        let entry = Entry::named(row.first()).ok_or_else(|| no_head(form, row.first()))?;
+        header.take(entry, &row)?;
+    }
+}
+
+fn event_rows<'a>(rows: &mut Rows<'a>, columns: usize) -> Result<Vec<Row<'a>>, Bad> {
+    let mut events = Vec::new();
+    while let Some(row) = rows.next(columns)? {
+        // a site's own column may have such a word too
+        match Entry::named(row.first()).filter(|entry| entry.takes(&row).is_ok()) {
+            Some(entry) => {
+                let what = format!("{} is said before the columns, and not after them", entry.name());
+                return Err(row.first().bad(what));
+            }
+            None => events.push(row),
+        }
+    }
+    Ok(events)
+}
+
+fn no_head(form: Form, first: Word) -> Bad {
+    match form == Form::Text && first.text.contains(',') {
+        true => first.bad("rows with commas are read with --csv"),
+        false => first.unknown(&[("header word", Entry::names()), ("column", Column::names())]),
     }
 }
 
 fn no_columns(end: Word) -> Bad {
-    let names: Vec<_> = Column::names().collect();
-    end.bad(format!("the row of columns is missing: {}", names.join(" ")))
+    end.bad(format!("the row of columns is missing: {}", Column::names().join(" ")))
 }

@@ -1,8 +1,8 @@
 //! Records of every shape through text and CSV, and back.
 
 use super::samples::{fixed, random, Named};
-use super::{written, Form};
-use crate::make::encoded;
+use super::{written, Form, Others};
+use crate::make::{encoded, Encoded};
 use gcr::{Edition, Record};
 use second::record as second;
 
@@ -13,9 +13,9 @@ fn record(bytes: &[u8]) -> Record {
 /// The text makes the same bytes, and these the same text.
 fn goes_and_comes(form: Form, (name, bytes): &Named) {
     let text = written(form, &record(bytes));
-    let made = encoded(form, &text).unwrap_or_else(|what| panic!("{name}: {what} in\n{text}"));
-    assert!(made == *bytes, "{name}: the record is another after\n{text}");
-    assert_eq!(written(form, &record(&made)), text, "{name}");
+    let made = encoded(form, Others::Refused, &text).unwrap_or_else(|what| panic!("{name}: {what} in\n{text}"));
+    assert!(made == Encoded { record: bytes.clone(), remarks: vec![] }, "{name}: the record is another after\n{text}");
+    assert_eq!(written(form, &record(&made.record)), text, "{name}");
 }
 
 /// What a row should say, by the second checker's reading of the record.
@@ -48,7 +48,7 @@ fn seen(ranges: &[&str]) -> Vec<usize> {
 fn says_what_the_second_checker_reads((name, bytes): &Named) {
     let text = written(Form::Text, &record(bytes));
     let other = second::Record::from_bytes(bytes);
-    let rows: Vec<&str> = text.lines().skip_while(|line| !line.starts_with("event")).skip(1).collect();
+    let rows: Vec<&str> = text.lines().skip_while(|line| !line.starts_with("event ")).skip(1).collect();
     assert_eq!(rows.len(), other.events.len(), "{name}");
     for (number, (row, event)) in rows.iter().zip(&other.events).enumerate() {
         let cells: Vec<&str> = row.split_whitespace().collect();

@@ -32,14 +32,17 @@ impl<'a> Row<'a> {
 pub struct Rows<'a> {
     form: Form,
     separator: char,
+    text: &'a str,
     lines: Enumerate<Lines<'a>>,
     /// How many lines were read.
     read: usize,
+    /// Where the last line ends of those that say something: all but remarks and white space.
+    last: Option<Word<'a>>,
 }
 
 impl<'a> Rows<'a> {
     pub fn of(form: Form, text: &'a str) -> Rows<'a> {
-        Rows { form, separator: form.separator(text), lines: text.lines().enumerate(), read: 0 }
+        Rows { form, separator: form.separator(text), text, lines: text.lines().enumerate(), read: 0, last: None }
     }
 
     /// The next row, in text of at most so many cells.
@@ -48,6 +51,9 @@ impl<'a> Rows<'a> {
             self.read = before + 1;
             let line = Word { line: self.read, column: 1, text };
             let row = Row { cells: self.form.cells(line, self.separator, most)?, end: line.rest(text.len()) };
+            if !row.cells.is_empty() && !text.trim().is_empty() {
+                self.last = Some(row.end);
+            }
             if !row.filled().is_empty() {
                 return Ok(Some(row));
             }
@@ -58,5 +64,10 @@ impl<'a> Rows<'a> {
     /// Where a further row would stand.
     pub fn end(&self) -> Word<'a> {
         Word { line: self.read + 1, column: 1, text: "" }
+    }
+
+    /// Where the text ends, if that is within a line that says something: it may have been cut there. All were read.
+    pub fn unended(&self) -> Option<Word<'a>> {
+        self.last.filter(|last| last.line == self.read && !self.text.ends_with('\n'))
     }
 }

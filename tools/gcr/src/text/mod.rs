@@ -1,11 +1,13 @@
 //! Text that people write: its words with the lines and columns where they stand.
 
 mod letters;
+mod numbers;
 mod parts;
 mod reading;
 mod unknown;
 mod word;
 
 pub use letters::{after, letters};
+pub use numbers::number;
 pub use reading::read;
-pub use word::{before_remark, number, words, Bad, Word};
+pub use word::{before_remark, words, Bad, Word};

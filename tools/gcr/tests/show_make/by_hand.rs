@@ -10,6 +10,7 @@ sites 2
 clocks 40
 opening 5 300
 opening 31 0
+events 4
 
 event  site  kind   object  value       state     start  return                position  sees
 0      0     write  5       100         returned  0      1                     0         -
@@ -24,6 +25,7 @@ sites,2
 clocks,40
 opening,5,300
 opening,31,0
+events,4
 event,site,kind,object,value,state,start,return,position,sees
 0,0,write,5,100,returned,0,1,0,
 1,1,write,31,4294967295,pending,2,,2,0
@@ -51,7 +53,7 @@ fn a_record_is_shown_as_text_and_as_csv() {
 
 #[test]
 fn a_record_of_the_first_edition_has_no_clocks() {
-    let text = "edition GCR1\nsites 2\n
+    let text = "edition GCR1\nsites 2\nevents 3\n
 event  site  kind   object  value  state     start  return  position  sees
 0      0     write  0       7      returned  0      1       0         -
 1      1     read   0       7      returned  2      3       1         0
@@ -86,7 +88,8 @@ fn what_can_be_told_may_be_left_out() {
     0 0 Write 5 0 1 100 -
     2 1 write 31 2 - 4294967295 0   # pending\n
     1 1 read 5 3 18446744073709551615 none 1 0
-    3 0 READ 255 1000 none - 2..2 0";
+    3 0 READ 255 1000 none - 2..2 0
+";
     makes_the_same(&["make"], columns);
 }
 
@@ -108,7 +111,7 @@ sees,event,site,kind,object,value,state,start,return,position,,\r
 fn the_edition_is_the_second_where_none_is_said() {
     let text = "sites 3\nsite kind object value start return position sees\n";
     let shown = piped(&["show"], &piped(&["make"], text.as_bytes()).done().out).done();
-    assert_eq!(shown.lines()[..3], ["edition GCR2", "sites 3", "clocks 0"]);
+    assert_eq!(shown.lines()[..4], ["edition GCR2", "sites 3", "clocks 0", "events 0"]);
 }
 
 #[test]

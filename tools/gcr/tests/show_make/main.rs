@@ -2,6 +2,8 @@
 
 mod bad_text;
 mod by_hand;
+mod cut;
+mod other_columns;
 mod outputs;
 mod page;
 mod refused;

@@ -34,11 +34,35 @@ fn a_log_and_what_is_wrong_with_others() {
     gcr(&["make", &folder.file("log.csv", LOG), "-o", &made]).done();
     let shown = gcr(&["show", &made]).done();
     let rows = shown.lines();
-    assert!(rows.len() == 8 && rows[7].contains("pending"), "{rows:?}");
-    for wrong in [LOG.replace("read,5,100", "raed,5,100"), LOG.replace("3,1,0", "3,0,0")] {
-        let path = folder.file("log.csv", wrong);
-        let ran = gcr(&["make", &path]);
-        assert_eq!(ran.status, 2);
-        is_shown(&ran.err.replace(&path, "log.csv"));
+    assert!(rows.len() == 9 && rows[8].contains("pending"), "{rows:?}");
+    for (from, to) in [
+        ("read,5,100", "raed,5,100"),
+        ("read,5,100", "read,300,100"),
+        ("3,1,0", "3,1"),
+        ("100,2,3", "100,5,3"),
+        ("1,read,5,100", "2,read,5,100"),
+        ("3,1,0", "3,0,0"),
+        ("3,1,0", "3,1,7"),
+        ("3,1,0", "3,1,2"),
+    ] {
+        is_shown(&refusal(&folder, "log.csv", &LOG.replacen(from, to, 1)));
     }
+}
+
+#[test]
+fn what_is_told_of_a_text_that_was_cut() {
+    let folder = Folder::new();
+    let shown = gcr(&["show", "--csv", "records/never-returned.gcr"]).done();
+    let text = shown.text();
+    let last = text.lines().last().expect("a row");
+    is_shown(&refusal(&folder, "day.csv", text.strip_suffix(&format!("{last}\n")).expect("it ends so")));
+    is_shown(&refusal(&folder, "day.csv", text.trim_end()));
+}
+
+/// What is told of a file of this name.
+fn refusal(folder: &Folder, name: &str, text: &str) -> String {
+    let path = folder.file(name, text);
+    let ran = gcr(&["make", &path]);
+    assert_eq!(ran.status, 2, "{text}");
+    ran.err.replace(&path, name)
 }

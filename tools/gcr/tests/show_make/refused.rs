@@ -6,14 +6,6 @@ use std::fs;
 
 const COLUMNS: &str = "site kind object value start return position sees\n";
 
-const SLOT: &str =
-    "The slot at this place is not laid out as an event, or is not empty though it is past the last one. \
-    In a row the site is below the number of sites, a write has a value, a pending read has none, and the return is \
-    not below the start.";
-const POSITION: &str =
-    "The event at this place has an arbitration position that is too large or that a lower event has.";
-const SEES: &str = "The event at this place sees itself, or an event that is not in the record.";
-
 #[track_caller]
 fn is_refused(rows: &str, what: &str) {
     let text = format!("sites 2\n{COLUMNS}0 write 5 1 0 1 0 -\n# a remark\n{rows}");
@@ -22,32 +14,66 @@ fn is_refused(rows: &str, what: &str) {
 
 #[test]
 fn an_event_that_no_slot_can_hold() {
-    let slot = format!("line 5, column 2: refused 7 1: {SLOT}");
-    is_refused(" 2 write 5 1 0 1 1 -\n", &slot);
-    is_refused(" 1 write 5 none 0 1 1 -\n", &slot);
-    is_refused(" 1 read 5 1 0 - 1 -\n", &slot);
-    is_refused(" 1 read 5 1 2 1 1 -\n", &slot);
+    let site = "line 5, column 2: refused 7 1: there is no site 2: the record has sites 0 to 1";
+    is_refused(" 2 write 5 1 0 1 1 -\n", site);
+    let write = "line 5, column 12: refused 7 1: a write has a value, and this one has none";
+    is_refused(" 1 write 5 none 0 1 1 -\n", write);
+    is_refused(" 1 write 5 none 0 - 1 -\n", write);
+    let read = "line 5, column 11: refused 7 1: a pending read has no value, and this one has 7";
+    is_refused(" 1 read 5 7 0 - 1 -\n", read);
+    is_refused("1 read 5 1 5 3 1 -\n", "line 5, column 14: refused 7 1: the return 3 is before the start 5");
+    let one = "sites 1\nsees".replace("sees", COLUMNS) + "1 write 5 1 0 1 0 -\n";
+    let what = "standard input: line 3, column 1: refused 7 0: there is no site 1: the record has site 0 alone";
+    piped(&["make"], one.as_bytes()).ended(2, what);
 }
 
 #[test]
 fn positions() {
-    is_refused("1 write 5 1 0 1 0 -\n", &format!("line 5, column 17: refused 8 1: {POSITION}"));
-    is_refused("1 write 5 1 0 1 2 -\n", &format!("line 5, column 17: refused 8 1: {POSITION}"));
+    let taken = "line 5, column 17: refused 8 1: the position 0 is event 0's already, in line 3";
+    is_refused("1 write 5 1 0 1 0 -\n", taken);
+    let beyond = "line 5, column 17: refused 8 1: there is no position 2: the record has positions 0 to 1";
+    is_refused("1 write 5 1 0 1 2 -\n", beyond);
 }
 
 #[test]
 fn visible_sets() {
-    is_refused("1 write 5 1 0 1 1 0..1\n", &format!("line 5, column 19: refused 9 1: {SEES}"));
-    is_refused("1 write 5 1 0 1 1 255\n", &format!("line 5, column 19: refused 9 1: {SEES}"));
-    let ring = "line 5, column 19: refused 10 1: Visibility runs in a ring through the event at this place.";
+    is_refused("1 write 5 1 0 1 1 0  0..1\n", "line 5, column 22: refused 9 1: event 1 sees itself");
+    let beyond = "line 5, column 19: refused 9 1: there is no event 255: the record has events 0 to 1";
+    is_refused("1 write 5 1 0 1 1 255\n", beyond);
+    let range = "line 5, column 21: refused 9 1: there is no event 7: the record has events 0 to 1";
+    is_refused("1 write 5 1 0 1 1 0 0..7\n", range);
+    let ring = "line 5, column 21: refused 10 1: event 1 sees itself through event 2";
     is_refused("1 write 5 1 0 1 1 0 2\n\n1 write 5 1 0 1 2 1\n", ring);
+}
+
+/// Each of so many events sees the next, and the last sees the first.
+fn ring(count: usize) -> String {
+    let row = |event: usize| format!("0 write 5 1 0 1 {event} {}\n", (event + 1) % count);
+    format!("sites 1\n{COLUMNS}{}", (0..count).map(row).collect::<String>())
+}
+
+#[test]
+fn rings_are_told_by_their_shortest_way() {
+    for (count, through) in [
+        (3, "events 1 and 2"),
+        (7, "events 1, 2, 3, 4, 5 and 6"),
+        (8, "events 1, 2, 3, 4, 5, 6 and 1 more"),
+        (256, "events 1, 2, 3, 4, 5, 6 and 249 more"),
+    ] {
+        let what = format!("line 3, column 19: refused 10 0: event 0 sees itself through {through}");
+        let text = ring(count).replacen("0 write 5 1 0 1 0 1\n", "0 write 5 1 0 1 0 1..1\n", 1);
+        piped(&["make"], text.as_bytes()).ended(2, &format!("standard input: {what}"));
+    }
 }
 
 #[test]
 fn a_refused_event_of_csv_has_its_place_too() {
     let text = "sites,1\nsees,position,site,kind,object,value,start,return\n0,0,0,write,1,1,0,1\n";
-    piped(&["make", "--csv"], text.as_bytes())
-        .ended(2, &format!("standard input: line 3, column 1: refused 9 0: {SEES}"));
+    let what = "standard input: line 3, column 1: refused 9 0: event 0 sees itself";
+    piped(&["make", "--csv"], text.as_bytes()).ended(2, what);
+    let text = text.replace("0,0,0,write,1,1,0,1", ",0,0,write,1,,0,1");
+    let what = "standard input: line 3, column 14: refused 7 0: a write has a value, and this one has none";
+    piped(&["make", "--csv"], text.as_bytes()).ended(2, what);
 }
 
 /// So many writes, in order.
@@ -58,22 +84,29 @@ fn events(count: usize) -> String {
 
 #[test]
 fn heads_that_no_record_has() {
-    let head = |said: &str| {
-        format!(
-            "standard input: refused 5 0: Block 0 is not laid out as the head of a record of edition GCR1 or GCR2. There \
-             are 1 to 8 sites and at most 256 events, and in GCR1 neither clocks that differ nor openings. (The text has \
-             {said}.)"
-        )
+    let is_refused = |header: &str, what: &str| {
+        let ran = piped(&["make"], format!("{header}\n{}", events(1)).as_bytes());
+        ran.ended(2, &format!("standard input: {what}"));
     };
-    let made = |header: &str, count| piped(&["make"], format!("{header}\n{}", events(count)).as_bytes());
-    assert_eq!(made("sites 8", 256).done().out.len(), 19_456);
-    made("sites 1", 257).ended(2, &head("sites 1, events 257, edition GCR2"));
-    made("sites 0", 0).ended(2, &head("sites 0, events 0, edition GCR2"));
-    made("sites 9", 1).ended(2, &head("sites 9, events 1, edition GCR2"));
-    made("edition GCR1\nsites 1\nclocks 1", 1).ended(2, &head("sites 1, events 1, edition GCR1"));
-    made("edition GCR1\nsites 1\nopening 0 0", 1).ended(2, &head("sites 1, events 1, edition GCR1"));
-    assert!(made("sites 1", 260).err.contains("refused 3 0: "));
-    assert!(made("sites 1", 66_000).err.contains("refused 3 0: "));
+    is_refused("sites 0", "line 1, column 7: refused 5 0: the number of sites is 0, and may be 1 to 8");
+    is_refused("clocks 1\nsites 9", "line 2, column 7: refused 5 0: the number of sites is 9, and may be 1 to 8");
+    let clocks = "line 3, column 8: refused 5 0: the difference of clocks is 1, and may be only 0 in edition GCR1";
+    is_refused("edition GCR1\nsites 1\nclocks 1", clocks);
+    let opening = "line 3, column 9: refused 5 0: edition GCR1 has no openings";
+    is_refused("edition GCR1\nsites 1\nopening 7 0\nopening 5 0", opening);
+}
+
+#[test]
+fn more_events_than_a_record_has() {
+    let made = |count| piped(&["make"], format!("sites 8\n{}", events(count)).as_bytes());
+    assert_eq!(made(256).done().out.len(), 19_456);
+    for count in [257, 300, 66_000] {
+        let what = format!("the text has {count} events, and a record has at most 256");
+        made(count).ended(2, &format!("standard input: line 259, column 1: {what}"));
+    }
+    let seeing = events(300).replacen("299 299 -", "299 299 298", 1);
+    piped(&["make"], format!("sites 1\n{seeing}").as_bytes())
+        .ended(2, "standard input: line 259, column 1: the text has 300 events, and a record has at most 256");
 }
 
 #[test]
@@ -81,7 +114,7 @@ fn nothing_is_written_then() {
     let folder = Folder::new();
     let text = folder.file("ring.txt", format!("sites 1\n{COLUMNS}0 write 5 1 0 1 0 1\n0 write 5 1 2 3 1 0\n"));
     let there = folder.file("there.gcr", "GCR as it was");
-    let ring = "line 3, column 19: refused 10 0: Visibility runs in a ring through the event at this place.";
+    let ring = "line 3, column 19: refused 10 0: event 0 sees itself through event 1";
     gcr(&["make", &text, "-o", &there]).ended(2, &format!("{text}: {ring}"));
     gcr(&["make", &text, "-o", &folder.at("new.gcr")]).ended(2, &format!("{text}: {ring}"));
     assert_eq!(fs::read_to_string(&there).unwrap(), "GCR as it was");
