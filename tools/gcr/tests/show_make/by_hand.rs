@@ -120,7 +120,7 @@ fn help_has_an_example() {
         let ran = gcr(&[name, "--help"]).done();
         let help = ran.text();
         assert!(help.starts_with(&format!("gcr {name} ")) && help.contains("\nExample: gcr show "), "{help}");
-        assert!(help.lines().count() < 16, "{help}");
+        assert!(help.lines().count() < 20, "{help}");
     }
 }
 
