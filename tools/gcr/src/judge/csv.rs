@@ -1,7 +1,8 @@
 //! Rows for each record: one for each model or predicate that it was judged by, or one that says why it was not.
 
 use super::asked::Question;
-use super::found::{Break, Found, Judged, Outcome};
+use super::found::{Found, Judged, Outcome};
+use diagram::Break;
 
 pub const HEAD: &str = "record,status,events,kind,number,name,verdict,by_number,by_name,a,b,refusal,place,message\n";
 

@@ -3,7 +3,8 @@
 use super::asked::Question;
 use super::records::{Named, Unread};
 use crate::ending::Ending;
-use gcr::{broken_by, count, judge_predicate, Predicate, Refusal, Verdict, RECORD_MOST};
+use diagram::{Break, Verdicts};
+use gcr::{count, Refusal, RECORD_MOST};
 
 pub struct Found {
     pub record: String,
@@ -22,14 +23,6 @@ pub struct Judged {
     pub events: u16,
     /// What was asked, each with its break where it is broken.
     pub verdicts: Vec<(Question, Option<Break>)>,
-}
-
-/// The first broken predicate of what was asked, and its pair.
-#[derive(Clone, Copy, Debug, PartialEq, Eq)]
-pub struct Break {
-    pub by: Predicate,
-    pub a: u16,
-    pub b: u16,
 }
 
 impl Found {
@@ -66,19 +59,22 @@ impl Found {
 }
 
 fn judged(record: &[u8], questions: &[Question]) -> Result<Judged, Refusal> {
-    let verdict = |&question: &Question| Ok((question, broken(record, question)?));
-    let verdicts = questions.iter().map(verdict).collect::<Result<_, _>>()?;
+    let verdicts = match questions {
+        &[question @ Question::Predicate(alone)] => vec![(question, Break::of(alone, record)?)],
+        several => several_judged(record, several)?,
+    };
     Ok(Judged { events: count(record), verdicts })
 }
 
-fn broken(record: &[u8], question: Question) -> Result<Option<Break>, Refusal> {
-    let by = match question {
-        Question::Model(model) => broken_by(model, record)?,
-        Question::Predicate(predicate) => Some(predicate),
+/// Of a model the first break.
+fn several_judged(record: &[u8], questions: &[Question]) -> Result<Vec<(Question, Option<Break>)>, Refusal> {
+    let mut verdicts = Verdicts::of(record);
+    let broken = |&question: &Question| {
+        let broken = match question {
+            Question::Model(model) => verdicts.of_model(model)?.into_iter().next(),
+            Question::Predicate(predicate) => verdicts.of_predicate(predicate)?,
+        };
+        Ok((question, broken))
     };
-    let Some(by) = by else { return Ok(None) };
-    Ok(match judge_predicate(by, record)? {
-        Verdict::Met => None,
-        Verdict::Broken { a, b } => Some(Break { by, a, b }),
-    })
+    questions.iter().map(broken).collect()
 }

@@ -1,7 +1,8 @@
 //! An object for each record, a line each. Every object has the same keys.
 
 use super::asked::Question;
-use super::found::{Break, Found, Outcome};
+use super::found::{Found, Outcome};
+use diagram::Break;
 
 pub fn line(found: &Found) -> String {
     let (mut events, mut verdicts, mut refusal, mut error) = (null(), String::new(), null(), null());

@@ -1,7 +1,8 @@
 //! A line for each record.
 
 use super::asked::Question;
-use super::found::{Break, Found, Judged, Outcome};
+use super::found::{Found, Judged, Outcome};
+use diagram::Break;
 
 pub fn line(found: &Found) -> String {
     let told = match &found.outcome {
