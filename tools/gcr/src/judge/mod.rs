@@ -1,26 +1,23 @@
 //! Judges records: a line, an object or rows for each, in the order in which they were named.
 
 mod asked;
-mod cores;
 mod csv;
 mod form;
 mod found;
 mod json;
+mod judging;
 mod lines;
-mod progress;
-mod records;
-mod summary;
+mod verdicts;
+
+pub use asked::Question;
+pub use form::Form;
+pub use judging::Judging;
+pub use verdicts::Breaks;
 
 use crate::commands::Command;
 use crate::ending::{Ending, Failure};
-use crate::output::Output;
+use crate::records;
 use crate::words::{Opt, Words};
-use asked::Question;
-use form::Form;
-use found::Found;
-use progress::Progress;
-use records::Records;
-use summary::Summary;
 
 pub const COMMAND: Command = Command {
     name: "judge",
@@ -33,12 +30,17 @@ pub const COMMAND: Command = Command {
         Opt::flag("--json"),
         Opt::flag("--csv"),
         Opt::flag("--quiet"),
+        Opt::flag("-q"),
+        Opt::with("--color", 1),
+        Opt::flag("--recursive"),
+        Opt::with("--expect", 1),
+        Opt::flag("--strict"),
     ],
     run,
 };
 
 const HELP: &str = "
-gcr judge [--model M]... [--predicate P]... [--all] [--json | --csv] [--quiet] [FILE | FOLDER | -]...
+gcr judge [OPTION]... [FILE | FOLDER | -]...
 
 Judges each record and writes a line for it: met, or what is broken and at which events, or why it was
 refused. A folder stands for its files that end in .gcr; - or no file is standard input.
@@ -46,9 +48,13 @@ refused. A folder stands for its files that end in .gcr; - or no file is standar
   --model M      a model by name or number; without any option it is Causal, the house's rule
   --predicate P  a predicate by name or number
   --all          all thirteen predicates
-  --json         an object for each record, a line each
+  --json         an object for each record, a line each, with the events of its breaks
   --csv          rows for each record
-  --quiet        nothing of records that are met
+  -q, --quiet    nothing of records that are met
+  --color WHEN   auto, which is on a terminal unless NO_COLOR is set, always, or never
+  --recursive    looks into folders in folders too
+  --expect N     any other number of records, judged or refused, is status 3
+  --strict       so are names and folders passed over, records without events, and the same bytes twice
 
 Exit status: 0 all met, 1 something broken, 2 something refused, 3 something not read; the highest counts.
 
@@ -60,39 +66,6 @@ Exit status: 0 all met, 1 something broken, 2 something refused, 3 something not
 
 fn run(words: &Words) -> Result<Ending, Failure> {
     let questions = asked::questions(words)?;
-    let form = Form::asked(words)?;
-    let Records { all, passed_over } = Records::named(words)?;
-    let is_quiet = words.has("--quiet");
-    let mut output = Output::standard()?;
-    let mut progress = Progress::of(all.len());
-    let mut summary = Summary::default();
-    output.put(form.head().as_bytes())?;
-    let take = |found: Found| {
-        summary.count(&found);
-        if !(is_quiet && found.ending() == Ending::Well) {
-            progress.clear();
-            output.put(form.of(&found).as_bytes())?;
-        }
-        progress.step(&mut output)
-    };
-    cores::in_order(all.len(), |number| Found::of(&all[number], &questions), take)?;
-    progress.clear();
-    if form == Form::Lines {
-        output.put(summary.line(&names(&questions), passed_over).as_bytes())?;
-    }
-    output.finish()?;
-    Ok(summary.ending)
-}
-
-/// `Causal`, or `RVal, SingleOrder`; of many how many.
-fn names(questions: &[Question]) -> String {
-    let is_model = |question: &&Question| matches!(question, Question::Model(_));
-    let models = questions.iter().filter(is_model).count();
-    let counted = |count: usize, what: &str| format!("{count} {what}{}", if count == 1 { "" } else { "s" });
-    match questions.len() {
-        0..4 => questions.iter().map(Question::name).collect::<Vec<_>>().join(", "),
-        all if models == 0 => counted(all, "predicate"),
-        all if models == all => counted(all, "model"),
-        all => format!("{} and {}", counted(models, "model"), counted(all - models, "predicate")),
-    }
+    let is_quiet = words.has("--quiet") || words.has("-q");
+    records::told(words, &Judging { questions, breaks: Breaks::First, form: Form::asked(words)?, is_quiet })
 }
