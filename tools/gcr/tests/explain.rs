@@ -125,6 +125,27 @@ fn json_of_a_model_has_each_of_its_broken_predicates() {
     }
 }
 
+/// By the library's own answers, of random records of many shapes.
+#[test]
+fn json_of_a_model_has_those_that_the_library_finds_broken() {
+    let folder = Folder::new();
+    let records: Vec<Vec<u8>> = (0..200).map(|seed| second::generate::record(seed).bytes).collect();
+    let name = |number: usize| folder.at(&format!("{number}.gcr"));
+    records.iter().enumerate().for_each(|(number, bytes)| std::fs::write(name(number), bytes).unwrap());
+    for &model in Model::ALL {
+        let ran = gcr(&["explain", "--json", "--model", model.name(), folder.path().to_str().unwrap()]);
+        for (bytes, line) in records.iter().zip(ran.lines()) {
+            let Ok(verdicts) = gcr::judge_all(bytes) else { continue };
+            let is_broken = |by: &&Predicate| verdicts[by.number() as usize - 1] != gcr::Verdict::Met;
+            let due: Vec<&str> = model.predicates().iter().filter(is_broken).map(|by| by.name()).collect();
+            let told = Json::read(line);
+            let broken = told.at("verdicts").list().iter().filter(|verdict| verdict.at("status").text() == "broken");
+            assert_eq!(broken.map(|verdict| verdict.at("by").at("name").text()).collect::<Vec<_>>(), due);
+            assert_eq!(told.at("verdicts").list().len(), due.len().max(1));
+        }
+    }
+}
+
 /// The events that JSON tells are those of the lines.
 #[test]
 fn json_and_lines_tell_the_same_events() {

@@ -2,7 +2,7 @@
 
 mod support;
 
-use gcr::{judge_all, judge_model, Model, Predicate, Verdict};
+use gcr::{judge_all, judge_model, judge_predicate, Model, Predicate, Verdict};
 use std::fs;
 use std::io::{Read, Write};
 use std::os::unix::ffi::OsStrExt;
@@ -125,6 +125,24 @@ fn every_line_is_what_the_library_finds() {
         }
         let summary = format!("{} records against {model}: ", records.len());
         assert!(ran.lines()[records.len()].starts_with(&summary), "{}", ran.lines()[records.len()]);
+    }
+}
+
+/// Asked for alone a predicate has a call of its own.
+#[test]
+fn a_predicate_alone_is_told_as_the_library_finds_it() {
+    let records = random(200);
+    let folder = folder_of(&records);
+    for &predicate in Predicate::ALL {
+        let words = ["judge".as_ref(), "--predicate".as_ref(), predicate.name().as_ref(), folder.path().as_os_str()];
+        for (bytes, line) in records.iter().zip(gcr(&words).lines()) {
+            let due = match judge_predicate(predicate, bytes) {
+                Err(refusal) => refusal.to_string(),
+                Ok(Verdict::Met) => "met".to_string(),
+                Ok(Verdict::Broken { a, b }) => format!("broken: {predicate} at {}", pair(a, b)),
+            };
+            assert_eq!(line.split_once(": ").unwrap().1.replace(", without any event", ""), due);
+        }
     }
 }
 
