@@ -22,7 +22,7 @@ mod telling;
 mod ways;
 
 #[cfg(feature = "library")]
-pub use finding::{events, Asked, Breaks};
+pub use finding::{events, Asked, Break, Breaks, Broken, Verdicts};
 #[cfg(feature = "library")]
 pub use part::{Part, Undrawn};
 #[cfg(feature = "library")]

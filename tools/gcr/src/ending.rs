@@ -14,7 +14,7 @@ pub enum Ending {
     Broken = 1,
     /// Something was refused: a record, a script, a call, or text that says neither.
     Refused = 2,
-    /// A file could not be read, or output not be written.
+    /// A file could not be read, or output not be written, or records are not those that were expected.
     Failed = 3,
     /// The words of the command line are none that it knows; nothing was done.
     Unclear = 4,

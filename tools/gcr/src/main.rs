@@ -1,6 +1,7 @@
 //! `gcr`: one command over the proved library. Everything that it decides comes from the library's calls; it reads
 //! files, asks, and writes what it was told.
 
+mod color;
 mod commands;
 mod completions;
 mod draw;
@@ -18,6 +19,7 @@ mod openings;
 mod options;
 mod output;
 mod printable;
+mod records;
 mod rehearse;
 mod show;
 mod source;

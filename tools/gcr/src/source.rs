@@ -3,6 +3,7 @@
 use crate::ending::Failure;
 use crate::printable::printable;
 use std::ffi::OsStr;
+use std::fmt::Display;
 use std::fs::File;
 use std::io::{self, Read};
 use std::path::{Path, PathBuf};
@@ -48,7 +49,7 @@ impl Source {
 
     /// The same; what cannot be read ends the command.
     pub fn bytes(&self, most: usize) -> Result<Vec<u8>, Failure> {
-        self.read(most).map_err(|error| Failure::failed(format!("cannot read {}: {error}", self.name())))
+        self.read(most).map_err(|error| unread(&self.name(), error))
     }
 
     pub fn path(&self) -> Option<&Path> {
@@ -57,6 +58,11 @@ impl Source {
             Source::File(path) => Some(path),
         }
     }
+}
+
+/// Why there is nothing of this name.
+pub fn unread(name: &str, why: impl Display) -> Failure {
+    Failure::failed(format!("cannot read {name}: {why}"))
 }
 
 fn start_of(input: impl Read, most: usize) -> io::Result<Vec<u8>> {

@@ -2,11 +2,12 @@
 
 use crate::commands::Command;
 use crate::ending::Failure;
-use crate::options::{Kind, Opt};
+use crate::nearest::hint;
+use crate::options::{either, Kind, Opt};
 use crate::output::is_standard;
 use crate::printable::printable;
 use crate::source::Source;
-use crate::unknown::unknown;
+use crate::unknown::{shown, unknown};
 use std::ffi::{OsStr, OsString};
 use std::fs::{self, Metadata};
 use std::io::{self, IsTerminal};
@@ -65,8 +66,13 @@ impl Words {
 
     /// Where fixed words are asked for, these are such.
     fn are_right(&self, what: &str, kind: Kind, words: &[OsString]) -> Result<(), Failure> {
+        let right = kind.words();
+        let told = |word: &OsString| {
+            let word = word.to_string_lossy();
+            format!("{what} is {}, and {} is none of them{}", either(&right), shown(&word), hint(&word, right.clone()))
+        };
         let wrong = words.iter().find(|word| !kind.allows(word));
-        wrong.map_or(Ok(()), |word| Err(self.unclear(&unknown(what, &word.to_string_lossy(), kind.words()))))
+        wrong.map_or(Ok(()), |word| Err(self.unclear(&told(word))))
     }
 
     /// What was given may be given together, and so often.

@@ -122,6 +122,7 @@ fn bash_completes_files() {
 fn other_shells_are_unknown() {
     let more = "(gcr completions --help tells more)";
     gcr(&["completions"]).ended(4, &format!("name a shell: bash, zsh or fish {more}"));
-    gcr(&["completions", "bsh"]).ended(4, &format!("there is no shell bsh; the nearest is bash {more}"));
+    gcr(&["completions", "bsh"])
+        .ended(4, &format!("shell is bash, zsh or fish, and bsh is none of them; the nearest is bash {more}"));
     gcr(&["completions", "bash", "zsh"]).ended(4, &format!("it takes one shell {more}"));
 }

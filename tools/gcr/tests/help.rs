@@ -44,8 +44,10 @@ fn help_is_asked_for_in_three_ways_and_is_short() {
 #[test]
 fn a_help_is_made_of_the_options() {
     let judge = gcr(&["judge", "--help"]).done();
-    let usage = "gcr judge [--model M]... [--predicate P]... [--all] [--json | --csv] [--quiet] [FILE | FOLDER | -]...";
-    assert_eq!(judge.lines()[0], usage);
+    let first =
+        "gcr judge [--model M]... [--predicate P]... [--all] [--json | --csv] [--quiet] [--color WHEN] [--recursive]";
+    let second = "          [--expect N] [--strict] [FILE | FOLDER | -]...";
+    assert_eq!(judge.lines()[..2], [first, second]);
     assert!(judge.lines().contains(&"  -q, --quiet    nothing of records that are met"), "{}", judge.text());
     for help in helps() {
         for option in help.options() {

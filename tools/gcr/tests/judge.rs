@@ -2,12 +2,14 @@
 
 mod support;
 
-use gcr::{judge_all, judge_model, Model, Predicate, Verdict};
+use gcr::{judge_all, judge_model, judge_predicate, Model, Predicate, Verdict};
 use std::fs;
+use std::io::{Read, Write};
 use std::os::unix::ffi::OsStrExt;
+use std::process::Command;
 use support::folder::Folder;
 use support::json::Json;
-use support::{bytes, gcr, piped, shell, shipped, to_closed_pipe, to_full_device};
+use support::{gcr, piped, root, shell, to_closed_pipe, to_full_device, Ran};
 
 /// Random records of many shapes, some damaged.
 fn random(count: u64) -> Vec<Vec<u8>> {
@@ -59,51 +61,6 @@ fn a_record_gets_a_line_and_all_of_them_a_summary() {
         "3 records against Causal: 1 met, 2 broken, 0 refused, 0 not read",
     ];
     assert_eq!((ran.lines().as_slice(), ran.err.as_str(), ran.status), (lines.as_slice(), "", 1));
-}
-
-#[test]
-fn a_folder_stands_for_its_records_by_name() {
-    let ran = gcr(&["judge", "records"]);
-    let names: Vec<String> = shipped().into_iter().map(|(name, _)| name).collect();
-    let told: Vec<&str> = ran.lines().iter().filter_map(|line| line.split(": ").next()).collect();
-    assert_eq!(told[..told.len() - 1], names);
-    assert_eq!(ran.status, 1);
-}
-
-#[test]
-fn a_folder_without_records_is_not_read() {
-    let folder = Folder::new();
-    folder.file("a.txt", b"");
-    let ran = gcr(&["judge".as_ref(), folder.path().as_os_str()]);
-    assert!(ran.lines()[0].ends_with(": not read: nothing in this folder ends in .gcr"));
-    assert_eq!(ran.status, 3);
-}
-
-#[test]
-fn what_a_folder_has_beside_records_is_told() {
-    let folder = Folder::new();
-    let record = bytes("records/clocks.gcr");
-    folder.file("a.gcr", &record);
-    folder.file("B.GCR", &record);
-    folder.file(".gcr", &record);
-    folder.file("c.gcr.part", &record);
-    fs::create_dir(folder.at("more")).unwrap();
-    let ran = gcr(&["judge".as_ref(), folder.path().as_os_str()]);
-    let told = "3 records against Causal: 3 met, 0 broken, 0 refused, 0 not read; 2 other names in folders passed over";
-    assert_eq!((ran.lines()[3], ran.status), (told, 0));
-}
-
-#[test]
-fn what_is_no_file_in_a_folder_is_not_waited_for() {
-    let folder = Folder::new();
-    folder.file("a.gcr", bytes("records/clocks.gcr"));
-    fs::create_dir(folder.at("b.gcr")).unwrap();
-    assert!(shell(&format!("mkfifo '{}'", folder.at("c.gcr"))).status == 0);
-    let ran = gcr(&["judge".as_ref(), folder.path().as_os_str()]);
-    assert!(ran.lines()[0].ends_with("a.gcr: met"));
-    assert!(ran.lines()[1].ends_with("b.gcr: not read: this is no file"));
-    assert!(ran.lines()[2].ends_with("c.gcr: not read: this is no file"));
-    assert_eq!(ran.status, 3);
 }
 
 #[test]
@@ -166,7 +123,26 @@ fn every_line_is_what_the_library_finds() {
             let name = folder.path().join(format!("{number:04}.gcr")).display().to_string();
             assert_eq!(line, line_of_model(&name, model, bytes));
         }
-        assert_eq!(ran.lines().len(), records.len() + 1);
+        let summary = format!("{} records against {model}: ", records.len());
+        assert!(ran.lines()[records.len()].starts_with(&summary), "{}", ran.lines()[records.len()]);
+    }
+}
+
+/// Asked for alone a predicate has a call of its own.
+#[test]
+fn a_predicate_alone_is_told_as_the_library_finds_it() {
+    let records = random(200);
+    let folder = folder_of(&records);
+    for &predicate in Predicate::ALL {
+        let words = ["judge".as_ref(), "--predicate".as_ref(), predicate.name().as_ref(), folder.path().as_os_str()];
+        for (bytes, line) in records.iter().zip(gcr(&words).lines()) {
+            let due = match judge_predicate(predicate, bytes) {
+                Err(refusal) => refusal.to_string(),
+                Ok(Verdict::Met) => "met".to_string(),
+                Ok(Verdict::Broken { a, b }) => format!("broken: {predicate} at {}", pair(a, b)),
+            };
+            assert_eq!(line.split_once(": ").unwrap().1.replace(", without any event", ""), due);
+        }
     }
 }
 
@@ -204,29 +180,61 @@ fn is_right(object: &Json, record: &[u8]) {
             assert_eq!(object.at("events").number(), gcr::Record::read(record).unwrap().count() as u64);
             assert_eq!(object.at("verdicts").list().len(), 13);
             for ((told, verdict), predicate) in object.at("verdicts").list().iter().zip(verdicts).zip(Predicate::ALL) {
-                is_verdict(told, verdict, *predicate);
+                is_verdict(told, verdict, *predicate, record);
             }
         }
     }
 }
 
-fn is_verdict(told: &Json, verdict: Verdict, predicate: Predicate) {
-    assert_eq!(told.keys(), ["a", "b", "by", "kind", "name", "number", "status"]);
+fn is_verdict(told: &Json, verdict: Verdict, predicate: Predicate, record: &[u8]) {
+    let keys = ["a", "b", "by", "event_a", "event_b", "kind", "name", "number", "status", "way"];
+    assert_eq!(told.keys(), keys);
     assert_eq!(told.at("kind").text(), "predicate");
     assert_eq!(told.at("number").number(), predicate.number().into());
     assert_eq!(told.at("name").text(), predicate.name());
     match verdict {
         Verdict::Met => {
             assert_eq!(told.at("status").text(), "met");
-            assert_eq!(["a", "b", "by"].map(|key| told.at(key)), [&Json::Null; 3]);
+            assert_eq!(["a", "b", "by", "event_a", "event_b"].map(|key| told.at(key)), [&Json::Null; 5]);
+            assert!(told.at("way").list().is_empty());
         }
         Verdict::Broken { a, b } => {
             assert_eq!(told.at("status").text(), "broken");
             assert_eq!((told.at("a").number(), told.at("b").number()), (a.into(), b.into()));
             assert_eq!(told.at("by").at("name").text(), predicate.name());
             assert_eq!(told.at("by").at("number").number(), predicate.number().into());
+            is_way(told, (a, b), predicate, record);
         }
     }
+}
+
+/// From a on, as the library explains the break. A read that is both events, since its object's opening is due, stands
+/// there once.
+fn is_way(told: &Json, (a, b): (u16, u16), predicate: Predicate, record: &[u8]) {
+    let said = gcr::Record::read(record).unwrap();
+    let mut way = gcr::explain(predicate, record).unwrap();
+    if !(predicate == Predicate::RVal && a == b) {
+        way.insert(0, a);
+    }
+    let due = |&number: &u16| is_event(number, said.event(number).unwrap());
+    assert_eq!(told.at("way").list(), way.iter().map(due).collect::<Vec<_>>());
+    assert_eq!((told.at("event_a"), told.at("event_b")), (&due(&a), &due(&b)));
+}
+
+/// What is to be told of an event.
+fn is_event(number: u16, event: &gcr::Event) -> Json {
+    let number_or_null = |number: Option<u64>| number.map_or(Json::Null, Json::Number);
+    let kind = if event.kind == gcr::Kind::Write { "write" } else { "read" };
+    let all = [
+        ("event", Json::Number(number.into())),
+        ("site", Json::Number(event.site.into())),
+        ("object", Json::Number(event.object.into())),
+        ("kind", Json::Text(kind.to_string())),
+        ("value", number_or_null(event.value.map(u64::from))),
+        ("start", Json::Number(event.start)),
+        ("return", number_or_null(event.end)),
+    ];
+    Json::Object(all.map(|(key, value)| (key.to_string(), value)).into())
 }
 
 #[test]
@@ -292,9 +300,94 @@ fn listing() -> [Verdict; 13] {
 
 #[test]
 fn quiet_leaves_out_what_is_met() {
-    let ran = gcr(&["judge", "--quiet", "records/clocks.gcr", "records/stale-value.gcr"]);
-    assert_eq!(ran.lines().len(), 2);
-    assert!(ran.lines()[0].starts_with("records/stale-value.gcr: broken: Causal by RVal at events 2 and 1"));
+    for quiet in ["--quiet", "-q"] {
+        let ran = gcr(&["judge", quiet, "records/clocks.gcr", "records/stale-value.gcr"]);
+        assert_eq!(ran.lines().len(), 2);
+        assert!(ran.lines()[0].starts_with("records/stale-value.gcr: broken: Causal by RVal at events 2 and 1"));
+    }
+}
+
+/// The site whose event is not as it has to be: of a wrong value the read's, and else the pair's second event's.
+fn at_fault(line: &str) -> Vec<(String, u64)> {
+    let told = Json::read(line);
+    let broken = told.at("verdicts").list().iter().filter(|verdict| verdict.at("status").text() == "broken");
+    let site = |verdict: &Json| {
+        let event = if verdict.at("by").at("number").number() == 1 { "event_a" } else { "event_b" };
+        (told.at("record").text().to_string(), verdict.at(event).at("site").number())
+    };
+    broken.map(site).collect()
+}
+
+/// So the analyst's page tells to find it.
+#[test]
+fn json_has_the_site_at_fault() {
+    let ran = gcr(&["judge", "--json", "records/clocks.gcr", "records/stale-value.gcr", "records/busy-day.gcr"]);
+    let sites: Vec<_> = ran.lines().iter().flat_map(|line| at_fault(line)).collect();
+    let due = [("records/stale-value.gcr", 0), ("records/busy-day.gcr", 4)];
+    assert_eq!(sites, due.map(|(record, site)| (record.to_string(), site)));
+}
+
+#[test]
+fn json_and_csv_have_the_summary_on_standard_error() {
+    for form in ["--json", "--csv"] {
+        let ran = gcr(&["judge", form, "--quiet", "records/clocks.gcr", "records/stale-read.gcr"]);
+        assert!(!ran.text().contains("2 records"));
+        let told = "2 records against Causal: 1 met, 1 broken, 0 refused, 0 not read\n";
+        assert_eq!((ran.err.as_str(), ran.status), (told, 1));
+    }
+}
+
+/// What a terminal shows of a run, with `^[` for escapes.
+fn on_terminal(words: &[&str], no_color: &str) -> String {
+    let mut terminal = fs::File::options().read(true).write(true).open("/dev/ptmx").expect("there are terminals");
+    let mut command = Command::new(env!("CARGO_BIN_EXE_gcr"));
+    command.args(words).current_dir(root()).env("NO_COLOR", no_color).stdout(terminal.try_clone().unwrap());
+    Ran::of(&mut command, b"");
+    terminal.write_all(b"that is all\n").unwrap();
+    let mut shown = Vec::new();
+    while !shown.ends_with(b"that is all\r\n") {
+        let mut next = [0; 1024];
+        let length = terminal.read(&mut next).unwrap();
+        shown.extend_from_slice(&next[..length]);
+    }
+    String::from_utf8(shown).expect("it is text")
+}
+
+#[test]
+fn a_terminal_has_colors_unless_they_are_not_wanted() {
+    let words = ["judge", "records/clocks.gcr"];
+    let always = [&words[..], &["--color", "always"]].concat();
+    assert!(on_terminal(&words, "").starts_with("records/clocks.gcr: ^[[32mmet^[[m\r\n"));
+    assert!(on_terminal(&words, "1").starts_with("records/clocks.gcr: met\r\n"));
+    assert!(on_terminal(&always, "1").starts_with("records/clocks.gcr: ^[[32mmet^[[m\r\n"));
+    for form in ["--json", "--csv", "--color=never"] {
+        assert!(!on_terminal(&[&words[..], &[form]].concat(), "").contains("^["), "{form}");
+    }
+}
+
+#[test]
+fn colors_are_there_where_they_are_asked_for() {
+    let words = ["judge", "records/clocks.gcr", "records/stale-read.gcr", "README.md", "no-such.gcr"];
+    let plain = gcr(&words);
+    assert!(!plain.out.contains(&0x1b));
+    let colored = gcr(&[&words[..], &["--color", "always"]].concat());
+    let due =
+        ["\x1b[32mmet\x1b[m", "\x1b[31mbroken\x1b[m: ", "\x1b[33mrefused 3 0\x1b[m: ", "\x1b[35mnot read\x1b[m: "];
+    for (line, due) in colored.lines().iter().zip(due) {
+        assert!(line.contains(due), "{line:?}");
+    }
+    let uncolored = ["32", "31", "33", "35", ""]
+        .iter()
+        .fold(colored.text().to_string(), |text, color| text.replace(&format!("\x1b[{color}m"), ""));
+    assert_eq!((uncolored.as_str(), colored.status), (plain.text(), plain.status));
+    for other in [&["--color", "never"][..], &["--color=auto"]] {
+        assert_eq!(gcr(&[&words[..], other].concat()), plain);
+    }
+    for form in ["--json", "--csv"] {
+        assert!(!gcr(&[&words[..], &["--color", "always", form]].concat()).out.contains(&0x1b));
+    }
+    let message = "--color is auto, always or never, and red is none of them (gcr judge --help tells more)";
+    gcr(&["judge", "--color", "red"]).ended(4, message);
 }
 
 #[test]
@@ -304,8 +397,10 @@ fn names_cannot_break_lines() {
     let odd = folder.path().join(std::ffi::OsStr::from_bytes(b"a\nb: met\x1b[2J\xff.gcr"));
     fs::write(&odd, record).unwrap();
     folder.file("quote\",.gcr", record);
+    let odd = folder.path().join(std::ffi::OsStr::from_bytes(b"a\nb: met\x1b[2J\xff.txt"));
+    fs::write(&odd, record).unwrap();
     let ran = gcr(&["judge".as_ref(), folder.path().as_os_str()]);
-    assert_eq!(ran.lines().len(), 3);
+    assert_eq!(ran.lines().len(), 2 + 3); // of which the summary's name the same files again
     assert!(!ran.out.contains(&0x1b));
     let ran = gcr(&["judge".as_ref(), "--json".as_ref(), folder.path().as_os_str()]);
     assert!(Json::read(ran.lines()[1]).at("record").text().ends_with("quote\",.gcr"));
@@ -364,8 +459,11 @@ fn a_season_goes_through_under_a_limit_of_memory() {
     let ran = shell(&format!("ulimit -v 95000; exec gcr judge --quiet '{}'", folder.path().display()));
     let [met, broken, refused] = due;
     let told = format!("10000 records against Causal: {met} met, {broken} broken, {refused} refused, 0 not read");
-    assert_eq!(ran.lines().last(), Some(&told.as_str()), "{}", ran.err);
-    assert_eq!(ran.lines().len(), 1 + broken + refused);
+    assert_eq!(ran.lines()[broken + refused], told, "{}", ran.err);
+    let doubles = (met + broken) / 100 * 99;
+    let told = format!("{doubles} records have the bytes of another: ");
+    assert!(ran.lines()[broken + refused + 1].starts_with(&told), "{told}");
+    assert_eq!(ran.lines().len(), broken + refused + 2);
 }
 
 #[test]

@@ -1,7 +1,7 @@
 //! What is asked of a record.
 
-use super::{Broken, Finding};
-use gcr::{broken_by, Model, Predicate, Refusal};
+use super::{Break, Broken, Finding, Verdicts};
+use gcr::{Model, Predicate, Refusal};
 
 /// What a picture is to show beside what the record says.
 #[derive(Clone, Copy, Debug, PartialEq, Eq)]
@@ -27,10 +27,14 @@ pub enum Breaks {
 
 impl Asked {
     pub(crate) fn judge(self, record: &[u8]) -> Result<Option<Finding>, Refusal> {
+        let told = |found: Option<Break>| found.map(|found| Broken::of(found, record)).transpose();
         Ok(match self {
             Asked::Nothing => None,
-            Asked::Predicate(asked) => Some(Finding::of_predicate(asked, Broken::of(asked, record)?)),
-            Asked::Model(asked) => Some(Finding::of_model(asked, of_model(asked, record)?.into_iter().next())),
+            Asked::Predicate(asked) => Some(Finding::of_predicate(asked, told(Break::of(asked, record)?)?)),
+            Asked::Model(asked) => {
+                let first = Verdicts::of(record).of_model(asked)?.into_iter().next();
+                Some(Finding::of_model(asked, told(first)?))
+            }
         })
     }
 }
@@ -39,33 +43,29 @@ impl Breaks {
     /// What there is to tell: of all predicates nothing where all are met.
     pub(crate) fn judge(&self, record: &[u8]) -> Result<Vec<Finding>, Refusal> {
         match self {
-            Breaks::Of(asked) => {
-                let finding = |&asked| Ok(Finding::of_predicate(asked, Broken::of(asked, record)?));
-                asked.iter().map(finding).collect()
-            }
-            Breaks::OfModel(asked) => {
-                let broken = of_model(*asked, record)?;
-                let met = broken.is_empty().then(|| Finding::of_model(*asked, None));
-                let findings = broken.into_iter().map(|broken| Finding::of_model(*asked, Some(broken)));
-                Ok(findings.chain(met).collect())
-            }
+            Breaks::Of(asked) => of_predicates(asked, record),
+            Breaks::OfModel(asked) => of_model(*asked, record),
             Breaks::All => {
-                let finding = |broken: Broken| Finding::of_predicate(broken.predicate, Some(broken));
-                broken(Predicate::ALL, record).map(|broken| broken.map(finding)).collect()
+                let mut all = of_predicates(Predicate::ALL, record)?;
+                all.retain(|finding| finding.broken.is_some());
+                Ok(all)
             }
         }
     }
 }
 
-/// The breaks of a model's predicates, in its order; none where the model is met.
-fn of_model(model: Model, record: &[u8]) -> Result<Vec<Broken>, Refusal> {
-    match broken_by(model, record)? {
-        None => Ok(Vec::new()),
-        Some(_) => broken(model.predicates(), record).collect(),
-    }
+fn of_predicates(asked: &[Predicate], record: &[u8]) -> Result<Vec<Finding>, Refusal> {
+    let mut verdicts = Verdicts::of(record);
+    let finding = |&asked| {
+        let broken = verdicts.of_predicate(asked)?.map(|found| Broken::of(found, record)).transpose()?;
+        Ok(Finding::of_predicate(asked, broken))
+    };
+    asked.iter().map(finding).collect()
 }
 
-/// The breaks of those that are broken.
-fn broken<'a>(predicates: &'a [Predicate], record: &'a [u8]) -> impl Iterator<Item = Result<Broken, Refusal>> + 'a {
-    predicates.iter().filter_map(|&predicate| Broken::of(predicate, record).transpose())
+fn of_model(asked: Model, record: &[u8]) -> Result<Vec<Finding>, Refusal> {
+    let breaks = Verdicts::of(record).of_model(asked)?;
+    let met = breaks.is_empty().then(|| Ok(Finding::of_model(asked, None)));
+    let finding = |found: Break| Ok(Finding::of_model(asked, Some(Broken::of(found, record)?)));
+    breaks.into_iter().map(finding).chain(met).collect()
 }

@@ -1,20 +1,23 @@
 //! A break, as the library finds it and tells of it.
 
-use gcr::{explain, judge_predicate, Predicate, Refusal, Verdict};
+use super::Break;
+use gcr::{explain, Predicate, Refusal};
 
 #[derive(Clone, Debug, PartialEq, Eq)]
 pub struct Broken {
     pub predicate: Predicate,
-    /// The pair's first event, and after it what the library tells, the pair's second event last.
+    /// The pair's first event, and after it what the library tells, the pair's second event last. A read that should
+    /// hold what its object starts with is both, and stands there once.
     pub way: Vec<usize>,
 }
 
 impl Broken {
-    /// None where the predicate is met.
-    pub fn of(predicate: Predicate, record: &[u8]) -> Result<Option<Broken>, Refusal> {
-        let Verdict::Broken { a, .. } = judge_predicate(predicate, record)? else { return Ok(None) };
-        let told = explain(predicate, record)?;
-        Ok(Some(Broken { predicate, way: std::iter::once(a).chain(told).map(usize::from).collect() }))
+    /// With what the library tells of a break that it found in this record.
+    pub fn of(found: Break, record: &[u8]) -> Result<Broken, Refusal> {
+        let told = explain(found.by, record)?;
+        let is_of_opening = found.by == Predicate::RVal && found.a == found.b;
+        let first = Some(found.a).filter(|_| !is_of_opening);
+        Ok(Broken { predicate: found.by, way: first.into_iter().chain(told).map(usize::from).collect() })
     }
 
     pub fn pair(&self) -> (usize, usize) {

@@ -2,9 +2,11 @@
 
 mod asked;
 mod broken;
+mod verdicts;
 
 pub use asked::{Asked, Breaks};
 pub use broken::{events, Broken};
+pub use verdicts::{Break, Verdicts};
 
 use gcr::{Model, Predicate};
 

@@ -29,25 +29,17 @@ struct Wrong {
 }
 
 impl Way<'_> {
-    /// A line for each event. A read that should hold what its object starts with is both events of its pair, and is told
-    /// once.
+    /// A line for each event.
     pub fn lines(&self) -> impl Iterator<Item = String> + '_ {
-        let first = usize::from(self.is_of_opening());
-        (first..self.broken.way.len()).map(|at| format!("event {}: {}", self.broken.way[at], self.told(at)))
-    }
-
-    /// The value of a read that sees no write is due of no other event.
-    fn is_of_opening(&self) -> bool {
-        let (a, b) = self.broken.pair();
-        Due::by(self.broken.predicate) == Due::Value && a == b
+        (0..self.broken.way.len()).map(|at| format!("event {}: {}", self.broken.way[at], self.told(at)))
     }
 
     fn told(&self, at: usize) -> String {
         let happened = happened(&self.record.events[self.broken.way[at]]);
-        let Some(step) = at.checked_sub(1) else { return happened };
-        if self.is_of_opening() {
+        if self.broken.way.len() == 1 {
             return format!("{happened}; it {}", self.due_held());
         }
+        let Some(step) = at.checked_sub(1) else { return happened };
         let wrong = (at + 1 == self.broken.way.len()).then(|| self.wrong());
         match self.lead(step) {
             Lead::Along(from) => {

@@ -45,3 +45,16 @@ pub fn questions(words: &Words) -> Result<Vec<Question>, Failure> {
     }
     Ok(questions)
 }
+
+/// `Causal`, or `RVal, SingleOrder`; of many how many.
+pub fn names(questions: &[Question]) -> String {
+    let is_model = |question: &&Question| matches!(question, Question::Model(_));
+    let models = questions.iter().filter(is_model).count();
+    let counted = |count: usize, what: &str| format!("{count} {what}{}", if count == 1 { "" } else { "s" });
+    match questions.len() {
+        0..4 => questions.iter().map(Question::name).collect::<Vec<_>>().join(", "),
+        all if models == 0 => counted(all, "predicate"),
+        all if models == all => counted(all, "model"),
+        all => format!("{} and {}", counted(models, "model"), counted(all - models, "predicate")),
+    }
+}

@@ -1,12 +1,13 @@
 //! Rows for each record: one for each model or predicate that it was judged by, or one that says why it was not.
 
-use super::asked::Question;
-use super::found::{Break, Found, Judged, Outcome};
+use super::found::{Found, Judged, Outcome};
+use super::verdicts::Verdict;
+use diagram::Break;
 
 pub const HEAD: &str = "record,status,events,kind,number,name,verdict,by_number,by_name,a,b,refusal,place,message\n";
 
 pub fn rows(found: &Found) -> String {
-    let (record, status) = (cell(&found.record), found.status());
+    let (record, status) = (cell(found.record), found.status());
     let row = |rest: String| format!("{record},{status},{rest}\n");
     match &found.outcome {
         Outcome::Judged(Judged { events, verdicts }) => {
@@ -20,7 +21,7 @@ pub fn rows(found: &Found) -> String {
     }
 }
 
-fn verdict((question, broken): &(Question, Option<Break>)) -> String {
+fn verdict(Verdict { question, broken, .. }: &Verdict) -> String {
     let asked = format!("{},{},{}", question.kind(), question.number(), question.name());
     match broken {
         None => format!("{asked},met,,,,,,,"),

@@ -2,37 +2,49 @@
 
 use super::found::Found;
 use super::{csv, json, lines};
-use crate::ending::Failure;
+use crate::color::Colors;
+use crate::records::Layout;
 use crate::words::Words;
 
 #[derive(Clone, Copy, Debug, PartialEq, Eq)]
 pub enum Form {
-    Lines,
+    Lines(Colors),
     Json,
     Csv,
 }
 
 impl Form {
-    pub fn asked(words: &Words) -> Result<Form, Failure> {
-        words.at_most_one_of(&["--json", "--csv"])?;
-        Ok(match (words.has("--json"), words.has("--csv")) {
+    pub fn asked(words: &Words) -> Form {
+        match (words.has("--json"), words.has("--csv")) {
             (true, _) => Form::Json,
             (_, true) => Form::Csv,
-            _ => Form::Lines,
-        })
+            _ => Form::Lines(Colors::asked(words)),
+        }
+    }
+
+    pub fn layout(self) -> Layout {
+        match self {
+            Form::Lines(_) => Layout::Lines,
+            Form::Json | Form::Csv => Layout::Data,
+        }
     }
 
     /// Before all records.
     pub fn head(self) -> &'static str {
         match self {
             Form::Csv => csv::HEAD,
-            Form::Lines | Form::Json => "",
+            Form::Lines(_) | Form::Json => "",
         }
+    }
+
+    /// Whether the events of breaks are written.
+    pub fn has_events(self) -> bool {
+        self == Form::Json
     }
 
     pub fn of(self, found: &Found) -> String {
         match self {
-            Form::Lines => lines::line(found),
+            Form::Lines(colors) => lines::line(found, colors),
             Form::Json => json::line(found),
             Form::Csv => csv::rows(found),
         }

@@ -1,7 +1,9 @@
 //! An object for each record, a line each. Every object has the same keys.
 
-use super::asked::Question;
-use super::found::{Break, Found, Outcome};
+use super::found::{Found, Outcome};
+use super::verdicts::Verdict;
+use diagram::Break;
+use gcr::{Event, Kind};
 
 pub fn line(found: &Found) -> String {
     let (mut events, mut verdicts, mut refusal, mut error) = (null(), String::new(), null(), null());
@@ -16,12 +18,12 @@ pub fn line(found: &Found) -> String {
         }
         Outcome::Unread(why) => error = string(why),
     }
-    let (record, status) = (string(&found.record), string(found.status()));
+    let (record, status) = (string(found.record), string(found.status()));
     let found = format!(r#""record":{record},"status":{status},"events":{events},"verdicts":[{verdicts}]"#);
     format!("{{{found},\"refusal\":{refusal},\"error\":{error}}}\n")
 }
 
-fn verdict((question, broken): &(Question, Option<Break>)) -> String {
+fn verdict(Verdict { question, broken, way }: &Verdict) -> String {
     let (kind, name) = (string(question.kind()), string(question.name()));
     let (status, by, a, b) = match broken {
         None => ("met", null(), null(), null()),
@@ -31,7 +33,24 @@ fn verdict((question, broken): &(Question, Option<Break>)) -> String {
         }
     };
     let number = question.number();
-    format!(r#"{{"kind":{kind},"number":{number},"name":{name},"status":"{status}","by":{by},"a":{a},"b":{b}}}"#)
+    let found =
+        format!(r#""kind":{kind},"number":{number},"name":{name},"status":"{status}","by":{by},"a":{a},"b":{b}"#);
+    let (event_a, event_b) = (way.first().map_or_else(null, event), way.last().map_or_else(null, event));
+    let way: Vec<String> = way.iter().map(event).collect();
+    format!(r#"{{{found},"event_a":{event_a},"event_b":{event_b},"way":[{}]}}"#, way.join(","))
+}
+
+/// What the record says of it, by its number.
+fn event((number, event): &(u16, Event)) -> String {
+    let kind = match event.kind {
+        Kind::Read => "read",
+        Kind::Write => "write",
+    };
+    let (site, object, start) = (event.site, event.object, event.start);
+    let value = event.value.map_or_else(null, |value| value.to_string());
+    let end = event.end.map_or_else(null, |end| end.to_string());
+    let who = format!(r#""event":{number},"site":{site},"object":{object},"kind":"{kind}""#);
+    format!(r#"{{{who},"value":{value},"start":{start},"return":{end}}}"#)
 }
 
 fn null() -> String {

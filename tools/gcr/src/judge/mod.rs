@@ -1,27 +1,25 @@
 //! Judges records: a line, an object or rows for each, in the order in which they were named.
 
 mod asked;
-mod cores;
 mod csv;
 mod form;
 mod found;
 mod json;
+mod judging;
 mod lines;
-mod progress;
-mod records;
-mod summary;
+mod verdicts;
 
+pub use asked::Question;
+pub use form::Form;
+pub use judging::Judging;
+pub use verdicts::Breaks;
+
+use crate::color;
 use crate::commands::Command;
 use crate::ending::{Ending, Failure};
 use crate::options::{Kind, Operands, Opt};
-use crate::output::Output;
+use crate::records;
 use crate::words::Words;
-use asked::Question;
-use form::Form;
-use found::Found;
-use progress::Progress;
-use records::Records;
-use summary::Summary;
 
 pub const COMMAND: Command = Command {
     name: "judge",
@@ -33,9 +31,13 @@ pub const COMMAND: Command = Command {
             .repeated(),
         Opt::with("--predicate", "P", Kind::Predicate, "a predicate by name or number").repeated(),
         Opt::flag("--all", "all thirteen predicates"),
-        Opt::flag("--json", "an object for each record, a line each"),
+        Opt::flag("--json", "an object for each record, a line each, with the events of its breaks"),
         Opt::flag("--csv", "rows for each record"),
         Opt::flag("--quiet", "nothing of records that are met").or("-q"),
+        color::OPTION,
+        records::RECURSIVE,
+        records::EXPECT,
+        records::STRICT,
     ],
     alternatives: &[&["--json", "--csv"]],
     notes: NOTES,
@@ -61,39 +63,6 @@ records/stale-read.gcr: broken: Causal by CausalVisibility at events 0 and 2
 
 fn run(words: &Words) -> Result<Ending, Failure> {
     let questions = asked::questions(words)?;
-    let form = Form::asked(words)?;
-    let Records { all, passed_over } = Records::named(words)?;
     let is_quiet = words.has("--quiet");
-    let mut output = Output::standard()?;
-    let mut progress = Progress::of(all.len());
-    let mut summary = Summary::default();
-    output.put(form.head().as_bytes())?;
-    let take = |found: Found| {
-        summary.count(&found);
-        if !(is_quiet && found.ending() == Ending::Well) {
-            progress.clear();
-            output.put(form.of(&found).as_bytes())?;
-        }
-        progress.step(&mut output)
-    };
-    cores::in_order(all.len(), |number| Found::of(&all[number], &questions), take)?;
-    progress.clear();
-    if form == Form::Lines {
-        output.put(summary.line(&names(&questions), passed_over).as_bytes())?;
-    }
-    output.finish()?;
-    Ok(summary.ending)
-}
-
-/// `Causal`, or `RVal, SingleOrder`; of many how many.
-fn names(questions: &[Question]) -> String {
-    let is_model = |question: &&Question| matches!(question, Question::Model(_));
-    let models = questions.iter().filter(is_model).count();
-    let counted = |count: usize, what: &str| format!("{count} {what}{}", if count == 1 { "" } else { "s" });
-    match questions.len() {
-        0..4 => questions.iter().map(Question::name).collect::<Vec<_>>().join(", "),
-        all if models == 0 => counted(all, "predicate"),
-        all if models == all => counted(all, "model"),
-        all => format!("{} and {}", counted(models, "model"), counted(all - models, "predicate")),
-    }
+    records::told(words, &Judging { questions, breaks: Breaks::First, form: Form::asked(words), is_quiet })
 }

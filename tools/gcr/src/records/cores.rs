@@ -70,7 +70,7 @@ mod tests {
     #[test]
     fn things_are_taken_in_their_order() {
         let slow = |number: usize| {
-            thread::sleep(std::time::Duration::from_micros(if number % 7 == 0 { 500 } else { 0 }));
+            thread::sleep(std::time::Duration::from_micros(if number.is_multiple_of(7) { 500 } else { 0 }));
             number
         };
         let mut taken = Vec::new();
