@@ -29,8 +29,8 @@ impl Ending {
             Ending::Well => "all met, or done",
             Ending::Broken => "something is broken",
             Ending::Refused => "something was refused",
-            Ending::Failed => "a file could not be read or output not be written",
-            Ending::Unclear => "the command line was not understood",
+            Ending::Failed => "a file could not be read, output not be written, or records are not as expected",
+            Ending::Unclear => "the command line was not understood, and nothing was done",
         }
     }
 }
