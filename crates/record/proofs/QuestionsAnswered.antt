@@ -178,7 +178,7 @@ module _ (L : Layout) (s : List ℕ) where
   passed-right q = answer-of L s Passed q
 
 -- a visible set holds no event past its bytes
-vis-within : (L : Layout) (s : List ℕ) (a b : ℕ) → vis (historyOf L s) a b ≡ true → a < 64 * L .row
+pub vis-within : (L : Layout) (s : List ℕ) (a b : ℕ) → vis (historyOf L s) a b ≡ true → a < 64 * L .row
 unfolding vis historyOf
 vis-within L s a b t = ltb-true a (64 * L .row) (and-left (ltb a (64 * L .row)) (hasByte s (slotAt L b + 32) a) t)
 
