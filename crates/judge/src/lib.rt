@@ -17,6 +17,7 @@ ghost use Rattle.record.specs.Words.{visibleWords, workAfter};
 ghost use Rattle.consistency.specs.Models.{listOf, firstBroken};
 ghost use Rattle.judge.specs.Judgments.{refusedNumber, predicateJudgment, modelJudgment, packedJudgments, judgedList};
 ghost use Rattle.judge.specs.Means.{Exact};
+ghost use Rattle.judge.specs.Hosts.{ExactThirteen};
 ghost use Rattle.judge.specs.Clocks.{ByClocks};
 ghost use Rattle.judge.specs.Covers.{TellsOthers};
 ghost use Rattle.judge.specs.Lists.{upToZero, Numbers};
@@ -106,6 +107,7 @@ pub fn judge_model(number: usize, s: &[u8], work: &mut [u64]) -> Judgment
 pub fn judge_all(s: &[u8], work: &mut [u64]) -> AllJudged
     ensures { λ r. ⌜ r .reading ≡ reading (editionOf (now (s .entry))) (length (now (work .entry))) (now (s .entry)) ⌝ }
     ensures { λ r. ⌜ r .judgments ≡ packedJudgments (editionOf (now (s .entry))) (length (now (work .entry))) 13 (now (s .entry)) ⌝ }
+    ensures { λ r. ⌜ ExactThirteen (length (now (work .entry))) (now (s .entry)) (r .judgments) ⌝ }
     ensures { λ r. ⌜ now (work .exit) ≡ workAfter (editionOf (now (s .entry))) (numberOf (r .reading)) (now (s .entry)) (now (work .entry)) ⌝ }
 {
     let reading = reader::read(s, work);

@@ -16,6 +16,7 @@ use Rattle.record.proofs.QuestionsAnswered.{place-small}
 use Rattle.judge.specs.declared.Judgment.the-variants.{Refused}
 use Rattle.judge.proofs.RecordLaws.{Told, reading-passed, passed-long, count-small, blocks-long, work-visible, words-told}
 use Rattle.judge.proofs.JudgmentLaws.{packed-same, judgments-refused, judgments-judged, fitting-small}
+use Rattle.judge.proofs.HostsExact.{thirteen-hosts}
 use Rattle.judge.proofs.judge_all.Statement.{statement}
 use Rattle.judge.proofs.judge_all.Tie as tie
 
@@ -90,14 +91,12 @@ returns : tie.Need-returns
 returns c =
     let t = c .before in
     let n = t .before in
-    let a = reader n .read in (
-      a .ensures .0,
-      (
-        ap (replicate 13) (c .pack .ensures)
-            ∙ judgments-refused (length (start n .args .work .now)) (bytes n) (a .result) (a .ensures .0) (λ z. t .if1 .taken (n .number .ensures ∙ z)) 13 (omega arith),
-        a .ensures .1,
-      ),
-    )
+    let a = reader n .read in
+    let w = length (start n .args .work .now) in
+    let q =
+    ap (replicate 13) (c .pack .ensures)
+    ∙ judgments-refused w (bytes n) (a .result) (a .ensures .0) (λ z. t .if1 .taken (n .number .ensures ∙ z)) 13 (omega arith) in
+    (a .ensures .0, (q, (thirteen-hosts w (bytes n) q, a .ensures .1)))
 
 count-requires : tie.Need-count-requires
 count-requires c κs = passed-long (bytes (c .before)) (passed c)
@@ -137,14 +136,12 @@ returns-2 c =
     let k = counted l in
     let e = k .before in
     let n = e .before in
-    let a = reader n .read in (
-      a .ensures .0,
-      (
-        c .verdicts .ensures ∙ sym (packed-same (historyOf (editionOf (bytes n)) (bytes n)) (under (termsFrom (terms t)) (historyFrom (k .count .result) 4 (words l) (sets n))) (told t .agree) 13)
-            ∙ judgments-judged (length (start n .args .work .now)) (bytes n) (a .result) (a .ensures .0) (none e) 13 (omega arith),
-        a .ensures .1,
-      ),
-    )
+    let a = reader n .read in
+    let w = length (start n .args .work .now) in
+    let q =
+    c .verdicts .ensures ∙ sym (packed-same (historyOf (editionOf (bytes n)) (bytes n)) (under (termsFrom (terms t)) (historyFrom (k .count .result) 4 (words l) (sets n))) (told t .agree) 13)
+    ∙ judgments-judged w (bytes n) (a .result) (a .ensures .0) (none e) 13 (omega arith) in
+    (a .ensures .0, (q, (thirteen-hosts w (bytes n) q, a .ensures .1)))
 
 pub judge-all-spec : {M : Type 1} → statement M
 judge-all-spec =

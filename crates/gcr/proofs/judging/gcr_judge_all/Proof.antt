@@ -9,8 +9,10 @@ use Rattle.record.specs.Questions.{numberOf, placeOf, reading}
 use Rattle.record.specs.declared.Reading.{Reading}
 use Rattle.record.proofs.QuestionsAnswered.{place-small, packed-passed, packed-refused}
 use Rattle.judge.specs.Judgments.{packedJudgment, packedJudgments, laidOver}
+use Rattle.judge.specs.Hosts.{ExactThirteen}
 use Rattle.judge.specs.declared.Judgment.the-variants.{Refused}
 use Rattle.judge.proofs.JudgmentLaws.{fitting-small}
+use Rattle.judge.proofs.HostsExact.{laid-hosts}
 use Rattle.gcr.proofs.judging.gcr_judge_all.Statement.{statement}
 use Rattle.gcr.proofs.judging.gcr_judge_all.Tie as tie
 
@@ -26,6 +28,9 @@ same c = c .before .before .before .before .before .before .before .before .judg
 
 put : (c : tie.After-number) → c .before .before .before .put-over .last .1 .0 ≡ laidOver (packedJudgments (editionOf (start c .args .s .now)) 1024 13 (start c .args .s .now)) (start c .args .out .now)
 put c = c .before .before .before .put-over .ensures ∙ ap (λ (v : List ℕ). laidOver v (start c .args .out .now)) (c .before .before .before .before .before .before .before .before .judge-all .ensures .1 .0)
+
+exact : (c : tie.After-number) → ExactThirteen 1024 (start c .args .s .now) (c .before .before .before .put-over .last .1 .0)
+exact c = laid-hosts 1024 (start c .args .s .now) (start c .args .out .now) (put c)
 
 -- src/judging.rt:45:35
 slice-aggregate-judge-all : tie.Need-slice-aggregate-judge-all
@@ -55,7 +60,7 @@ same-length c = search needs
 returns : tie.Need-returns
 returns c =
     let n = c .before in
-    (sym (packed-passed (read (start n)) (sym (ap numberOf (same n)) ∙ sym (n .number .ensures) ∙ c .if1 .taken)), put n)
+    (sym (packed-passed (read (start n)) (sym (ap numberOf (same n)) ∙ sym (n .number .ensures) ∙ c .if1 .taken)), (put n, exact n))
 
 -- src/judging.rt:52:5
 pack-requires : tie.Need-pack-requires
@@ -73,7 +78,7 @@ returns-2 c =
     let e = c .before in
     let n = e .before in
     let refused : numberOf (read (start n)) ≢ 0 = λ z. e .if1 .left (n .number .ensures ∙ ap numberOf (same n) ∙ z) in
-    (c .pack .ensures ∙ ap (λ (r : Reading). packedJudgment (Refused r)) (same n) ∙ sym (packed-refused (read (start n)) refused), put n)
+    (c .pack .ensures ∙ ap (λ (r : Reading). packedJudgment (Refused r)) (same n) ∙ sym (packed-refused (read (start n)) refused), (put n, exact n))
 
 pub gcr-judge-all-spec : {M : Type 1} → statement M
 gcr-judge-all-spec =

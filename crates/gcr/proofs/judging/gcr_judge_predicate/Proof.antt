@@ -4,6 +4,7 @@ use borrow.Author.Needs.{needs}
 use Rattle.record.specs.Layout.{editionOf}
 use Rattle.judge.specs.Judgments.{predicateJudgment, packedJudgment}
 use Rattle.judge.proofs.JudgmentLaws.{predicate-fits, fitting-small}
+use Rattle.judge.proofs.HostsExact.{predicate-host}
 use Rattle.gcr.proofs.judging.gcr_judge_predicate.Statement.{statement}
 use Rattle.gcr.proofs.judging.gcr_judge_predicate.Tie as tie
 
@@ -19,7 +20,10 @@ pack-requires c κs =
     rw (c .before .judge-predicate .ensures .0) (fitting-small (predicateJudgment (editionOf (a .s .now)) 1024 (a .predicate) (a .s .now)) (predicate-fits (a .s .now) 1024 (a .predicate)))
 
 returns : tie.Need-returns
-returns c = c .pack .ensures ∙ ap packedJudgment (c .before .before .judge-predicate .ensures .0)
+returns c =
+    let q = c .pack .ensures ∙ ap packedJudgment (c .before .before .judge-predicate .ensures .0) in
+    let a = c .before .before .before .before .before .args in
+    (q, predicate-host 1024 (a .s .now) (a .predicate) q)
 
 pub gcr-judge-predicate-spec : {M : Type 1} → statement M
 gcr-judge-predicate-spec =
