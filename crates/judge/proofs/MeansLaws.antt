@@ -1,22 +1,19 @@
 -- The second demand: each answer of a judging call is given exactly if what it says of the record is so, for every record, number, list and length of
 -- work slice. Assumes nothing.
 use mathlib.Core.Path.{_≡_, refl, sym, ap, _∙_, subst}
-use mathlib.Core.Logic.{_↔_}
 use mathlib.Core.Bool.{Bool, true, false}
 use mathlib.Core.List.{List, [], _∷_}
 use Prim.Native.Nat.{ℕ, _≤_}
 use borrow.Author.Tests.{le-leb, lt-leb, leb-true, leb-false, eqb-true, eqb-false, ne-eqb}
 use lib.Dec.{leb, eqb}
-use Rattle.rows.specs.Relation.{Rel, Steps}
-use Rattle.rows.proofs.ReachLaws.{reaches-sound, reaches-complete}
 use Rattle.record.specs.Layout.{Layout, countIn, workWords}
 use Rattle.record.specs.History.{History, historyOf, vis}
-use Rattle.record.specs.Questions.{numberOf, onRing, questions}
+use Rattle.record.specs.Questions.{numberOf, questions}
 use Rattle.record.specs.Answers.{Passes}
 use Rattle.record.specs.declared.Reading.{Reading}
 use Rattle.record.specs.declared.Reading.the-variants.{Passed, ShortWork}
 use Rattle.record.proofs.PositionLaws.{positions-distinct}
-use Rattle.record.proofs.QuestionsAnswered.{number-passed, answer-of, answer-only}
+use Rattle.record.proofs.QuestionsAnswered.{number-passed, answer-of, answer-only, ring-iff-steps}
 use Rattle.consistency.specs.Models.{listOf, firstBroken}
 use Rattle.consistency.specs.Holds.{DistinctPositions}
 use Rattle.consistency.specs.declared.Outcome.{Outcome}
@@ -33,10 +30,6 @@ use Rattle.judge.specs.declared.Judgment.the-variants.{Judged, NoSuchNum
 right-distinct : (L : Layout) (s : List ℕ) → Passes L s → DistinctPositions (historyOf L s)
 unfolding historyOf
 right-distinct L s r = positions-distinct (historyOf L s) (r .bytes .positions)
-
-ring-iff-steps : (n : ℕ) (v : Rel) (e : ℕ) → (onRing n v e ≡ true) ↔ Steps n v e e
-unfolding onRing
-ring-iff-steps n v e = (reaches-sound n v e e, reaches-complete n v)
 
 module _ (L : Layout) (words number : ℕ) (ps s : List ℕ) where
   abbrev h : History

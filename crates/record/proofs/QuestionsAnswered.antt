@@ -1,6 +1,7 @@
 -- What each answer to questions 3 to 10 says of a record, and that no other record gets it: the first question that fails, at the lowest place.
 -- A ring that is named is one, and a record that passes has none. Assumes nothing.
 use mathlib.Core.Path.{_≡_, refl, sym, ap, _∙_, subst}
+use mathlib.Core.Logic.{_↔_}
 use mathlib.Core.Bool.{true, false, not}
 use mathlib.Core.List.{List, _++_}
 use Prim.Native.Nat.{ℕ, _+_, _*_, _<_, _≤_}
@@ -139,6 +140,11 @@ module _ (L : Layout) (s : List ℕ) where
   answer-of r q = subst (Tells L s) q answered
 
 -- ---- rings
+
+-- an event is on a ring exactly if one or more steps lead from it to itself
+pub ring-iff-steps : (n : ℕ) (v : Rel) (e : ℕ) → (onRing n v e ≡ true) ↔ Steps n v e e
+unfolding onRing
+ring-iff-steps n v e = (reaches-sound n v e e, reaches-complete n v)
 
 -- e is the lowest of n events from which one or more steps of v lead back to the event
 pub record LowestRing (n : ℕ) (v : Rel) (e : ℕ) : Type 0 where

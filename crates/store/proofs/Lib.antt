@@ -13,8 +13,8 @@ pub mod SameRecord
 pub mod Sizes
 pub mod StoreIsCausal
 pub mod CellsAgree
-pub mod EveryClose
 pub mod WholeList
+pub mod EveryClose
 pub mod EveryCopy
 pub mod EveryOpening
 pub mod CopiesTold

@@ -2,19 +2,20 @@
 use mathlib.Core.Path.{_≡_, sym, _∙_, subst}
 use mathlib.Core.List.{List}
 use Prim.Native.Nat.{ℕ, _≤_}
-use Rattle.record.specs.Layout.{Layout, gcr2, editionOf}
-use Rattle.record.specs.History.{History, historyOf, under}
+use Rattle.record.specs.Layout.{Layout, gcr2, editionOf, countIn}
+use Rattle.record.specs.History.{History, historyOf, under, vis}
 use Rattle.record.specs.Answers.{Passes}
 use Rattle.record.specs.Encode.{recordBytes}
 use Rattle.record.specs.WellFormed.{WellFormed}
 use Rattle.record.proofs.StoresLaws.{Bytes}
-use Rattle.record.proofs.QuestionsAnswered.{passed-right}
+use Rattle.record.proofs.QuestionsAnswered.{passed-right, ring-iff-steps}
 use Rattle.record.proofs.EncodedPasses.{gcr2-encoded, gcr2-back}
 use Rattle.consistency.specs.Holds.{Holds}
 use Rattle.consistency.specs.declared.Predicate.{Predicate}
 use Rattle.consistency.specs.declared.Predicate.the-variants.{RVal, CausalVisibility, CausalArbitration}
 use Rattle.consistency.proofs.MetIffHolds.{met-holds, holds-met}
 use Rattle.consistency.proofs.SameVerdict.{verdict-same}
+use Rattle.consistency.proofs.HappensBefore.{hb-iff-chain}
 use Rattle.store.specs.Store.{fresh}
 use Rattle.store.specs.Calls.{Call, callsOf}
 use Rattle.store.specs.Rules.{run}
@@ -54,12 +55,16 @@ module _ (n : ℕ) (least : 1 ≤ n) (most : n ≤ 8) (openings : List ℕ) (ope
 
   pub calls-demand : CausalRecord (storeRecord gcr2 n (termsOf openings) (run n (fresh (termsOf openings)) cs))
   unfolding storeRecord
-  calls-demand = record {
-    passes = record-passes n left calls-formed;
-    visibility = holds-in-record n left calls-formed CausalVisibility (store-causal-visibility n most (termsOf openings) cs);
-    arbitration = holds-in-record n left calls-formed CausalArbitration (store-causal-arbitration n most (termsOf openings) cs);
-    rVal = holds-in-record n left calls-formed RVal (store-r-val n most (termsOf openings) cs);
-  }
+  calls-demand =
+      let s : List ℕ = recordBytes gcr2 n left in
+      record {
+        passes = record-passes n left calls-formed;
+        visibility = holds-in-record n left calls-formed CausalVisibility (store-causal-visibility n most (termsOf openings) cs);
+        arbitration = holds-in-record n left calls-formed CausalArbitration (store-causal-arbitration n most (termsOf openings) cs);
+        rVal = holds-in-record n left calls-formed RVal (store-r-val n most (termsOf openings) cs);
+        chains = hb-iff-chain (historyOf (editionOf s) s);
+        rings = ring-iff-steps (countIn s) (vis (historyOf (editionOf s) s));
+      }
 
 -- ---- every script
 
