@@ -6,7 +6,7 @@ use lib.Dec.{eqb}
 use lib.ListN.{drop, take, replicate}
 use lib.Seq.{sets}
 use Rattle.rows.specs.Octets.{little}
-use Rattle.record.specs.Layout.{Layout, gcr1, gcr2, editionOf, same}
+use Rattle.record.specs.Layout.{Layout, gcr1, gcr2, editionOf, same, workWords}
 use Rattle.record.specs.History.{History, under}
 use Rattle.record.specs.Encode.{openingBytes, sealed, unsealed, recordBytes}
 use Rattle.record.specs.Terms.{Held, none, value, Terms}
@@ -54,8 +54,8 @@ unfoldable pub right : Case → Bool
 right (checked s a b) = eqb (little 2 s 508) a && eqb (little 2 s 510) b
 right (before h a b answer) = cond answer (rb h a b) (not (rb h a b))
 right (decided h p answer) = eqb (packedVerdict (verdict (numbered p) h)) answer
-right (ruled s p answer) = eqb (packedJudgment (predicateJudgment (editionOf s) 1024 p s)) answer
-right (thirteen s numbers) = same (packedJudgments (editionOf s) 1024 13 s) numbers
+right (ruled s p answer) = eqb (packedJudgment (predicateJudgment (editionOf s) workWords p s)) answer
+right (thirteen s numbers) = same (packedJudgments (editionOf s) workWords 13 s) numbers
 right (told h p events) = same (eventsTold (numbered p) h (verdict (numbered p) h)) events
 right (explainedBy s words entries p answer) = eqb (packedExplanation (explanation (editionOf s) words entries p s)) answer
 right (answeredFrom openings n script k answer) = same (take 8 (drop (8 * k) (answers n (fresh (termsOf openings)) (callsOf script)))) answer

@@ -5,7 +5,7 @@ use mathlib.Core.List.{List}
 use Prim.Native.Nat.{ℕ, _<_, _≤_}
 use native.Mathlib.Omega.{arith}
 use borrow.Author.Tests.{eq-eqb, ne-eqb, le-leb, lt-leb}
-use Rattle.record.specs.Layout.{editionOf}
+use Rattle.record.specs.Layout.{editionOf, workWords}
 use Rattle.record.specs.History.{History, historyOf, Agree}
 use Rattle.record.specs.Questions.{numberOf, questions}
 use Rattle.record.specs.Words.{workAfter}
@@ -18,33 +18,33 @@ use Rattle.consistency.specs.declared.Verdict.the-variants.{Met, Broken}
 use Rattle.consistency.proofs.SameVerdict.{verdict-same}
 use Rattle.consistency.proofs.ExplainedLaws.{explained-same}
 use Rattle.record.proofs.QuestionsAnswered.{number-most}
-use Rattle.explain.specs.Explanations.{refusalNumber, eventsTold, answerTo, explainedRecord, explanation, over, entriesAfter, workLeft}
+use Rattle.explain.specs.Explanations.{entriesAsked, refusalNumber, eventsTold, answerTo, explainedRecord, explanation, over, entriesAfter, workLeft}
 use Rattle.explain.specs.declared.Explanation.{Explanation}
 use Rattle.explain.specs.declared.Explanation.the-variants.{NoSuchNumber, FewEntries, Refused}
 
 -- ---- questions 1, 2 and 41
 
 module _ (words entries number : ℕ) (s : List ℕ) where
-  pub asked-short : words < 1024 → Refused ShortWork ≡ explanation (editionOf s) words entries number s
+  pub asked-short : words < workWords → Refused ShortWork ≡ explanation (editionOf s) words entries number s
   unfolding explanation
-  asked-short h = rw (lt-leb 1024 words h)
+  asked-short h = rw (lt-leb workWords words h)
 
-  pub asked-low : 1024 ≤ words → number < 1 → NoSuchNumber ≡ explanation (editionOf s) words entries number s
+  pub asked-low : workWords ≤ words → number < 1 → NoSuchNumber ≡ explanation (editionOf s) words entries number s
   unfolding explanation
-  asked-low h k = rw (le-leb 1024 words h, lt-leb 1 number k)
+  asked-low h k = rw (le-leb workWords words h, lt-leb 1 number k)
 
-  pub asked-high : 1024 ≤ words → 13 < number → NoSuchNumber ≡ explanation (editionOf s) words entries number s
+  pub asked-high : workWords ≤ words → 13 < number → NoSuchNumber ≡ explanation (editionOf s) words entries number s
   unfolding explanation
-  asked-high h k = let l : 1 ≤ number = omega arith in rw (le-leb 1024 words h, le-leb 1 number l, lt-leb number 13 k)
+  asked-high h k = let l : 1 ≤ number = omega arith in rw (le-leb workWords words h, le-leb 1 number l, lt-leb number 13 k)
 
-  module _ (h : 1024 ≤ words) (l : 1 ≤ number) (k : number ≤ 13) where
-    pub asked-few : entries < 256 → FewEntries ≡ explanation (editionOf s) words entries number s
+  module _ (h : workWords ≤ words) (l : 1 ≤ number) (k : number ≤ 13) where
+    pub asked-few : entries < entriesAsked → FewEntries ≡ explanation (editionOf s) words entries number s
     unfolding explanation
-    asked-few m = rw (le-leb 1024 words h, le-leb 1 number l, le-leb number 13 k, lt-leb 256 entries m)
+    asked-few m = rw (le-leb workWords words h, le-leb 1 number l, le-leb number 13 k, lt-leb entriesAsked entries m)
 
-    pub asked-record : 256 ≤ entries → explainedRecord (editionOf s) number s ≡ explanation (editionOf s) words entries number s
+    pub asked-record : entriesAsked ≤ entries → explainedRecord (editionOf s) number s ≡ explanation (editionOf s) words entries number s
     unfolding explanation
-    asked-record m = rw (le-leb 1024 words h, le-leb 1 number l, le-leb number 13 k, le-leb 256 entries m)
+    asked-record m = rw (le-leb workWords words h, le-leb 1 number l, le-leb number 13 k, le-leb entriesAsked entries m)
 
 -- ---- questions 3 to 10
 

@@ -15,6 +15,7 @@ use Rattle.rows.proofs.TableLaws.{row-room, row-front}
 use Rattle.rows.proofs.SliceLaws.{sliceAt, slice-row}
 use Rattle.rows.proofs.ReachLaws.{reaches-same, table-related, table-graph}
 use Rattle.rows.proofs.ShortestLaws.{chain-same}
+use Rattle.record.specs.Layout.{rowWords}
 use Rattle.record.specs.Terms.{Terms}
 use Rattle.record.specs.History.{History, under, vis}
 use Rattle.record.specs.Words.{isWriteIn, historyFrom}
@@ -67,53 +68,53 @@ none-told p h e out = rw e (refl, refl)
 -- ---- the tables
 
 -- row b of so's table, as code cuts it out
-pub so-row : (n b : ℕ) (t : List ℕ) → b < n → sliceAt t 4 (1 * n + b) ≡ rowAt (part n 4 1 t) 4 b
-so-row n b t h = slice-row t 4 (1 * n + b) ∙ sym (part-row n 4 1 t b h)
+pub so-row : (n b : ℕ) (t : List ℕ) → b < n → sliceAt t rowWords (1 * n + b) ≡ rowAt (part n rowWords 1 t) rowWords b
+so-row n b t h = slice-row t rowWords (1 * n + b) ∙ sym (part-row n rowWords 1 t b h)
 
-module _ (n : ℕ) (l v g t : List ℕ) (q : Terms) (given : Given n 4 l v) (ready : Prepared n 4 (under q (historyFrom n 4 l v)) t) where
+module _ (n : ℕ) (l v g t : List ℕ) (q : Terms) (given : Given n rowWords l v) (ready : Prepared n rowWords (under q (historyFrom n rowWords l v)) t) where
   abbrev h : History
-  h = under q (historyFrom n 4 l v)
+  h = under q (historyFrom n rowWords l v)
 
   abbrev sos : List ℕ
-  sos = part n 4 1 t
+  sos = part n rowWords 1 t
 
-  pub so-graph : Graph sos n 4
-  so-graph = table-graph n 4 (so h) sos (ready .timed .sos) (omega (arith, ready .size, length-take (n * 4) (drop (1 * (n * 4)) t), length-drop (1 * (n * 4)) t)) (given .rows .wide) (given .rows .fits)
+  pub so-graph : Graph sos n rowWords
+  so-graph = table-graph n rowWords (so h) sos (ready .timed .sos) (omega (arith, ready .size, length-take (n * rowWords) (drop (1 * (n * rowWords)) t), length-drop (1 * (n * rowWords)) t)) (given .rows .wide) (given .rows .fits)
 
-  seen : Table n 4 (vis h) v
+  seen : Table n rowWords (vis h) v
   unfolding vis historyFrom
-  seen = seen-table n 4 l v given
+  seen = seen-table n rowWords l v given
 
-  pub middle-told : (a b : ℕ) → a < n → b < n → Groups n 4 l g → lowest n (λ m. onlyFirst (rowAt sos 4 b) (rowAt g 4 256) m && related v 4 a m) ∷ b ∷ [] ≡ toldBy ByMiddle h a b
+  pub middle-told : (a b : ℕ) → a < n → b < n → Groups n rowWords l g → lowest n (λ m. onlyFirst (rowAt sos rowWords b) (rowAt g rowWords 256) m && related v rowWords a m) ∷ b ∷ [] ≡ toldBy ByMiddle h a b
   unfolding toldBy middleOf historyFrom
   middle-told a b left right w =
       ap (λ (m : ℕ). m ∷ b ∷ [])
-      (same-lowest n (λ m. onlyFirst (rowAt sos 4 b) (rowAt g 4 256) m && related v 4 a m) (λ m. vis h a m && (read h m && so h m b))
+      (same-lowest n (λ m. onlyFirst (rowAt sos rowWords b) (rowAt g rowWords 256) m && related v rowWords a m) (λ m. vis h a m && (read h m && so h m b))
       (λ m i.
-      ap₂ _&&_ (ap₂ (λ (x y : Bool). x && not y) (table-related n 4 (so h) sos (ready .timed .sos) m b i right) (row-has n (isWriteIn l) (rowAt g 4 256) (w .writes) m i)) (table-related n 4 (vis h) v seen a m left i)
+      ap₂ _&&_ (ap₂ (λ (x y : Bool). x && not y) (table-related n rowWords (so h) sos (ready .timed .sos) m b i right) (row-has n (isWriteIn l) (rowAt g rowWords 256) (w .writes) m i)) (table-related n rowWords (vis h) v seen a m left i)
       ∙ and-comm (so h m b && read h m) (vis h a m) ∙ ap (λ (x : Bool). vis h a m && x) (and-comm (so h m b) (read h m))))
 
 -- ---- the steps of hb, kept over the front of a slice before their table is closed
 
-module _ (n : ℕ) (l v t : List ℕ) (q : Terms) (given : Given n 4 l v) (sw : Sweeps n 4 (under q (historyFrom n 4 l v)) t) (size : 6 * (n * 4) ≤ length t)
-    (steps rest : List ℕ) (kept : steps ≡ part n 4 4 t ++ rest) where
+module _ (n : ℕ) (l v t : List ℕ) (q : Terms) (given : Given n rowWords l v) (sw : Sweeps n rowWords (under q (historyFrom n rowWords l v)) t) (size : 6 * (n * rowWords) ≤ length t)
+    (steps rest : List ℕ) (kept : steps ≡ part n rowWords 4 t ++ rest) where
   abbrev said : History
-  said = under q (historyFrom n 4 l v)
+  said = under q (historyFrom n rowWords l v)
 
-  part-long : length (part n 4 4 t) ≡ n * 4
-  part-long = omega (arith, size, length-take (n * 4) (drop (4 * (n * 4)) t), length-drop (4 * (n * 4)) t)
+  part-long : length (part n rowWords 4 t) ≡ n * rowWords
+  part-long = omega (arith, size, length-take (n * rowWords) (drop (4 * (n * rowWords)) t), length-drop (4 * (n * rowWords)) t)
 
-  steps-table : Table n 4 (step said) steps
-  steps-table b i = rw (kept, row-front (part n 4 4 t) rest 4 b (row-room n 4 b (length (part n 4 4 t)) i (omega (arith, part-long)))) (sw .steps b i)
+  steps-table : Table n rowWords (step said) steps
+  steps-table b i = rw (kept, row-front (part n rowWords 4 t) rest rowWords b (row-room n rowWords b (length (part n rowWords 4 t)) i (omega (arith, part-long)))) (sw .steps b i)
 
-  pub kept-graph : Graph steps n 4
-  kept-graph = table-graph n 4 (step said) steps steps-table (omega (arith, ap length kept, length-append (part n 4 4 t) rest, part-long)) (given .rows .wide) (given .rows .fits)
+  pub kept-graph : Graph steps n rowWords
+  kept-graph = table-graph n rowWords (step said) steps steps-table (omega (arith, ap length kept, length-append (part n rowWords 4 t) rest, part-long)) (given .rows .wide) (given .rows .fits)
 
   module _ (a b : ℕ) (left : a < n) (right : b < n) (has : Has ByChain said a b) where
-    pub chain-reached : reaches n (related steps 4) a b ≡ true
+    pub chain-reached : reaches n (related steps rowWords) a b ≡ true
     unfolding Has hb historyFrom
-    chain-reached = reaches-same n (related steps 4) (step said) (table-related n 4 (step said) steps steps-table) a b left right ∙ has
+    chain-reached = reaches-same n (related steps rowWords) (step said) (table-related n rowWords (step said) steps steps-table) a b left right ∙ has
 
-    pub chain-told : shortestChain n (related steps 4) a b ≡ toldBy ByChain said a b
+    pub chain-told : shortestChain n (related steps rowWords) a b ≡ toldBy ByChain said a b
     unfolding toldBy historyFrom
-    chain-told = chain-same n (related steps 4) (step said) (table-related n 4 (step said) steps steps-table) b right a left chain-reached
+    chain-told = chain-same n (related steps rowWords) (step said) (table-related n rowWords (step said) steps steps-table) b right a left chain-reached

@@ -4,7 +4,7 @@ use mathlib.Core.List.{List, [], _++_}
 use Prim.Native.Nat.{ℕ}
 use lib.Dec.{eqb, leb}
 use lib.ListN.{length, drop}
-use Rattle.record.specs.Layout.{Layout, workWords}
+use Rattle.record.specs.Layout.{Layout, mostEvents, workWords}
 use Rattle.record.specs.History.{History, historyOf}
 use Rattle.record.specs.Questions.{numberOf, placeOf, ask, questions}
 use Rattle.record.specs.Words.{workAfter}
@@ -18,9 +18,9 @@ use Rattle.judge.specs.Judgments.{isNumber, packedRefusal}
 use Rattle.explain.specs.declared.Explanation.{Explanation}
 use Rattle.explain.specs.declared.Explanation.the-variants.{Told, NoSuchNumber, FewEntries, NoBreak, Refused}
 
--- 41: the slice has an entry for every event that a record may have
-abbrev pub entriesAsked : Layout → ℕ
-entriesAsked L = L .events
+-- 41: the slice has an entry for every event that a record may have, of whatever edition
+abbrev pub entriesAsked : ℕ
+entriesAsked = mostEvents
 
 -- the events that are told of a verdict: none where the predicate is met
 abbrev pub eventsTold : Predicate → History → Verdict → List ℕ
@@ -41,9 +41,9 @@ explainedRecord L p s =
 -- questions 1, 2 and 41 before them, with a work slice of so many words, and a slice of so many entries
 unfoldable pub explanation : Layout → ℕ → ℕ → ℕ → List ℕ → Explanation
 explanation L words entries p s =
-    ask (leb (workWords L) words) (Refused ShortWork)
+    ask (leb workWords words) (Refused ShortWork)
     (ask (isNumber p) NoSuchNumber
-    (ask (leb (entriesAsked L) entries) FewEntries (explainedRecord L p s)))
+    (ask (leb entriesAsked entries) FewEntries (explainedRecord L p s)))
 
 -- a list written over the front of a slice; the entries beyond it stay
 abbrev pub over : List ℕ → List ℕ → List ℕ

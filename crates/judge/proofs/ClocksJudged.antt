@@ -104,7 +104,7 @@ module _ (s s′ : List ℕ) (c : OnOtherClocks s s′) where
 
   -- of a record that passes
   abbrev about : ℕ → ℕ → Outcome → Judgment
-  about words number o = pick (leb (workWords L) words) (pick (isNumber number) (Judged o) NoSuchNumber) (Refused ShortWork)
+  about words number o = pick (leb workWords words) (pick (isNumber number) (Judged o) NoSuchNumber) (Refused ShortWork)
 
   answer : (words number : ℕ) (ps : List ℕ) → judged (editionOf s) words number s ps ≡ about words number (firstBroken ps (historyOf (editionOf s) s))
   unfolding judged judgedList
@@ -125,7 +125,7 @@ module _ (s s′ : List ℕ) (c : OnOtherClocks s s′) where
   unfolding historyOf
   judged-larger words number ps more met =
       answer′ words number ps
-      ∙ go (leb (workWords L) words) (isNumber number) (firstBroken ps (historyOf L s)) (firstBroken ps (historyOf L s′))
+      ∙ go (leb workWords words) (isNumber number) (firstBroken ps (historyOf L s)) (firstBroken ps (historyOf L s′))
       (list-larger (historyOf L s) (historyOf L s′) (same-events L) (same-openings L)
       (subst (λ (K : Layout). differenceIn L s ≤ differenceIn K s′) (sym one-edition) more) ps)
       (sym (answer words number ps) ∙ met)

@@ -12,7 +12,7 @@ use lib.Seq.{take-all}
 use native.Mathlib.Numerals.{add-one}
 use Rattle.rows.proofs.Tests.{split}
 use Rattle.rows.proofs.FrontLaws.{replicate-more}
-use Rattle.record.specs.Layout.{editionOf, countIn}
+use Rattle.record.specs.Layout.{editionOf, countIn, mostEvents, workWords}
 use Rattle.record.specs.History.{History, historyOf, Agree}
 use Rattle.record.specs.Questions.{numberOf, placeOf, questions, reading}
 use Rattle.record.specs.declared.Reading.{Reading}
@@ -47,21 +47,21 @@ module _ (s ps : List ℕ) (r : Reading) (asked : r ≡ questions (editionOf s) 
 -- ---- questions 1 and 2 before them
 
 module _ (words number : ℕ) (s ps : List ℕ) where
-  pub judged-short : words < 1024 → Refused ShortWork ≡ judged (editionOf s) words number s ps
+  pub judged-short : words < workWords → Refused ShortWork ≡ judged (editionOf s) words number s ps
   unfolding judged
-  judged-short h = rw (lt-leb 1024 words h)
+  judged-short h = rw (lt-leb workWords words h)
 
-  pub judged-low : 1024 ≤ words → number < 1 → NoSuchNumber ≡ judged (editionOf s) words number s ps
+  pub judged-low : workWords ≤ words → number < 1 → NoSuchNumber ≡ judged (editionOf s) words number s ps
   unfolding judged
-  judged-low h k = rw (le-leb 1024 words h, lt-leb 1 number k)
+  judged-low h k = rw (le-leb workWords words h, lt-leb 1 number k)
 
-  pub judged-high : 1024 ≤ words → 13 < number → NoSuchNumber ≡ judged (editionOf s) words number s ps
+  pub judged-high : workWords ≤ words → 13 < number → NoSuchNumber ≡ judged (editionOf s) words number s ps
   unfolding judged
-  judged-high h k = let l : 1 ≤ number = omega arith in rw (le-leb 1024 words h, le-leb 1 number l, lt-leb number 13 k)
+  judged-high h k = let l : 1 ≤ number = omega arith in rw (le-leb workWords words h, le-leb 1 number l, lt-leb number 13 k)
 
-  pub judged-list : 1024 ≤ words → 1 ≤ number → number ≤ 13 → judgedList (editionOf s) s ps ≡ judged (editionOf s) words number s ps
+  pub judged-list : workWords ≤ words → 1 ≤ number → number ≤ 13 → judgedList (editionOf s) s ps ≡ judged (editionOf s) words number s ps
   unfolding judged
-  judged-list h l k = rw (le-leb 1024 words h, le-leb 1 number l, le-leb number 13 k)
+  judged-list h l k = rw (le-leb workWords words h, le-leb 1 number l, le-leb number 13 k)
 
 -- ---- the list of one predicate
 
@@ -96,16 +96,16 @@ module _ (words : ℕ) (s : List ℕ) (r : Reading) (asked : r ≡ reading (edit
   -- a record that is not read has the same judgment for every number
   predicate-refused : numberOf r ≢ 0 → (p : ℕ) → 1 ≤ p → p ≤ 13 → predicateJudgment (editionOf s) words p s ≡ Refused r
   unfolding predicateJudgment
-  predicate-refused f p i j = split (leb 1024 words) long short
+  predicate-refused f p i j = split (leb workWords words) long short
     where
-      short : leb 1024 words ≡ false → judged (editionOf s) words p s (p ∷ []) ≡ Refused r
+      short : leb workWords words ≡ false → judged (editionOf s) words p s (p ∷ []) ≡ Refused r
       short t =
-          let l = leb-false 1024 words t in
+          let l = leb-false workWords words t in
           sym (judged-short words p s (p ∷ []) l) ∙ ap Refused (sym (asked ∙ reading-short (editionOf s) words s l))
 
-      long : leb 1024 words ≡ true → judged (editionOf s) words p s (p ∷ []) ≡ Refused r
+      long : leb workWords words ≡ true → judged (editionOf s) words p s (p ∷ []) ≡ Refused r
       long t =
-          let l = leb-true 1024 words t in
+          let l = leb-true workWords words t in
           sym (list-refused s (p ∷ []) r (asked ∙ reading-long (editionOf s) words s l) f ∙ judged-list words p s (p ∷ []) l i j)
 
   pub judgments-refused : numberOf r ≢ 0 → (k : ℕ) → k ≤ 13 → replicate k (packedJudgment (Refused r)) ≡ packedJudgments (editionOf s) words k s
@@ -118,14 +118,14 @@ module _ (words : ℕ) (s : List ℕ) (r : Reading) (asked : r ≡ reading (edit
 
   predicate-judged : numberOf r ≡ 0 → (p : ℕ) → 1 ≤ p → p ≤ 13 → predicateJudgment (editionOf s) words p s ≡ Judged (firstBroken (p ∷ []) (historyOf (editionOf s) s))
   unfolding predicateJudgment
-  predicate-judged z p i j = split (leb 1024 words) long short
+  predicate-judged z p i j = split (leb workWords words) long short
     where
-      short : leb 1024 words ≡ false → judged (editionOf s) words p s (p ∷ []) ≡ Judged (firstBroken (p ∷ []) (historyOf (editionOf s) s))
-      short t = absurd (omega (arith, z, ap numberOf (asked ∙ reading-short (editionOf s) words s (leb-false 1024 words t))))
+      short : leb workWords words ≡ false → judged (editionOf s) words p s (p ∷ []) ≡ Judged (firstBroken (p ∷ []) (historyOf (editionOf s) s))
+      short t = absurd (omega (arith, z, ap numberOf (asked ∙ reading-short (editionOf s) words s (leb-false workWords words t))))
 
-      long : leb 1024 words ≡ true → judged (editionOf s) words p s (p ∷ []) ≡ Judged (firstBroken (p ∷ []) (historyOf (editionOf s) s))
+      long : leb workWords words ≡ true → judged (editionOf s) words p s (p ∷ []) ≡ Judged (firstBroken (p ∷ []) (historyOf (editionOf s) s))
       long t =
-          let l = leb-true 1024 words t in
+          let l = leb-true workWords words t in
           sym (list-judged s (p ∷ []) r (asked ∙ reading-long (editionOf s) words s l) z (firstBroken (p ∷ []) (historyOf (editionOf s) s)) refl ∙ judged-list words p s (p ∷ []) l i j)
 
   pub judgments-judged : numberOf r ≡ 0 → (k : ℕ) → k ≤ 13 → packedVerdicts k (historyOf (editionOf s) s) ≡ packedJudgments (editionOf s) words k s
@@ -184,14 +184,14 @@ pick-into : (P : Judgment → Type 0) (t : Bool) (a b : Judgment) → (t ≡ tru
 pick-into P true a b f g = f refl
 pick-into P false a b f g = g refl
 
-outcome-fits : (n : ℕ) → n ≤ 256 → (o : Outcome) → PairBelow n o → Fitting (Judged o)
+outcome-fits : (n : ℕ) → n ≤ mostEvents → (o : Outcome) → PairBelow n o → Fitting (Judged o)
 outcome-fits n h AllMet f = tt
 outcome-fits n h (BrokenAt p a b) f = (omega (arith, f .0), omega (arith, f .1))
 
 module _ (s : List ℕ) where
   questions-place : placeOf (questions (editionOf s) s) < 1024
   unfolding reading
-  questions-place = place-small 1024 s
+  questions-place = place-small workWords s
 
   passed-fits : (ps : List ℕ) → questions (editionOf s) s ≡ Passed → Fitting (Judged (firstBroken ps (historyOf (editionOf s) s)))
   unfolding historyOf
@@ -203,7 +203,7 @@ module _ (s : List ℕ) where
       let r : Reading = questions (editionOf s) s in
       let o : Outcome = firstBroken ps (historyOf (editionOf s) s) in
       let after : Judgment = pick (eqb (numberOf r) 0) (Judged o) (Refused r) in
-      pick-into Fitting (leb 1024 words) (pick (isNumber number) after NoSuchNumber) (Refused ShortWork) (λ t.
+      pick-into Fitting (leb workWords words) (pick (isNumber number) after NoSuchNumber) (Refused ShortWork) (λ t.
       pick-into Fitting (isNumber number) after NoSuchNumber (λ u.
       pick-into Fitting (eqb (numberOf r) 0) (Judged o) (Refused r) (λ x. passed-fits ps (number-passed r (eqb-true (numberOf r) 0 x))) (λ x. questions-place))
       (λ u. tt)) (λ t. omega arith)

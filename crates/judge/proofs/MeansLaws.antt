@@ -56,21 +56,21 @@ module _ (L : Layout) (words number : ℕ) (ps s : List ℕ) where
 
   answer-means : M (judged L words number s ps)
   unfolding judged
-  answer-means = work (leb (workWords L) words) refl
+  answer-means = work (leb workWords words) refl
     where
-      numbers : workWords L ≤ words → (t : Bool) → isNumber number ≡ t → M (pick t (judgedList L s ps) NoSuchNumber)
+      numbers : workWords ≤ words → (t : Bool) → isNumber number ≡ t → M (pick t (judgedList L s ps) NoSuchNumber)
       numbers w true e = list-means (record { work = w; inRange = e })
       numbers w false e = (w, e)
 
-      work : (t : Bool) → leb (workWords L) words ≡ t → M (pick t (pick (isNumber number) (judgedList L s ps) NoSuchNumber) (Refused ShortWork))
-      work true e = numbers (leb-true (workWords L) words e) (isNumber number) refl
-      work false e = short (leb-false (workWords L) words e)
+      work : (t : Bool) → leb workWords words ≡ t → M (pick t (pick (isNumber number) (judgedList L s ps) NoSuchNumber) (Refused ShortWork))
+      work true e = numbers (leb-true workWords words e) (isNumber number) refl
+      work false e = short (leb-false workWords words e)
 
   -- ---- and what says so is the answer
 
   to-list : Admitted L words number → judged L words number s ps ≡ judgedList L s ps
   unfolding judged
-  to-list a = rw (le-leb (workWords L) words (a .work), a .inRange)
+  to-list a = rw (le-leb workWords words (a .work), a .inRange)
 
   pub to-outcome : Admitted L words number → Passes L s → judged L words number s ps ≡ Judged (firstBroken ps h)
   unfolding judgedList
@@ -78,7 +78,7 @@ module _ (L : Layout) (words number : ℕ) (ps s : List ℕ) where
 
   to-refusal : (r : Reading) → RefusedBy L words number s r → judged L words number s ps ≡ Refused r
   unfolding judged judgedList
-  to-refusal r (short w) = rw (lt-leb (workWords L) words w)
+  to-refusal r (short w) = rw (lt-leb workWords words w)
   to-refusal r (named a n k) =
       let q : questions L s ≡ r = answer-only L s r k in
       to-list a ∙ rw (q, ne-eqb (numberOf r) 0 (λ z. n (number-passed r z)))
@@ -87,7 +87,7 @@ module _ (L : Layout) (words number : ℕ) (ps s : List ℕ) where
   unfolding judged
   means-answer (Judged AllMet) m = to-outcome (m .0) (m .1) ∙ ap Judged (list-met-iff h (right-distinct L s (m .1)) ps .1 (m .2))
   means-answer (Judged (BrokenAt p x y)) m = to-outcome (m .0) (m .1) ∙ ap Judged (list-broken-iff h (right-distinct L s (m .1)) ps p x y .1 (m .2, m .3))
-  means-answer NoSuchNumber m = rw (le-leb (workWords L) words (m .0), m .1)
+  means-answer NoSuchNumber m = rw (le-leb workWords words (m .0), m .1)
   means-answer (Refused r) m = to-refusal r m
 
   pub judged-exact : Exact L words number ps s (judged L words number s ps)

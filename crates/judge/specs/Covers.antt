@@ -3,7 +3,7 @@ use mathlib.Core.Path.{_≡_}
 use mathlib.Core.Bool.{true}
 use mathlib.Core.List.{List}
 use Prim.Native.Nat.{ℕ, _/_}
-use Rattle.record.specs.Layout.{editionOf}
+use Rattle.record.specs.Layout.{editionOf, workWords}
 use Rattle.consistency.specs.Lattice.{follows}
 use Rattle.consistency.specs.declared.Outcome.the-variants.{AllMet, BrokenAt}
 use Rattle.judge.specs.Judgments.{modelJudgment, packedJudgment}
@@ -16,7 +16,7 @@ pub data IsBroken : Judgment → Type 0 where
 
 -- the judge's answer about model m of a record, of whatever edition, over a work slice of 1,024 words
 abbrev pub answer : List ℕ → ℕ → Judgment
-answer s m = modelJudgment (editionOf s) 1024 m s
+answer s m = modelJudgment (editionOf s) workWords m s
 
 -- model i covers model j: every record that passes questions 3 to 10 and meets i meets j
 abbrev pub Covers : ℕ → ℕ → Type 0

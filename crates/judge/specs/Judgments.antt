@@ -28,7 +28,7 @@ judgedList L s ps = pick (eqb (numberOf (questions L s)) 0) (Judged (firstBroken
 
 -- questions 1 and 2 before them
 unfoldable pub judged : Layout → ℕ → ℕ → List ℕ → List ℕ → Judgment
-judged L words number s ps = pick (leb (workWords L) words) (pick (isNumber number) (judgedList L s ps) NoSuchNumber) (Refused ShortWork)
+judged L words number s ps = pick (leb workWords words) (pick (isNumber number) (judgedList L s ps) NoSuchNumber) (Refused ShortWork)
 
 -- a predicate's judgment, and a model's
 unfoldable pub predicateJudgment : Layout → ℕ → ℕ → List ℕ → Judgment

@@ -21,12 +21,12 @@ use Rattle.judge.specs.declared.Judgment.the-variants.{Judged, NoSuchNum
 
 -- questions 1 and 2 get a yes
 pub record Admitted (L : Layout) (words number : ℕ) : Type 0 where
-  pub work : workWords L ≤ words
+  pub work : workWords ≤ words
   pub inRange : isNumber number ≡ true
 
 -- 1 got a no; or 1 and 2 got a yes, and of 3 to 10 the one that r names got the first no, at its place
 pub data RefusedBy (L : Layout) (words number : ℕ) (s : List ℕ) : Reading → Type 0 where
-  short : words < workWords L → RefusedBy L words number s ShortWork
+  short : words < workWords → RefusedBy L words number s ShortWork
   named : {r : Reading} → Admitted L words number → (r ≡ Passed → ⊥) → Tells L s r → RefusedBy L words number s r
 
 -- what an answer says, of a list ps of predicates and a record s
@@ -36,7 +36,7 @@ Means L words number ps s (Judged AllMet) = Admitted L words number × Passes L 
 -- broken: it passes, p is the first of the list that does not hold, and (a, b) the first pair that breaks it
 Means L words number ps s (Judged (BrokenAt p a b)) = Admitted L words number × Passes L s × FirstNot (historyOf L s) ps p × FirstBreak p (historyOf L s) a b
 -- 2 got the first no
-Means L words number ps s NoSuchNumber = (workWords L ≤ words) × (isNumber number ≡ false)
+Means L words number ps s NoSuchNumber = (workWords ≤ words) × (isNumber number ≡ false)
 Means L words number ps s (Refused r) = RefusedBy L words number s r
 
 -- an answer is given exactly if what it says is so; rb, of which predicates 3 and 4 speak and the relation so is made, is as its three cases say; hb, of

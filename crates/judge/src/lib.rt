@@ -6,11 +6,12 @@ pub mod thirteen;
 
 use consistency::Outcome;
 use record::Reading;
+use record::layout;
 ghost use mathlib.Core.Path.{_≡_};
 ghost use mathlib.Core.List.{[], _∷_};
 ghost use Prim.Native.Nat.{_≤_};
 ghost use lib.ListN.{length, take};
-ghost use Rattle.record.specs.Layout.{editionOf};
+ghost use Rattle.record.specs.Layout.{editionOf, workWords};
 ghost use Rattle.record.specs.History.{historyOf};
 ghost use Rattle.record.specs.Questions.{numberOf, reading, questions};
 ghost use Rattle.record.specs.Words.{visibleWords, workAfter};
@@ -38,21 +39,21 @@ pub struct AllJudged {
 // The outcome of a list of predicates, of a record that passed; v begins with its visible sets.
 fn outcome_of(list: [u8; 4], s: &[u8], v: &[u64]) -> Outcome
     requires { ⌜ questions (editionOf (now s)) (now s) ≡ Reading.Passed ⌝ }
-    requires { ⌜ take 1024 (now v) ≡ visibleWords (editionOf (now s)) (now s) ⌝ }
+    requires { ⌜ take workWords (now v) ≡ visibleWords (editionOf (now s)) (now s) ⌝ }
     requires { ⌜ Numbers list ⌝ }
     ensures { λ r. ⌜ r ≡ firstBroken (upToZero list) (historyOf (editionOf (now (s .entry))) (now (s .entry))) ⌝ }
 {
     let n = reader::header::count(s);
-    let mut l = [0u64; 1024];
-    reader::words::load(s, n, 0, 4, &mut l);
-    let mut terms = [0u64; 17];
+    let mut l = [0u64; layout::HEADS];
+    reader::words::load(s, n, 0, layout::HEAD, &mut l);
+    let mut terms = [0u64; layout::TERMS];
     reader::words::load_terms(s, &mut terms);
     lists::first_broken(list, &l, v, &terms, n)
 }
 
 // Questions 3 to 10, then a list of predicates.
 fn judge_list(list: [u8; 4], s: &[u8], work: &mut [u64]) -> Judgment
-    requires { ⌜ (1024 ≤ length (now work)) × Numbers list ⌝ }
+    requires { ⌜ (workWords ≤ length (now work)) × Numbers list ⌝ }
     ensures { λ r. ⌜ r ≡ judgedList (editionOf (now (s .entry))) (now (s .entry)) (upToZero list) ⌝ }
     ensures { λ r. ⌜ now (work .exit) ≡ workAfter (editionOf (now (s .entry))) (refusedNumber r) (now (s .entry)) (now (work .entry)) ⌝ }
 {
@@ -70,7 +71,7 @@ pub fn judge_predicate(number: usize, s: &[u8], work: &mut [u64]) -> Judgment
     ensures { λ r. ⌜ ByClocks (length (now (work .entry))) number (number ∷ []) (now (s .entry)) r ⌝ }
     ensures { λ r. ⌜ now (work .exit) ≡ workAfter (editionOf (now (s .entry))) (refusedNumber r) (now (s .entry)) (now (work .entry)) ⌝ }
 {
-    if work.len() < 1024 {
+    if work.len() < layout::WORK {
         return Judgment::Refused(Reading::ShortWork);
     }
     if number < 1 {
@@ -91,7 +92,7 @@ pub fn judge_model(number: usize, s: &[u8], work: &mut [u64]) -> Judgment
     ensures { λ r. ⌜ TellsOthers (length (now (work .entry))) number (now (s .entry)) r ⌝ }
     ensures { λ r. ⌜ now (work .exit) ≡ workAfter (editionOf (now (s .entry))) (refusedNumber r) (now (s .entry)) (now (work .entry)) ⌝ }
 {
-    if work.len() < 1024 {
+    if work.len() < layout::WORK {
         return Judgment::Refused(Reading::ShortWork);
     }
     if number < 1 {
@@ -119,9 +120,9 @@ pub fn judge_all(s: &[u8], work: &mut [u64]) -> AllJudged
         };
     }
     let n = reader::header::count(s);
-    let mut l = [0u64; 1024];
-    reader::words::load(s, n, 0, 4, &mut l);
-    let mut terms = [0u64; 17];
+    let mut l = [0u64; layout::HEADS];
+    reader::words::load(s, n, 0, layout::HEAD, &mut l);
+    let mut terms = [0u64; layout::TERMS];
     reader::words::load_terms(s, &mut terms);
     let judgments = thirteen::verdicts(&l, work, &terms, n);
     AllJudged { reading, judgments }

@@ -3,10 +3,12 @@ use super::prepared;
 use consistency::Outcome;
 use consistency::Predicate;
 use consistency::Verdict;
+use record::layout;
 use tables::groups;
 ghost use mathlib.Core.Path.{_≡_};
 ghost use Prim.Native.Nat.{_≤_};
 ghost use lib.ListN.{length};
+ghost use Rattle.record.specs.Layout.{rowWords, termsLength};
 ghost use Rattle.record.specs.History.{under};
 ghost use Rattle.record.specs.Words.{historyFrom, termsFrom};
 ghost use Rattle.consistency.specs.Predicates.{numbered};
@@ -63,12 +65,12 @@ pub fn by_number(k: u8) -> Predicate
 
 // The first broken predicate of a list, with its pair.
 pub fn first_broken(list: [u8; 4], l: &[u64], v: &[u64], terms: &[u64], n: usize) -> Outcome
-    requires { ⌜ Given n 4 (now l) (now v) × Numbers list × (17 ≤ length (now terms)) ⌝ }
-    ensures { λ r. ⌜ r ≡ firstBroken (upToZero list) (under (termsFrom (now (terms .entry))) (historyFrom n 4 (now (l .entry)) (now (v .entry)))) ⌝ }
+    requires { ⌜ Given n rowWords (now l) (now v) × Numbers list × (termsLength ≤ length (now terms)) ⌝ }
+    ensures { λ r. ⌜ r ≡ firstBroken (upToZero list) (under (termsFrom (now (terms .entry))) (historyFrom n rowWords (now (l .entry)) (now (v .entry)))) ⌝ }
 {
-    let mut groups = [0u64; 1036];
-    groups::fill(l, n, 4, &mut groups);
-    let mut t = [0u64; 6144];
+    let mut groups = [0u64; prepared::GROUPS * layout::ROW];
+    groups::fill(l, n, layout::ROW, &mut groups);
+    let mut t = [0u64; prepared::TABLES * layout::WORK];
     prepared::prepare(l, v, terms, n, &groups, &mut t);
     for k in 0..4 {
         let number = list[k];

@@ -2,10 +2,12 @@
 use super::lists;
 use super::prepared;
 use consistency::Verdict;
+use record::layout;
 use tables::groups;
 ghost use mathlib.Core.Path.{_≡_};
 ghost use Prim.Native.Nat.{_≤_};
 ghost use lib.ListN.{length};
+ghost use Rattle.record.specs.Layout.{rowWords, termsLength};
 ghost use Rattle.record.specs.History.{under};
 ghost use Rattle.record.specs.Words.{historyFrom, termsFrom};
 ghost use Rattle.judge.specs.Lists.{packedVerdict, packedVerdicts};
@@ -24,12 +26,12 @@ fn pack(v: Verdict) -> u64
 
 // The numbers of the thirteen verdicts, in the paper's order.
 pub fn verdicts(l: &[u64], v: &[u64], terms: &[u64], n: usize) -> [u64; 13]
-    requires { ⌜ Given n 4 (now l) (now v) × (17 ≤ length (now terms)) ⌝ }
-    ensures { λ r. ⌜ r ≡ packedVerdicts 13 (under (termsFrom (now (terms .entry))) (historyFrom n 4 (now (l .entry)) (now (v .entry)))) ⌝ }
+    requires { ⌜ Given n rowWords (now l) (now v) × (termsLength ≤ length (now terms)) ⌝ }
+    ensures { λ r. ⌜ r ≡ packedVerdicts 13 (under (termsFrom (now (terms .entry))) (historyFrom n rowWords (now (l .entry)) (now (v .entry)))) ⌝ }
 {
-    let mut groups = [0u64; 1036];
-    groups::fill(l, n, 4, &mut groups);
-    let mut t = [0u64; 6144];
+    let mut groups = [0u64; prepared::GROUPS * layout::ROW];
+    groups::fill(l, n, layout::ROW, &mut groups);
+    let mut t = [0u64; prepared::TABLES * layout::WORK];
     prepared::prepare(l, v, terms, n, &groups, &mut t);
     let mut answers = [0u64; 13];
     for k in 0..13 {

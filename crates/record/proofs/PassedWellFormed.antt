@@ -25,7 +25,7 @@ use Rattle.record.proofs.SoundLayout.{Sound}
 use Rattle.record.proofs.PositionLaws.{position-says, positions-distinct}
 use Rattle.record.proofs.SetLaws.{set-inside}
 use Rattle.record.proofs.QuestionLaws.{header-says, sites-say}
-use Rattle.record.proofs.QuestionsAnswered.{vis-within}
+use Rattle.record.proofs.SlotWords.{vis-within}
 use Rattle.record.proofs.SlotSays.{event-well-formed}
 use Rattle.record.proofs.SaidAgain.{event-said}
 

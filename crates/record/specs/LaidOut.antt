@@ -9,7 +9,7 @@ use Rattle.record.specs.Answers.{ChecksRight, SlotsRight}
 
 -- 3 to 7 get a yes
 pub record LaidOut (L : Layout) (s : List ℕ) : Type 0 where
-  pub length : lengthRight L s ≡ true
+  pub length : lengthRight s ≡ true
   pub checks : ChecksRight s
   pub header : headerRight L s ≡ true
   pub blocks : blocksRight L s ≡ true

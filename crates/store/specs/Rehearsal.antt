@@ -4,7 +4,7 @@ use mathlib.Core.List.{List, _++_}
 use Prim.Native.Nat.{ℕ, _*_, _/_, _%_}
 use lib.Dec.{eqb, leb}
 use lib.ListN.{length, take, drop}
-use Rattle.record.specs.Layout.{gcr2}
+use Rattle.record.specs.Layout.{gcr2, longestRecord}
 use Rattle.record.specs.Terms.{Terms, openingIn, openingsRight}
 use Rattle.store.specs.Store.{Store, fresh}
 use Rattle.store.specs.Calls.{Call, callAt, callsFrom, callsOf}
@@ -18,7 +18,7 @@ unfoldable pub rehearsalRefusal : ℕ → List ℕ → List ℕ → List ℕ →
 rehearsalRefusal n openings script rec ans =
     ask (leb 1 n && leb n 8) 20
     (ask (eqb (length script % 8) 0 && leb (length script) 32768) 21
-    (ask (leb (gcr2 .longest) (length rec)) 22
+    (ask (leb longestRecord (length rec)) 22
     (ask (leb (length script) (length ans)) 23
     (ask (eqb (length openings) 132 && openingsRight openings 0) 40 0))))
 

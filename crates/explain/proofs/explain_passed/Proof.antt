@@ -1,11 +1,11 @@
 -- `explain::explain_passed` meets its contract: the predicate is judged, and its break told, on words that have the events of the record's bytes. Assumes nothing.
 use mathlib.Core.Path.{sym, ap, _∙_}
 use mathlib.Core.List.{List}
-use Prim.Native.Nat.{ℕ}
+use Prim.Native.Nat.{ℕ, _*_}
 use native.Mathlib.Omega.{arith}
 use borrow.Author.Needs.{needs}
 use lib.ListN.{replicate}
-use Rattle.record.specs.Layout.{editionOf}
+use Rattle.record.specs.Layout.{editionOf, mostEvents, rowWords}
 use Rattle.record.specs.History.{History, historyOf, under}
 use Rattle.record.specs.Words.{historyFrom, termsFrom}
 use Rattle.record.proofs.StoresLaws.{Bytes}
@@ -47,11 +47,11 @@ told : (c : tie.After-by-number) → Told (bytes (start (counted c))) (counted c
 told c =
     let n = counted c in
     let a = start n in
-    words-told (bytes a) (a .pre .0) (range n) (n .count .result) (n .count .ensures) (replicate 1024 0) (words c) (a .args .v .now) (terms c) (loaded c .load .ensures) (a .pre .1 .0) (termed c .load-terms .ensures)
+    words-told (bytes a) (a .pre .0) (range n) (n .count .result) (n .count .ensures) (replicate (4 * mostEvents) 0) (words c) (a .args .v .now) (terms c) (loaded c .load .ensures) (a .pre .1 .0) (termed c .load-terms .ensures)
 
 -- what the words say, and what the bytes do
 abbrev said : tie.After-by-number → History
-said c = under (termsFrom (terms c)) (historyFrom (counted c .count .result) 4 (words c) (start (counted c) .args .v .now))
+said c = under (termsFrom (terms c)) (historyFrom (counted c .count .result) rowWords (words c) (start (counted c) .args .v .now))
 
 abbrev meant : tie.After-by-number → History
 meant c = historyOf (editionOf (bytes (start (counted c)))) (bytes (start (counted c)))

@@ -1,11 +1,11 @@
 -- `judge::judge_all` meets its contract: the reader's answer, and judgments of words that have the events of the record's bytes. Assumes nothing.
 use mathlib.Core.Path.{_≡_, sym, ap, _∙_, subst}
 use mathlib.Core.List.{List}
-use Prim.Native.Nat.{ℕ, _<_}
+use Prim.Native.Nat.{ℕ, _*_, _<_}
 use native.Mathlib.Omega.{arith}
 use borrow.Author.Needs.{needs}
 use lib.ListN.{length, take, replicate}
-use Rattle.record.specs.Layout.{editionOf}
+use Rattle.record.specs.Layout.{editionOf, mostEvents, rowWords, workWords}
 use Rattle.record.specs.History.{historyOf, under}
 use Rattle.record.specs.Questions.{numberOf, placeOf, questions}
 use Rattle.record.specs.Words.{visibleWords, historyFrom, termsFrom}
@@ -46,7 +46,7 @@ passed c =
 abbrev sets : tie.After-number → List ℕ
 sets c = reader c .read .last .1 .0
 
-visible : (c : tie.Else1) → take 1024 (sets (c .before)) ≡ visibleWords (editionOf (bytes (c .before))) (bytes (c .before))
+visible : (c : tie.Else1) → take workWords (sets (c .before)) ≡ visibleWords (editionOf (bytes (c .before))) (bytes (c .before))
 visible c =
     let n = c .before in
     work-visible (bytes n) (passed c) (numberOf (reader n .read .result)) (start n .args .work .now) (sets n) (none c) (reader n .read .ensures .1)
@@ -70,7 +70,7 @@ told c =
     let k = counted (loaded c) in
     let e = k .before in
     let n = e .before in
-    words-told (bytes n) (passed e) (range n) (k .count .result) (k .count .ensures) (replicate 1024 0) (words (loaded c)) (sets n) (terms c) (loaded c .load .ensures) (visible e) (c .load-terms .ensures)
+    words-told (bytes n) (passed e) (range n) (k .count .result) (k .count .ensures) (replicate (4 * mostEvents) 0) (words (loaded c)) (sets n) (terms c) (loaded c .load .ensures) (visible e) (c .load-terms .ensures)
 
 read-requires : tie.Need-read-requires
 read-requires c κs = search needs
@@ -139,7 +139,7 @@ returns-2 c =
     let a = reader n .read in
     let w = length (start n .args .work .now) in
     let q =
-    c .verdicts .ensures ∙ sym (packed-same (historyOf (editionOf (bytes n)) (bytes n)) (under (termsFrom (terms t)) (historyFrom (k .count .result) 4 (words l) (sets n))) (told t .agree) 13)
+    c .verdicts .ensures ∙ sym (packed-same (historyOf (editionOf (bytes n)) (bytes n)) (under (termsFrom (terms t)) (historyFrom (k .count .result) rowWords (words l) (sets n))) (told t .agree) 13)
     ∙ judgments-judged w (bytes n) (a .result) (a .ensures .0) (none e) 13 (omega arith) in
     (a .ensures .0, (q, (thirteen-hosts w (bytes n) q, a .ensures .1)))
 

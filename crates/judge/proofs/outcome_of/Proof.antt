@@ -1,11 +1,11 @@
 -- `judge::outcome_of` meets its contract: the list is judged on words that have the events of the record's bytes. Assumes nothing.
 use mathlib.Core.Path.{sym, _∙_}
 use mathlib.Core.List.{List}
-use Prim.Native.Nat.{ℕ}
+use Prim.Native.Nat.{ℕ, _*_}
 use native.Mathlib.Omega.{arith}
 use borrow.Author.Needs.{needs}
 use lib.ListN.{replicate}
-use Rattle.record.specs.Layout.{editionOf}
+use Rattle.record.specs.Layout.{editionOf, mostEvents, rowWords}
 use Rattle.record.specs.History.{historyOf, under}
 use Rattle.record.specs.Words.{historyFrom, termsFrom}
 use Rattle.record.proofs.StoresLaws.{Bytes}
@@ -45,7 +45,7 @@ told : (c : tie.After-l3) → Told (bytes (start (counted c))) (counted c .count
 told c =
     let n = counted c in
     let a = start n in
-    words-told (bytes a) (a .pre .0) (range n) (n .count .result) (n .count .ensures) (replicate 1024 0) (words c) (a .args .v .now) (terms c) (loaded c .load .ensures) (a .pre .1 .0) (termed c .load-terms .ensures)
+    words-told (bytes a) (a .pre .0) (range n) (n .count .result) (n .count .ensures) (replicate (4 * mostEvents) 0) (words c) (a .args .v .now) (terms c) (loaded c .load .ensures) (a .pre .1 .0) (termed c .load-terms .ensures)
 
 count-requires : tie.Need-count-requires
 count-requires c κs = let a = c .before .before in passed-long (bytes a) (a .pre .0)
@@ -80,7 +80,7 @@ returns c =
     let n = counted l in
     let a = start n in
     c .first-broken .ensures
-    ∙ sym (firstBroken-same (historyOf (editionOf (bytes a)) (bytes a)) (under (termsFrom (terms l)) (historyFrom (n .count .result) 4 (words l) (a .args .v .now))) (told l .agree) (upToZero (a .args .list)))
+    ∙ sym (firstBroken-same (historyOf (editionOf (bytes a)) (bytes a)) (under (termsFrom (terms l)) (historyFrom (n .count .result) rowWords (words l) (a .args .v .now))) (told l .agree) (upToZero (a .args .list)))
 
 pub outcome-of-spec : {M : Type 1} → statement M
 outcome-of-spec =

@@ -6,6 +6,7 @@ use native.Mathlib.Nat.{add-sub-cancel-left}
 use native.Mathlib.Omega.{arith}
 use borrow.Author.Needs.{needs}
 use lib.ListN.{length, drop, length-take, length-drop}
+use Rattle.record.specs.Layout.{rowWords}
 use Rattle.tables.specs.Tables.{part}
 use Rattle.explain.proofs.telling.keep_steps.Statement.{statement}
 use Rattle.explain.proofs.telling.keep_steps.Tie as tie
@@ -43,8 +44,8 @@ returns c =
     let s = k .before .before .before .before .before in
     let n = s .args .n in
     let t = s .args .t .now in
-    let long : length (part n 4 4 t) ≡ n * 4 = omega (arith, s .pre .0, length-take (n * 4) (drop (4 * (n * 4)) t), length-drop (4 * (n * 4)) t) in
-    (rw add-sub-cancel-left at (k .copy .ensures)) ∙ ap (λ (j : ℕ). part n 4 4 t ++ drop j (s .args .steps .now)) long
+    let long : length (part n rowWords 4 t) ≡ n * rowWords = omega (arith, s .pre .0, length-take (n * rowWords) (drop (4 * (n * rowWords)) t), length-drop (4 * (n * rowWords)) t) in
+    (rw add-sub-cancel-left at (k .copy .ensures)) ∙ ap (λ (j : ℕ). part n rowWords 4 t ++ drop j (s .args .steps .now)) long
 
 pub keep-steps-spec : {M : Type 1} → statement M
 keep-steps-spec =

@@ -5,6 +5,7 @@ use Prim.Native.Nat.{ℕ, _*_, _<_, _≤_}
 use native.Mathlib.Omega.{arith}
 use borrow.Author.Needs.{needs}
 use lib.ListN.{length, drop, replicate}
+use Rattle.record.specs.Layout.{mostEvents, rowWords, workWords}
 use Rattle.record.specs.History.{History, under}
 use Rattle.record.specs.Words.{historyFrom, termsFrom}
 use Rattle.consistency.specs.Predicates.{verdict}
@@ -42,7 +43,7 @@ abbrev entry : tie.After-finish → tie.Start
 entry c = start (swept (kept c))
 
 abbrev history : tie.Start → History
-history s = under (termsFrom (s .args .terms .now)) (historyFrom (s .args .n) 4 (s .args .l .now) (s .args .v .now))
+history s = under (termsFrom (s .args .terms .now)) (historyFrom (s .args .n) rowWords (s .args .l .now) (s .args .v .now))
 
 -- the groups, the tables as they were swept and as they are finished, and the steps
 abbrev groups : tie.After-sweep → List ℕ
@@ -57,16 +58,16 @@ tables c = c .finish .last .1 .1 .0
 abbrev steps : tie.After-keep-steps → List ℕ
 steps c = c .keep-steps .last .1 .1 .0
 
-grouped : (c : tie.After-sweep) → Groups (start c .args .n) 4 (start c .args .l .now) (groups c)
+grouped : (c : tie.After-sweep) → Groups (start c .args .n) rowWords (start c .args .l .now) (groups c)
 grouped c = filled c .fill .ensures .0
 
-few : (s : tie.Start) → s .args .n ≤ 256
+few : (s : tie.Start) → s .args .n ≤ mostEvents
 few s = omega (arith, s .pre .0 .rows .wide)
 
-size : (c : tie.After-sweep) → 6 * (start c .args .n * 4) ≤ length (sweeps c)
+size : (c : tie.After-sweep) → 6 * (start c .args .n * rowWords) ≤ length (sweeps c)
 size c = omega (arith, few (start c), c .sweep .ensures .1 .0)
 
-ready : (c : tie.After-finish) → Prepared (entry c .args .n) 4 (history (entry c)) (tables c)
+ready : (c : tie.After-finish) → Prepared (entry c .args .n) rowWords (history (entry c)) (tables c)
 ready c =
     let w = swept (kept c) in
     let s = start w in
@@ -173,7 +174,7 @@ shortest-requires c κs =
     let k = kept (finished (judged g)) in
     let w = swept k in
     let s = start w in
-    ((kept-graph (s .args .n) (s .args .l .now) (s .args .v .now) (sweeps w) (termsFrom (s .args .terms .now)) (s .pre .0) (w .sweep .ensures .0) (size w) (steps k) (drop (s .args .n * 4) (replicate 1024 0)) (k .keep-steps .ensures), omega arith, omega (arith, few s)), ((left g, right g, omega (arith, few s, s .pre .2)), chain-reached (s .args .n) (s .args .l .now) (s .args .v .now) (sweeps w) (termsFrom (s .args .terms .now)) (s .pre .0) (w .sweep .ensures .0) (size w) (steps k) (drop (s .args .n * 4) (replicate 1024 0)) (k .keep-steps .ensures) (first g) (second g) (left g) (right g) (has-chain e)))
+    ((kept-graph (s .args .n) (s .args .l .now) (s .args .v .now) (sweeps w) (termsFrom (s .args .terms .now)) (s .pre .0) (w .sweep .ensures .0) (size w) (steps k) (drop (s .args .n * rowWords) (replicate workWords 0)) (k .keep-steps .ensures), omega arith, omega (arith, few s)), ((left g, right g, omega (arith, few s, s .pre .2)), chain-reached (s .args .n) (s .args .l .now) (s .args .v .now) (sweeps w) (termsFrom (s .args .terms .now)) (s .pre .0) (w .sweep .ensures .0) (size w) (steps k) (drop (s .args .n * rowWords) (replicate workWords 0)) (k .keep-steps .ensures) (first g) (second g) (left g) (right g) (has-chain e)))
 
 same-length : tie.Need-same-length
 same-length c = search needs
@@ -186,7 +187,7 @@ returns c =
     let k = kept (finished (judged g)) in
     let w = swept k in
     let s = start w in
-    told-as (s .args .p) (history s) (first g) (second g) (broken g) ByChain (by-chain e) _ (chain-told (s .args .n) (s .args .l .now) (s .args .v .now) (sweeps w) (termsFrom (s .args .terms .now)) (s .pre .0) (w .sweep .ensures .0) (size w) (steps k) (drop (s .args .n * 4) (replicate 1024 0)) (k .keep-steps .ensures) (first g) (second g) (left g) (right g) (has-chain e))
+    told-as (s .args .p) (history s) (first g) (second g) (broken g) ByChain (by-chain e) _ (chain-told (s .args .n) (s .args .l .now) (s .args .v .now) (sweeps w) (termsFrom (s .args .terms .now)) (s .pre .0) (w .sweep .ensures .0) (size w) (steps k) (drop (s .args .n * rowWords) (replicate workWords 0)) (k .keep-steps .ensures) (first g) (second g) (left g) (right g) (has-chain e))
     (r .shortest .result) (r .shortest .ensures .0) (s .args .out .now) _ (r .shortest .ensures .1)
 
 enum-told-2 : tie.Need-enum-told-2

@@ -4,7 +4,7 @@ use mathlib.Core.Logic.{_≢_}
 use mathlib.Core.List.{List}
 use Prim.Native.Nat.{ℕ, _<_}
 use borrow.Author.Needs.{needs}
-use Rattle.record.specs.Layout.{editionOf}
+use Rattle.record.specs.Layout.{editionOf, workWords}
 use Rattle.record.specs.Questions.{numberOf, placeOf, reading}
 use Rattle.record.specs.declared.Reading.{Reading}
 use Rattle.record.proofs.QuestionsAnswered.{place-small, packed-passed, packed-refused}
@@ -21,12 +21,12 @@ start c = c .before .before .before .before .before .before .before .before .bef
 
 -- the reading that the contract speaks of
 abbrev read : tie.Start → Reading
-read s = reading (editionOf (s .args .s .now)) 1024 (s .args .s .now)
+read s = reading (editionOf (s .args .s .now)) workWords (s .args .s .now)
 
 same : (c : tie.After-number) → c .before .before .before .before .before .before .before .before .judge-all .result .reading ≡ read (start c)
 same c = c .before .before .before .before .before .before .before .before .judge-all .ensures .0
 
-put : (c : tie.After-number) → c .before .before .before .put-over .last .1 .0 ≡ laidOver (packedJudgments (editionOf (start c .args .s .now)) 1024 13 (start c .args .s .now)) (start c .args .out .now)
+put : (c : tie.After-number) → c .before .before .before .put-over .last .1 .0 ≡ laidOver (packedJudgments (editionOf (start c .args .s .now)) workWords 13 (start c .args .s .now)) (start c .args .out .now)
 put c = c .before .before .before .put-over .ensures ∙ ap (λ (v : List ℕ). laidOver v (start c .args .out .now)) (c .before .before .before .before .before .before .before .before .judge-all .ensures .1 .0)
 
 exact : (c : tie.After-number) → ExactThirteen 1024 (start c .args .s .now) (c .before .before .before .put-over .last .1 .0)
@@ -66,7 +66,7 @@ returns c =
 pack-requires : tie.Need-pack-requires
 pack-requires c κs =
     let n = c .before in
-    fitting-small (Refused (n .before .before .before .before .before .before .before .before .judge-all .result .reading)) (subst (λ (r : Reading). placeOf r < 1024) (sym (same n)) (place-small 1024 (start n .args .s .now)))
+    fitting-small (Refused (n .before .before .before .before .before .before .before .before .judge-all .result .reading)) (subst (λ (r : Reading). placeOf r < 1024) (sym (same n)) (place-small workWords (start n .args .s .now)))
 
 -- src/judging.rt:39:1
 same-length-2 : tie.Need-same-length-2

@@ -1,7 +1,7 @@
 -- `gcr::judging::gcr_judge_model` meets its contract: the parts of a judgment fit into a host's number, and are read back. Assumes nothing.
 use mathlib.Core.Path.{ap, _∙_}
 use borrow.Author.Needs.{needs}
-use Rattle.record.specs.Layout.{editionOf}
+use Rattle.record.specs.Layout.{editionOf, workWords}
 use Rattle.judge.specs.Judgments.{modelJudgment, packedJudgment}
 use Rattle.judge.proofs.JudgmentLaws.{model-fits, fitting-small}
 use Rattle.judge.proofs.HostsExact.{model-host}
@@ -18,7 +18,7 @@ judge-model-requires c κs = search needs
 pack-requires : tie.Need-pack-requires
 pack-requires c κs =
     let a = c .before .before .before .before .args in
-    rw (c .before .judge-model .ensures .0) (fitting-small (modelJudgment (editionOf (a .s .now)) 1024 (a .model) (a .s .now)) (model-fits (a .s .now) 1024 (a .model)))
+    rw (c .before .judge-model .ensures .0) (fitting-small (modelJudgment (editionOf (a .s .now)) workWords (a .model) (a .s .now)) (model-fits (a .s .now) workWords (a .model)))
 
 returns : tie.Need-returns
 returns c =

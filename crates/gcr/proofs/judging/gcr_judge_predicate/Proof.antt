@@ -1,7 +1,7 @@
 -- `gcr::judging::gcr_judge_predicate` meets its contract, as `gcr_judge_model` does. Assumes nothing.
 use mathlib.Core.Path.{ap, _∙_}
 use borrow.Author.Needs.{needs}
-use Rattle.record.specs.Layout.{editionOf}
+use Rattle.record.specs.Layout.{editionOf, workWords}
 use Rattle.judge.specs.Judgments.{predicateJudgment, packedJudgment}
 use Rattle.judge.proofs.JudgmentLaws.{predicate-fits, fitting-small}
 use Rattle.judge.proofs.HostsExact.{predicate-host}
@@ -17,7 +17,7 @@ judge-predicate-requires c κs = search needs
 pack-requires : tie.Need-pack-requires
 pack-requires c κs =
     let a = c .before .before .before .before .args in
-    rw (c .before .judge-predicate .ensures .0) (fitting-small (predicateJudgment (editionOf (a .s .now)) 1024 (a .predicate) (a .s .now)) (predicate-fits (a .s .now) 1024 (a .predicate)))
+    rw (c .before .judge-predicate .ensures .0) (fitting-small (predicateJudgment (editionOf (a .s .now)) workWords (a .predicate) (a .s .now)) (predicate-fits (a .s .now) workWords (a .predicate)))
 
 returns : tie.Need-returns
 returns c =

@@ -5,6 +5,7 @@ use Prim.Native.Nat.{ℕ, _*_, _≤_}
 use native.Mathlib.Omega.{arith}
 use borrow.Author.Needs.{needs}
 use lib.ListN.{length}
+use Rattle.record.specs.Layout.{rowWords}
 use Rattle.record.specs.Words.{termsFrom}
 use Rattle.tables.proofs.PartLaws.{same-later}
 use Rattle.judge.proofs.TablesGiven.{swept-graph, tables-ready}
@@ -21,7 +22,7 @@ start c = c .before .before .before .before .before .before .before
 abbrev tables : tie.After-sweep → List ℕ
 tables c = c .sweep .last .1 .1 .1 .1 .1 .1 .0
 
-size : (c : tie.After-sweep) → 6 * (start c .args .n * 4) ≤ length (tables c)
+size : (c : tie.After-sweep) → 6 * (start c .args .n * rowWords) ≤ length (tables c)
 size c = omega (arith, start c .pre .3, c .sweep .ensures .1 .0)
 
 sweep-requires : tie.Need-sweep-requires
@@ -43,7 +44,7 @@ returns c =
     let s = start w in
     let e = f .finish .ensures in (
       tables-ready (s .args .n) (s .args .l .now) (s .args .v .now) (tables w) (s .pre .0) (termsFrom (s .args .terms .now)) (w .sweep .ensures .0) (size w) e,
-      (e .size ∙ w .sweep .ensures .1 .0, e .rest ∙ same-later (5 * (s .args .n * 4)) (6 * (s .args .n * 4)) (tables w) (s .args .t .now) (omega arith) (w .sweep .ensures .1 .1)),
+      (e .size ∙ w .sweep .ensures .1 .0, e .rest ∙ same-later (5 * (s .args .n * rowWords)) (6 * (s .args .n * rowWords)) (tables w) (s .args .t .now) (omega arith) (w .sweep .ensures .1 .1)),
     )
 
 pub prepare-spec : {M : Type 1} → statement M

@@ -3,6 +3,7 @@ use mathlib.Core.Path.{_≡_, refl, _∙_}
 use Prim.Native.Nat.{_-_, _≤_}
 use native.Mathlib.Omega.{arith}
 use lib.ListN.{length, take, length-set}
+use Rattle.record.specs.Layout.{rowWords}
 use Rattle.record.specs.History.{History, under}
 use Rattle.record.specs.Words.{historyFrom, termsFrom}
 use Rattle.judge.specs.Lists.{packedVerdicts}
@@ -13,13 +14,13 @@ use Rattle.judge.proofs.thirteen.verdicts.Tie as tie
 
 abbrev Inv-loop : tie.InvT-loop
 Inv-loop l v terms n groups t answers₀ k₀ answers k =
-    (k ≤ 13) × (length answers ≡ 13) × (take k answers ≡ packedVerdicts k (under (termsFrom terms) (historyFrom n 4 l v)))
+    (k ≤ 13) × (length answers ≡ 13) × (take k answers ≡ packedVerdicts k (under (termsFrom terms) (historyFrom n rowWords l v)))
 
 abbrev μ-loop : tie.MeasureT-loop
 μ-loop l v terms n groups t answers₀ k₀ answers k = 13 - k
 
 abbrev history : tie.Start Inv-loop μ-loop → History
-history s = under (termsFrom (s .args .terms .now)) (historyFrom (s .args .n) 4 (s .args .l .now) (s .args .v .now))
+history s = under (termsFrom (s .args .terms .now)) (historyFrom (s .args .n) rowWords (s .args .l .now) (s .args .v .now))
 
 slice-aggregate-fill : tie.Need-slice-aggregate-fill Inv-loop μ-loop
 slice-aggregate-fill c = search needs
