@@ -8,7 +8,7 @@ use native.Mathlib.Omega.{arith}
 use borrow.Author.Tests.{lt-ltb, ltb-true, ltb-false, eqb-true, eqb-false, eq-eqb, not-true}
 use lib.Dec.{eqb, ltb}
 use Rattle.rows.specs.Lowest.{lowest, some}
-use Rattle.rows.specs.Placing.{allPlaced, positions, Orders}
+use Rattle.rows.specs.Placing.{allPlaced, Orders}
 use Rattle.rows.proofs.Tests.{tell, split, never, or-elim, or-left, or-right, not-of, and-both, and-left, and-right}
 use Rattle.rows.proofs.LowestLaws.{some-at, some-of, some-none, none-some}
 use Rattle.rows.proofs.PlacingLaws.{ringless-placed, placed-orders, orders-ringless, first-order, first-only}

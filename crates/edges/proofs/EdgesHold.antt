@@ -21,7 +21,7 @@ use Rattle.consistency.specs.Reads.{candidate, lastBelow, lastWrite, expected, 
 use Rattle.consistency.specs.Predicates.{rule, breaks, verdict, numbered}
 use Rattle.consistency.specs.Models.{firstBroken}
 use Rattle.consistency.specs.Explained.{middleOf, toldBy}
-use Rattle.judge.specs.Judgments.{judgedList, judged, predicateJudgment, packedJudgments}
+use Rattle.judge.specs.Judgments.{admission, judgedList, judged, predicateJudgment, packedJudgments}
 use Rattle.explain.specs.Explanations.{explainedRecord, explanation}
 use Rattle.store.specs.Calls.{callAt, callsFrom, callsOf}
 use Rattle.store.specs.Rules.{reached, refusal, copiesOf, allCopies, afterCopy, afterCopies, copied, effect, afterCall, run, total, doneAnswer, answer, answers}
@@ -42,7 +42,7 @@ also (c ∷ l) m e f = go (right c) (allRight l) (allRight (l ++ m)) e (λ g. al
 
 -- the test of a part: to unfold it is to unfold all that the cases ask
 unfoldable test : List Case → Bool
-unfolding searchFrom lowest some sum leads distance stepsFrom shortestChain digit bitOf hasByte little via reaches zeros same sumA sumB blockRight historyOf vis placeRight valueRight timesRight gapsRight eventRight tailRight slotRight lengthRight openingIn openingsRight termsRight headerRight blocksRight wrongPosition wrongSet onRing byteQuestions setQuestions questions littleBytes bits setBytes slotBytes figureBytes openingBytes termsBytes withTerms withSlots sealed unsealed recordBytes firstLeft first ss ob rb so ar step hb through candidate lastBelow lastWrite expected wrongRead wrong rule breaks verdict numbered firstBroken judgedList judged predicateJudgment packedJudgments middleOf toldBy explainedRecord explanation callAt callsFrom callsOf reached refusal copiesOf allCopies afterCopy afterCopies copied effect afterCall run total doneAnswer answer answers rank recorded storeRecord rehearsalRefusal storeAfter recordOf outstanding puts toldDone toldCopies member historyOfEvents right allRight
+unfolding searchFrom lowest some sum leads distance stepsFrom shortestChain digit bitOf hasByte little via reaches zeros same sumA sumB blockRight historyOf vis placeRight valueRight timesRight gapsRight eventRight tailRight slotRight lengthRight openingIn openingsRight termsRight headerRight blocksRight wrongPosition wrongSet onRing byteQuestions setQuestions questions littleBytes bits setBytes slotBytes figureBytes openingBytes termsBytes withTerms withSlots sealed unsealed recordBytes firstLeft first ss ob rb so ar step hb through candidate lastBelow lastWrite expected wrongRead wrong rule breaks verdict numbered firstBroken admission judgedList judged predicateJudgment packedJudgments middleOf toldBy explainedRecord explanation callAt callsFrom callsOf reached refusal copiesOf allCopies afterCopy afterCopies copied effect afterCall run total doneAnswer answer answers rank recorded storeRecord rehearsalRefusal storeAfter recordOf outstanding puts toldDone toldCopies member historyOfEvents right allRight
 test cs = allRight cs
 
 empty-hold : allRight ofEmpty ≡ true

@@ -12,6 +12,7 @@ use Rattle.record.specs.Layout.{editionOf, countIn, mostEvents, rowWords, workW
 use Rattle.record.specs.History.{historyOf, under, Agree}
 use Rattle.record.specs.Questions.{numberOf, ask, questions, reading}
 use Rattle.record.specs.Words.{slotWords, headWords, visibleWords, workAfter, historyFrom, termsWords, termsFrom}
+use Rattle.record.specs.declared.Reading.{Reading}
 use Rattle.record.specs.declared.Reading.the-variants.{Passed, ShortWork}
 use Rattle.record.proofs.StoresLaws.{Bytes}
 use Rattle.record.proofs.SlotWords.{length-slot-words}
@@ -19,7 +20,13 @@ use Rattle.record.proofs.WorkLaws.{length-visible}
 use Rattle.record.proofs.WordsLaws.{words-agree}
 use Rattle.record.proofs.SoundLayout.{sound-of}
 use Rattle.record.proofs.QuestionsAnswered.{number-passed, passed-count, passed-terms, passed-blocks, passed-site, passed-position, passed-distinct, passed-graph}
+use Rattle.consistency.specs.Predicates.{verdict}
+use Rattle.consistency.specs.declared.Predicate.{Predicate}
+use Rattle.consistency.specs.declared.Verdict.{Verdict}
+use Rattle.consistency.proofs.SameVerdict.{verdict-same}
 use Rattle.events.specs.Given.{Given}
+use Rattle.judge.specs.Judgments.{saidBy}
+use Rattle.judge.specs.Ready.{ReadInto, Ready}
 
 -- the words l and v, four of fields and a row of the work slice an event, have the n events of the record s, and q its terms
 pub record Told (s : List ℕ) (n : ℕ) (l v q : List ℕ) : Type 0 where
@@ -27,7 +34,7 @@ pub record Told (s : List ℕ) (n : ℕ) (l v q : List ℕ) : Type 0 where
   pub agree : Agree (historyOf (editionOf s) s) (under (termsFrom q) (historyFrom n rowWords l v))
 
 -- where the work slice was long enough too
-pub reading-passed : (w : ℕ) (s : List ℕ) → numberOf (reading (editionOf s) w s) ≡ 0 → questions (editionOf s) s ≡ Passed
+reading-passed : (w : ℕ) (s : List ℕ) → numberOf (reading (editionOf s) w s) ≡ 0 → questions (editionOf s) s ≡ Passed
 unfolding reading
 reading-passed w s e = go (leb workWords w) e
   where
@@ -50,7 +57,7 @@ module _ (s : List ℕ) (passed : questions (editionOf s) s ≡ Passed) where
 
   -- ---- the work slice
 
-  pub work-visible : (number : ℕ) (w v : List ℕ) → number ≡ 0 → v ≡ workAfter (editionOf s) number s w → take workWords v ≡ visibleWords (editionOf s) s
+  work-visible : (number : ℕ) (w v : List ℕ) → number ≡ 0 → v ≡ workAfter (editionOf s) number s w → take workWords v ≡ visibleWords (editionOf s) s
   unfolding workAfter
   work-visible number w v z e =
       let left : v ≡ visibleWords (editionOf s) s ++ drop workWords w = rw (eq-eqb number 0 z) at e in
@@ -61,7 +68,7 @@ module _ (s : List ℕ) (passed : questions (editionOf s) s ≡ Passed) where
   module _ (bytes : Bytes s) (n : ℕ) (counted : n ≡ countIn s) (d l v q : List ℕ)
       (loaded : l ≡ slotWords (editionOf s) 0 4 s n ++ drop (n * 4) d) (begins : take workWords v ≡ visibleWords (editionOf s) s)
       (terms : q ≡ termsWords s) where
-    heads : l ≡ headWords (editionOf s) s ++ drop (n * 4) d
+    pub heads : l ≡ headWords (editionOf s) s ++ drop (n * 4) d
     unfolding headWords
     heads = loaded ∙ ap (λ (k : ℕ). slotWords (editionOf s) 0 4 s k ++ drop (n * 4) d) counted
 
@@ -86,3 +93,22 @@ module _ (s : List ℕ) (passed : questions (editionOf s) s ≡ Passed) where
       };
       agree = same;
     }
+
+-- ---- a record that no question refuses, and the work slice that its reader left
+
+module _ (s : List ℕ) (r : Reading) (none : numberOf r ≡ 0) (w v : List ℕ) (left : v ≡ workAfter (editionOf s) (numberOf r) s w) where
+  begun : questions (editionOf s) s ≡ Passed → ReadInto s v
+  begun passed = record { passed = passed; visible = work-visible s passed (numberOf r) w v none left }
+
+  pub read-into : r ≡ questions (editionOf s) s → ReadInto s v
+  read-into asked = begun (sym asked ∙ number-passed r none)
+
+  -- where question 1 was asked too
+  pub read-whole : (words : ℕ) → r ≡ reading (editionOf s) words s → ReadInto s v
+  read-whole words asked = begun (reading-passed words s (ap numberOf (sym asked) ∙ none))
+
+-- ---- a verdict on the words is that on the record
+
+pub ready-verdict : (s : List ℕ) (n : ℕ) (l v q groups t : List ℕ) → Ready s n l v q groups t → (p : Predicate) (r : Verdict)
+    → r ≡ verdict p (under (termsFrom q) (historyFrom n rowWords l v)) → r ≡ verdict p (saidBy s)
+ready-verdict s n l v q groups t ready p r e = e ∙ sym (verdict-same (saidBy s) (under (termsFrom q) (historyFrom n rowWords l v)) (ready .agree) p)

@@ -3,11 +3,10 @@ use mathlib.Core.Path.{_≡_}
 use mathlib.Core.List.{List, [], _∷_}
 use Prim.Native.Nat.{ℕ, zero, suc, _-_, _/_, _%_, _≤_}
 use lib.ListN.{length, getD}
-use Rattle.record.specs.Layout.{editionOf}
 use Rattle.record.specs.Questions.{numberOf, placeOf}
 use Rattle.consistency.specs.declared.Outcome.the-variants.{AllMet, BrokenAt}
 use Rattle.judge.specs.Judgments.{packedJudgment}
-use Rattle.judge.specs.Means.{Exact}
+use Rattle.judge.specs.Means.{ExactOf}
 use Rattle.judge.specs.declared.Judgment.{Judgment}
 use Rattle.judge.specs.declared.Judgment.the-variants.{Judged, NoSuchNumber, Refused}
 
@@ -37,7 +36,7 @@ unpacked n = byKind (n / 1048576) (n / 1024 % 1024) (n % 1024)
 pub record ExactHost (words number : ℕ) (ps s : List ℕ) (answer : ℕ) : Type 0 where
   -- a judgment of which the second demand holds
   pub judgment : Judgment
-  pub exact : Exact (editionOf s) words number ps s judgment
+  pub exact : ExactOf words number ps s judgment
   -- the answer is that judgment's number, and a host reads in it what the judgment tells
   pub packed : answer ≡ packedJudgment judgment
   pub reads : unpacked answer ≡ told judgment

@@ -5,3 +5,4 @@ pub mod Hosts
 pub mod Clocks
 pub mod Covers
 pub mod Lists
+pub mod Ready

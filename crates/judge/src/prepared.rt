@@ -1,27 +1,33 @@
 // Tables filled once a record, and each predicate judged from them. Rows are as wide as those of the work slice from here on.
 use consistency::Predicate;
 use consistency::Verdict;
+use events::EVERY;
+use events::READS;
+use events::WRITES;
 use pairs::inclusion;
 use pairs::order;
 use pairs::reads;
 use reach::closure;
 use record::layout;
 use tables::arbitration;
+use tables::groups;
 use tables::sweep;
 ghost use mathlib.Core.Path.{_≡_};
 ghost use mathlib.Core.Bool.{true};
+ghost use mathlib.Core.List.{_++_};
 ghost use Prim.Native.Nat.{_*_, _≤_};
 ghost use lib.ListN.{length, drop};
 ghost use Rattle.rows.specs.Row.{rowAt};
 ghost use Rattle.rows.specs.Relation.{Graph};
-ghost use Rattle.record.specs.Layout.{mostEvents, rowWords, termsLength};
+ghost use Rattle.record.specs.Layout.{editionOf, countIn, mostEvents, rowWords, workWords, termsLength};
 ghost use Rattle.record.specs.History.{under};
-ghost use Rattle.record.specs.Words.{historyFrom, termsFrom};
+ghost use Rattle.record.specs.Words.{headWords, historyFrom, termsWords, termsFrom};
 ghost use Rattle.consistency.specs.FirstPair.{first};
 ghost use Rattle.consistency.specs.Predicates.{verdict};
-ghost use Rattle.events.specs.Given.{Given, Groups, Placed};
+ghost use Rattle.events.specs.Given.{Given, everyRow, groupRows, Groups, Placed};
 ghost use Rattle.tables.specs.Tables.{part, Prepared, Finished};
 ghost use Rattle.pairs.specs.Searches.{lacks, Whole};
+ghost use Rattle.judge.specs.Ready.{ReadInto, Ready};
 
 // The tables, by their place in the slice.
 const RB: usize = 0;
@@ -32,23 +38,14 @@ const MIDDLES: usize = 2;
 
 const OBJECTS: usize = 3;
 
-pub const HB: usize = 4;
+const HB: usize = 4;
 
 const AR: usize = 5;
 
 pub const TABLES: usize = 6;
 
-// The groups of events after those of each object, by their row.
-pub const WRITES: usize = 256;
-
-const READS: usize = 257;
-
-const EVERY: usize = 258;
-
-pub const GROUPS: usize = 259;
-
 // Closes table 4, which was swept as the steps of hb, and fills table 5 with ar.
-pub fn finish(l: &[u64], n: usize, t: &mut [u64])
+fn finish(l: &[u64], n: usize, t: &mut [u64])
     requires { ⌜ (4 * n ≤ length (now l)) × Placed n (now l) × (6 * (n * rowWords) ≤ length (now t)) × Graph (part n rowWords 4 (now t)) n rowWords ⌝ }
     ensures { λ _. ⌜ Finished n rowWords (now (l .entry)) (now (t .entry)) (now (t .exit)) ⌝ }
 {
@@ -60,13 +57,39 @@ pub fn finish(l: &[u64], n: usize, t: &mut [u64])
 }
 
 // Fills the six tables.
-pub fn prepare(l: &[u64], v: &[u64], terms: &[u64], n: usize, groups: &[u64], t: &mut [u64])
+fn fill_tables(l: &[u64], v: &[u64], terms: &[u64], n: usize, groups: &[u64], t: &mut [u64])
     requires { ⌜ Given n rowWords (now l) (now v) × Groups n rowWords (now l) (now groups) × (termsLength ≤ length (now terms)) × (6 * (n * rowWords) ≤ length (now t)) ⌝ }
     ensures { λ _. ⌜ Prepared n rowWords (under (termsFrom (now (terms .entry))) (historyFrom n rowWords (now (l .entry)) (now (v .entry)))) (now (t .exit)) ⌝ }
     ensures { λ _. ⌜ (length (now (t .exit)) ≡ length (now (t .entry))) × (drop (6 * (n * rowWords)) (now (t .exit)) ≡ drop (6 * (n * rowWords)) (now (t .entry))) ⌝ }
 {
     sweep::sweep(l, v, terms, n, layout::ROW, groups, t);
     finish(l, n, t);
+}
+
+// The words, groups and tables of a record that passed, into slices that are as long as those of any record; v begins with its visible sets. The answer is n,
+// the event count.
+pub fn prepare(
+    s: &[u8],
+    v: &[u64],
+    l: &mut [u64],
+    terms: &mut [u64],
+    groups: &mut [u64],
+    t: &mut [u64],
+) -> usize
+    requires { ⌜ ReadInto (now s) (now v) ⌝ }
+    requires { ⌜ (length (now l) ≡ 4 * mostEvents) × (length (now terms) ≡ termsLength) × (length (now groups) ≡ groupRows * rowWords) × (length (now t) ≡ 6 * workWords) ⌝ }
+    ensures { λ n. ⌜ Ready (now (s .entry)) n (now (l .exit)) (now (v .entry)) (now (terms .exit)) (now (groups .exit)) (now (t .exit)) ⌝ }
+    ensures { λ n. ⌜ n ≡ countIn (now (s .entry)) ⌝ }
+    ensures { λ n. ⌜ now (l .exit) ≡ headWords (editionOf (now (s .entry))) (now (s .entry)) ++ drop (n * 4) (now (l .entry)) ⌝ }
+    ensures { λ _. ⌜ now (terms .exit) ≡ termsWords (now (s .entry)) ⌝ }
+    ensures { λ n. ⌜ drop (6 * (n * rowWords)) (now (t .exit)) ≡ drop (6 * (n * rowWords)) (now (t .entry)) ⌝ }
+{
+    let n = reader::header::count(s);
+    reader::words::load(s, n, 0, layout::HEAD, l);
+    reader::words::load_terms(s, terms);
+    groups::fill(l, n, layout::ROW, groups);
+    fill_tables(l, v, terms, n, groups, t);
+    n
 }
 
 // Every pair of q, from an event of group `starts` to one of group `ends`, is in r.
@@ -78,8 +101,8 @@ fn judge_inclusion(
     groups: &[u64],
     r: &[u64],
 ) -> Verdict
-    requires { ⌜ (n ≤ mostEvents) × (n * rowWords ≤ length (now q)) × (n * rowWords ≤ length (now r)) × (259 * rowWords ≤ length (now groups)) × (starts ≤ 258) × (ends ≤ 258) ⌝ }
-    requires { ⌜ Whole true n (rowAt (now groups) rowWords 258) ⌝ }
+    requires { ⌜ (n ≤ mostEvents) × (n * rowWords ≤ length (now q)) × (n * rowWords ≤ length (now r)) × (groupRows * rowWords ≤ length (now groups)) × (starts ≤ everyRow) × (ends ≤ everyRow) ⌝ }
+    requires { ⌜ Whole true n (rowAt (now groups) rowWords everyRow) ⌝ }
     ensures { λ d. ⌜ d ≡ first n (lacks rowWords (now (q .entry)) (rowAt (now (groups .entry)) rowWords starts) (rowAt (now (groups .entry)) rowWords ends) (now (r .entry))) ⌝ }
 {
     let a = starts * layout::ROW;
@@ -96,8 +119,8 @@ fn judge_inclusion(
 
 // Every such pair of table k is in ar.
 fn within_ar(k: usize, starts: usize, ends: usize, n: usize, groups: &[u64], t: &[u64]) -> Verdict
-    requires { ⌜ (n ≤ mostEvents) × (k ≤ 5) × (6 * (n * rowWords) ≤ length (now t)) × (259 * rowWords ≤ length (now groups)) × (starts ≤ 258) × (ends ≤ 258) ⌝ }
-    requires { ⌜ Whole true n (rowAt (now groups) rowWords 258) ⌝ }
+    requires { ⌜ (n ≤ mostEvents) × (k ≤ 5) × (6 * (n * rowWords) ≤ length (now t)) × (groupRows * rowWords ≤ length (now groups)) × (starts ≤ everyRow) × (ends ≤ everyRow) ⌝ }
+    requires { ⌜ Whole true n (rowAt (now groups) rowWords everyRow) ⌝ }
     ensures { λ d. ⌜ d ≡ first n (lacks rowWords (part n rowWords k (now (t .entry))) (rowAt (now (groups .entry)) rowWords starts) (rowAt (now (groups .entry)) rowWords ends) (part n rowWords 5 (now (t .entry)))) ⌝ }
 {
     let size = n * layout::ROW;
@@ -123,8 +146,8 @@ fn within_vis(
     groups: &[u64],
     t: &[u64],
 ) -> Verdict
-    requires { ⌜ (n ≤ mostEvents) × (k ≤ 5) × (6 * (n * rowWords) ≤ length (now t)) × (n * rowWords ≤ length (now v)) × (259 * rowWords ≤ length (now groups)) × (starts ≤ 258) × (ends ≤ 258) ⌝ }
-    requires { ⌜ Whole true n (rowAt (now groups) rowWords 258) ⌝ }
+    requires { ⌜ (n ≤ mostEvents) × (k ≤ 5) × (6 * (n * rowWords) ≤ length (now t)) × (n * rowWords ≤ length (now v)) × (groupRows * rowWords ≤ length (now groups)) × (starts ≤ everyRow) × (ends ≤ everyRow) ⌝ }
+    requires { ⌜ Whole true n (rowAt (now groups) rowWords everyRow) ⌝ }
     ensures { λ d. ⌜ d ≡ first n (lacks rowWords (part n rowWords k (now (t .entry))) (rowAt (now (groups .entry)) rowWords starts) (rowAt (now (groups .entry)) rowWords ends) (now (v .entry))) ⌝ }
 {
     let size = n * layout::ROW;

@@ -1,15 +1,15 @@
 -- Laws of tables that stand one after the other in one slice, and of rows that are changed there. Assumes nothing.
-use mathlib.Core.Path.{_≡_, sym, ap, ap₂, _∙_}
+use mathlib.Core.Path.{_≡_, sym, ap, _∙_}
 use mathlib.Core.Logic.{_≢_}
 use mathlib.Core.List.{List, _++_}
 use Prim.Native.Nat.{ℕ, _+_, _-_, _*_, _≤_, _<_}
-use native.Mathlib.Nat.{mul-le-mul-right, add-sub-cancel-left, add-mul, mul-assoc}
+use native.Mathlib.Nat.{mul-le-mul-right, add-mul, mul-assoc}
 use native.Mathlib.Omega.{arith}
 use native.Mathlib.Decide.{decLt}
 use lib.ListN.{length, getD, take, drop, length-append, length-take, length-drop}
 use lib.Seq.{length-take-le, drop-at, drop-drop, getD-take, getD-drop, ext-getD, take-append-le, drop-append-le}
 use Rattle.rows.specs.Row.{rowAt, RowPut}
-use Rattle.rows.proofs.TableLaws.{row-room, length-row-le, getD-row, length-put, row-put-same, row-put-other}
+use Rattle.rows.proofs.TableLaws.{row-room, length-row-le, getD-row}
 use Rattle.tables.specs.Tables.{part}
 
 -- ---- table k of tables of n rows
