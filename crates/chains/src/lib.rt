@@ -1,5 +1,6 @@
 // The events of a shortest chain of steps in a table of rows, of which row b has the events from which a step leads to b. Inner functions are lent their
 // scratch rows, and rows are as wide as those.
+use record::layout;
 use rows::table_rows;
 ghost use mathlib.Core.Path.{_≡_};
 ghost use mathlib.Core.Bool.{true, _&&_, _||_};
@@ -10,6 +11,7 @@ ghost use Rattle.rows.specs.Lowest.{lowest, some};
 ghost use Rattle.rows.specs.Row.{has, onlyFirst, rowAt};
 ghost use Rattle.rows.specs.Relation.{reaches, related, Graph};
 ghost use Rattle.rows.specs.Shortest.{distance, shortestChain};
+ghost use Rattle.record.specs.Layout.{mostEvents, rowWords};
 ghost use Rattle.chains.specs.Near.{Near};
 
 // Those members of `near` that `done` lacks join it, and their rows join `next`.
@@ -120,14 +122,14 @@ fn next_event(table: &[u64], n: usize, w: usize, k: usize, e: usize, near: &[u64
 
 // Writes to the front of `out` the events after a, b last, of a shortest chain of steps from a to b, each next one the lowest possible; how many they are.
 pub fn shortest(table: &[u64], n: usize, w: usize, a: usize, b: usize, out: &mut [u16]) -> usize
-    requires { ⌜ Graph (now table) n w × (w ≤ 8) × (n * w + w ≤ 1028) ⌝ }
+    requires { ⌜ Graph (now table) n w × (w ≤ 8) × (n * w + w ≤ (mostEvents + 1) * rowWords) ⌝ }
     requires { ⌜ (a < n) × (b < n) × (n ≤ length (now out)) ⌝ }
     requires { ⌜ reaches n (related (now table) w) a b ≡ true ⌝ }
     ensures { λ r. ⌜ r ≡ length (shortestChain n (related (now (table .entry)) w) a b) ⌝ }
     ensures { λ r. ⌜ now (out .exit) ≡ shortestChain n (related (now (table .entry)) w) a b ++ drop r (now (out .entry)) ⌝ }
 {
-    // room for 257 rows of four words, as 256 events need
-    let mut near = [0u64; 1028];
+    // a row for each event, and one more
+    let mut near = [0u64; (layout::EVENTS + 1) * layout::ROW];
     let mut done = [0u64; 8];
     let mut next = [0u64; 8];
     let last = fill_near(table, n, a, b, &mut near, &mut done[..w], &mut next[..w]);

@@ -27,7 +27,7 @@ use Rattle.consistency.proofs.SameVerdict.{SameFor, verdict-under}
 
 -- the edition that there was, in numbers
 abbrev pub before : Layout
-before = record { letters = 71 ∷ 67 ∷ 82 ∷ 49 ∷ []; slot = 64; perBlock = 7; row = 4; events = 256; longest = 19456; terms = false }
+before = record { letters = 71 ∷ 67 ∷ 82 ∷ 49 ∷ []; slot = 64; perBlock = 7; row = 4; events = 256; terms = false }
 
 abbrev pub headerBefore : List ℕ → Bool
 headerBefore s = same (take 4 s) (71 ∷ 67 ∷ 82 ∷ 49 ∷ []) && (leb (countIn s) 256 && (leb 1 (sitesIn s) && (leb (sitesIn s) 8 && zeros 501 s 7)))

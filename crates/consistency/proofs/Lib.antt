@@ -1,5 +1,5 @@
 -- What follows. What users should know: MetIffHolds, BrokenIff, HappensBefore, ReturnsBefore, SameVerdict, OtherClocks, AsBefore, ModelsGive, ChainLaws,
--- ExplainedLaws.
+-- ExplainedLaws, FoundOrderLaws, OrderJudged.
 pub mod FirstPairLaws
 pub mod LastWriteLaws
 pub mod MetIffHolds
@@ -16,3 +16,5 @@ pub mod ModelsGive
 pub mod ChainLaws
 pub mod Separated
 pub mod ExplainedLaws
+pub mod FoundOrderLaws
+pub mod OrderJudged

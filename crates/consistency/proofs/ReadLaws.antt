@@ -11,7 +11,6 @@ use Rattle.record.specs.Terms.{Held, none, value}
 use Rattle.consistency.specs.Reads.{lastWrite, sameHeld, held, leftBy, expected, wrongRead, lastOr, wrong}
 use Rattle.consistency.specs.declared.Verdict.the-variants.{Met, Broken}
 use Rattle.consistency.specs.declared.Last.{Last}
-use Rattle.consistency.specs.declared.Last.the-variants.{Nothing, At}
 use Rattle.consistency.proofs.FirstPairLaws.{first-at, first-none}
 use Rattle.consistency.proofs.LastWriteLaws.{lastOr-lt}
 

@@ -10,3 +10,4 @@ pub mod Models
 pub mod Explained
 pub mod Lattice
 pub mod Separating
+pub mod FoundOrder

@@ -6,18 +6,21 @@ use lib.Dec.{eqb}
 use lib.ListN.{drop, take, replicate}
 use lib.Seq.{sets}
 use Rattle.rows.specs.Octets.{little}
-use Rattle.record.specs.Layout.{Layout, gcr1, gcr2, editionOf, same}
+use Rattle.record.specs.Layout.{Layout, gcr1, gcr2, same, workWords}
 use Rattle.record.specs.History.{History, under}
 use Rattle.record.specs.Encode.{openingBytes, sealed, unsealed, recordBytes}
 use Rattle.record.specs.Terms.{Held, none, value, Terms}
 use Rattle.consistency.specs.Relations.{rb}
 use Rattle.consistency.specs.Predicates.{numbered, verdict}
-use Rattle.judge.specs.Judgments.{predicateJudgment, packedJudgment, packedJudgments}
+use Rattle.consistency.specs.Models.{listOf, firstBroken}
+use Rattle.consistency.specs.declared.Outcome.{Outcome}
+use Rattle.consistency.specs.declared.Outcome.the-variants.{AllMet, BrokenAt}
+use Rattle.judge.specs.Judgments.{packedJudgment, predicateJudgmentOf, packedJudgmentsOf}
 use Rattle.judge.specs.Lists.{packedVerdict}
-use Rattle.explain.specs.Explanations.{eventsTold, explanation, packedExplanation}
+use Rattle.explain.specs.Explanations.{eventsTold, explanationOf, packedExplanation}
 use Rattle.store.specs.Store.{fresh}
-use Rattle.store.specs.Calls.{callsOf}
-use Rattle.store.specs.Rules.{deliveries, copiesByCloses, answers}
+use Rattle.store.specs.Calls.{Call, put, get, callsOf}
+use Rattle.store.specs.Rules.{refusal, run, deliveries, copiesByCloses, answers}
 use Rattle.store.specs.Outstanding.{puts, outstanding, toldDone, toldCopies}
 use Rattle.store.specs.Rehearsal.{rehearsalRefusal, termsOf, storeAfter, recordOf}
 use Rattle.record.specs.Listed.{Time, event, aRead, aWrite, returned, pending, historyOfEvents}
@@ -39,6 +42,8 @@ pub data Case : Type 0 where
   -- what a judging call answers of a record's bytes, all questions asked, as the host's number: for a predicate, and for all thirteen
   ruled : (s : List ℕ) (predicate answer : ℕ) → Case
   thirteen : (s : List ℕ) (numbers : List ℕ) → Case
+  -- which predicate of a model's list is the first broken one of a history, and at which pair
+  modelled : (h : History) (model predicate a b : ℕ) → Case
   -- the events that are told of a predicate's break in a history, none where it is met
   told : (h : History) (predicate : ℕ) (events : List ℕ) → Case
   -- what an explaining call with so many words and entries answers of a record's bytes, as the host's number
@@ -47,22 +52,30 @@ pub data Case : Type 0 where
   answeredFrom : (openings : List ℕ) (sites : ℕ) (script : List ℕ) (k : ℕ) (answer : List ℕ) → Case
   -- the number that refuses a rehearsal, or 0; room and answers are the bytes of its record and answer buffers
   admitted : (openings : List ℕ) (sites : ℕ) (script : List ℕ) (room answers number : ℕ) → Case
+  -- what refuses a call, or 0, after other calls from cells without openings
+  calledAfter : (sites : ℕ) (calls : List Call) (c : Call) (number : ℕ) → Case
   -- after a script: its puts, done deliveries, copies delivered by closes, by the rules and by the answers, and copies outstanding
-  counted : (sites : ℕ) (script : List ℕ) (put delivered closed left : ℕ) → Case
+  counted : (sites : ℕ) (script : List ℕ) (made delivered closed left : ℕ) → Case
+
+abbrev sameBreak : Outcome → ℕ → ℕ → ℕ → Bool
+sameBreak AllMet p a b = false
+sameBreak (BrokenAt q x y) p a b = eqb q p && (eqb x a && eqb y b)
 
 unfoldable pub right : Case → Bool
 right (checked s a b) = eqb (little 2 s 508) a && eqb (little 2 s 510) b
 right (before h a b answer) = cond answer (rb h a b) (not (rb h a b))
 right (decided h p answer) = eqb (packedVerdict (verdict (numbered p) h)) answer
-right (ruled s p answer) = eqb (packedJudgment (predicateJudgment (editionOf s) 1024 p s)) answer
-right (thirteen s numbers) = same (packedJudgments (editionOf s) 1024 13 s) numbers
+right (ruled s p answer) = eqb (packedJudgment (predicateJudgmentOf workWords p s)) answer
+right (thirteen s numbers) = same (packedJudgmentsOf workWords s) numbers
+right (modelled h m p a b) = sameBreak (firstBroken (listOf m) h) p a b
 right (told h p events) = same (eventsTold (numbered p) h (verdict (numbered p) h)) events
-right (explainedBy s words entries p answer) = eqb (packedExplanation (explanation (editionOf s) words entries p s)) answer
+right (explainedBy s words entries p answer) = eqb (packedExplanation (explanationOf words entries p s)) answer
 right (answeredFrom openings n script k answer) = same (take 8 (drop (8 * k) (answers n (fresh (termsOf openings)) (callsOf script)))) answer
 right (admitted openings n script room answers number) = eqb (rehearsalRefusal n openings script (replicate room 0) (replicate answers 0)) number
-right (counted n script put delivered closed left) =
-    same (puts (storeAfter n noOpenings script) ∷ deliveries n (fresh (termsOf noOpenings)) (callsOf script) ∷ copiesByCloses n (fresh (termsOf noOpenings)) (callsOf script) ∷ []) (put ∷ delivered ∷ closed ∷ [])
-    && (same (by 1 ∷ by 3 ∷ toldCopies script (answers n (fresh (termsOf noOpenings)) (callsOf script)) ∷ []) (put ∷ delivered ∷ closed ∷ [])
+right (calledAfter n calls c number) = eqb (refusal n (run n (fresh (termsOf noOpenings)) calls) c) number
+right (counted n script made delivered closed left) =
+    same (puts (storeAfter n noOpenings script) ∷ deliveries n (fresh (termsOf noOpenings)) (callsOf script) ∷ copiesByCloses n (fresh (termsOf noOpenings)) (callsOf script) ∷ []) (made ∷ delivered ∷ closed ∷ [])
+    && (same (by 1 ∷ by 3 ∷ toldCopies script (answers n (fresh (termsOf noOpenings)) (callsOf script)) ∷ []) (made ∷ delivered ∷ closed ∷ [])
     && eqb (outstanding n (storeAfter n noOpenings script)) left)
   where
     by : ℕ → ℕ
@@ -160,6 +173,42 @@ foresight =
     historyOfEvents
     (event aWrite 0 0 (value 1) 0 (returned 0 1) (1 ∷ [])
     ∷ event aWrite 0 0 (value 2) 1 (returned 2 3) []
+    ∷ [])
+
+-- ---- two predicates of a model's list broken, each at a pair of its own
+
+-- the first and the second of every list that has two
+abbrev atOdds : History
+atOdds =
+    historyOfEvents
+    (event aRead 1 0 none 1 (returned 0 3) (1 ∷ [])
+    ∷ event aWrite 0 1 (value 1) 2 (returned 0 3) []
+    ∷ event aRead 0 1 none 0 (returned 4 5) []
+    ∷ [])
+
+-- the second and RVal, where vis is ar
+abbrev readFirst : History
+readFirst =
+    historyOfEvents
+    (event aWrite 0 1 (value 2) 1 (returned 0 1) (1 ∷ [])
+    ∷ event aRead 0 1 (value 2) 0 (returned 4 5) []
+    ∷ [])
+
+-- 11, and 3 and RVal, where 10 is met
+abbrev seenBehind : History
+seenBehind =
+    historyOfEvents
+    (event aRead 1 1 (value 2) 2 (returned 4 5) []
+    ∷ event aRead 0 0 (value 1) 1 (returned 0 3) []
+    ∷ event aWrite 1 1 (value 1) 0 (returned 4 5) (0 ∷ [])
+    ∷ [])
+
+-- 3 and RVal, where 10 and 11 are met
+abbrev unseenBehind : History
+unseenBehind =
+    historyOfEvents
+    (event aWrite 0 0 (value 2) 1 (returned 0 1) []
+    ∷ event aRead 1 0 (value 2) 0 (returned 2 3) []
     ∷ [])
 
 -- ---- breaks that are told
@@ -485,6 +534,53 @@ ofRefusals =
     ∷ admitted (replicate 133 0) 9 lonePut 19456 16 20
     ∷ []
 
--- the table, in parts that the checker computes one by one
+-- the order of each model's list, by records that break two of it; and that each asks RVal, by one that breaks nothing else
+abbrev pub ofModels : List Case
+ofModels =
+    modelled atOdds 1 2 0 1
+    ∷ modelled atOdds 2 2 0 1
+    ∷ modelled atOdds 3 2 0 1
+    ∷ modelled atOdds 4 10 1 2
+    ∷ modelled atOdds 5 10 1 2
+    ∷ modelled atOdds 6 13 2 1
+    ∷ modelled atOdds 7 13 2 1
+    ∷ modelled readFirst 1 3 0 1
+    ∷ modelled readFirst 2 4 0 1
+    ∷ modelled readFirst 3 9 0 1
+    ∷ modelled readFirst 6 9 0 1
+    ∷ modelled readFirst 7 12 0 1
+    ∷ modelled seenBehind 4 11 0 2
+    ∷ modelled seenBehind 5 11 0 2
+    ∷ modelled unseenBehind 5 3 0 1
+    ∷ modelled (readOf7 0) 1 1 0 0
+    ∷ modelled (readOf7 0) 2 1 0 0
+    ∷ modelled (readOf7 0) 3 1 0 0
+    ∷ modelled (readOf7 0) 4 1 0 0
+    ∷ modelled (readOf7 0) 5 1 0 0
+    ∷ modelled (readOf7 0) 6 1 0 0
+    ∷ modelled (readOf7 0) 7 1 0 0
+    ∷ []
+
+-- k puts at one site
+abbrev pub putsOf : ℕ → List Call
+putsOf k = replicate k (put 0 0 1)
+
+-- the last event that there is room for, and the next
+abbrev pub ofRoom : List Case
+ofRoom =
+    calledAfter 1 (putsOf 255) (put 0 0 1) 0
+    ∷ calledAfter 1 (putsOf 255) (get 0 0) 0
+    ∷ calledAfter 1 (putsOf 256) (put 0 0 1) 34
+    ∷ calledAfter 1 (putsOf 256) (get 0 0) 34
+    ∷ []
+
+-- the longest script, and one of a call more
+abbrev pub ofScripts : List Case
+ofScripts =
+    admitted noOpenings 1 (replicate 32768 0) 19456 32768 0
+    ∷ admitted noOpenings 1 (replicate 32776 0) 19456 32776 21
+    ∷ []
+
+-- the table, in parts that the checker computes one by one, or by laws where parts are long
 abbrev pub edges : List Case
-edges = ofEmpty ++ (ofRing ++ (ofHistories ++ (ofBreaks ++ (ofClocks ++ (ofLargest ++ (ofListing ++ (ofDeliveries ++ (ofCloses ++ (ofCopies ++ (ofBlock0 ++ (ofZeros ++ (ofLacking ++ (ofDifference ++ (ofExceeded ++ (ofSecond ++ (ofPast ++ (ofFirst ++ (ofOpenings ++ ofRefusals))))))))))))))))))
+edges = ofEmpty ++ (ofRing ++ (ofHistories ++ (ofBreaks ++ (ofClocks ++ (ofLargest ++ (ofListing ++ (ofDeliveries ++ (ofCloses ++ (ofCopies ++ (ofBlock0 ++ (ofZeros ++ (ofLacking ++ (ofDifference ++ (ofExceeded ++ (ofSecond ++ (ofPast ++ (ofFirst ++ (ofOpenings ++ (ofRefusals ++ (ofModels ++ (ofRoom ++ ofScripts)))))))))))))))))))))

@@ -28,10 +28,23 @@ pub record Given (n w : ℕ) (l v : List ℕ) : Type 0 where
 abbrev pub fieldsOf : List ℕ → History
 fieldsOf l = historyFrom 0 0 l []
 
--- g has the events of each object at rows 0 to 255, then the writes, the reads, and all events
+-- the rows of groups of events: one for each object, 0 to 255, then the writes, the reads, and all events
+abbrev pub writesRow : ℕ
+writesRow = 256
+
+abbrev pub readsRow : ℕ
+readsRow = 257
+
+abbrev pub everyRow : ℕ
+everyRow = 258
+
+abbrev pub groupRows : ℕ
+groupRows = 259
+
+-- g has them
 pub record Groups (n w : ℕ) (l g : List ℕ) : Type 0 where
-  pub size : 259 * w ≤ length g
+  pub size : groupRows * w ≤ length g
   pub objects : (o : ℕ) → o < 256 → Row n (λ e. eqb (objectIn l e) o) (rowAt g w o)
-  pub writes : Row n (isWriteIn l) (rowAt g w 256)
-  pub reads : Row n (λ e. not (isWriteIn l e)) (rowAt g w 257)
-  pub every : Row n (λ e. true) (rowAt g w 258)
+  pub writes : Row n (isWriteIn l) (rowAt g w writesRow)
+  pub reads : Row n (λ e. not (isWriteIn l e)) (rowAt g w readsRow)
+  pub every : Row n (λ e. true) (rowAt g w everyRow)

@@ -1,4 +1,5 @@
 // The fields of an event, read from its four words, and terms, read from block 0's. The reader loads these words, and the judge reads from them.
+// And which rows groups of events have in a slice.
 ghost use mathlib.Core.Path.{_≡_};
 ghost use mathlib.Core.Bool.{false, _&&_};
 ghost use Prim.Native.Nat.{_+_, _*_, _≤_, _<_};
@@ -6,6 +7,15 @@ ghost use lib.Dec.{ltb};
 ghost use lib.ListN.{length};
 ghost use Rattle.rows.specs.Row.{has};
 ghost use Rattle.record.specs.Words.{isWriteIn, siteIn, objectIn, isPendingIn, valueIn, isPresentIn, positionIn, startIn, returnIn, differenceFrom, figureIn};
+
+// The rows of groups: one for each object, then the writes, the reads, and all events.
+pub const WRITES: usize = 256;
+
+pub const READS: usize = 257;
+
+pub const EVERY: usize = 258;
+
+pub const GROUPS: usize = 259;
 
 pub fn is_write(l: &[u64], e: usize) -> bool
     requires { ⌜ 4 * e + 4 ≤ length (now l) ⌝ }

@@ -1,13 +1,14 @@
 -- The explaining call by its tests, one question after the other. Assumes nothing.
-use mathlib.Core.Path.{_≡_, refl, ap, _∙_}
+use mathlib.Core.Path.{_≡_, refl, sym, ap, _∙_}
 use mathlib.Core.Logic.{_≢_}
 use mathlib.Core.List.{List}
 use Prim.Native.Nat.{ℕ, _<_, _≤_}
 use native.Mathlib.Omega.{arith}
 use borrow.Author.Tests.{eq-eqb, ne-eqb, le-leb, lt-leb}
+use lib.Dec.{leb}
 use Rattle.record.specs.Layout.{editionOf}
 use Rattle.record.specs.History.{History, historyOf, Agree}
-use Rattle.record.specs.Questions.{numberOf, questions}
+use Rattle.record.specs.Questions.{numberOf, ask, questions}
 use Rattle.record.specs.Words.{workAfter}
 use Rattle.record.specs.declared.Reading.{Reading}
 use Rattle.record.specs.declared.Reading.the-variants.{ShortWork}
@@ -18,33 +19,25 @@ use Rattle.consistency.specs.declared.Verdict.the-variants.{Met, Broken}
 use Rattle.consistency.proofs.SameVerdict.{verdict-same}
 use Rattle.consistency.proofs.ExplainedLaws.{explained-same}
 use Rattle.record.proofs.QuestionsAnswered.{number-most}
-use Rattle.explain.specs.Explanations.{refusalNumber, eventsTold, answerTo, explainedRecord, explanation, over, entriesAfter, workLeft}
+use Rattle.judge.specs.Judgments.{admission, admit}
+use Rattle.judge.specs.declared.Admission.{Admission}
+use Rattle.judge.proofs.JudgmentLaws.{by-admission}
+use Rattle.explain.specs.Explanations.{entriesAsked, refusalNumber, eventsTold, answerTo, explainedRecord, explanation, over, entriesAfter, workLeft}
 use Rattle.explain.specs.declared.Explanation.{Explanation}
 use Rattle.explain.specs.declared.Explanation.the-variants.{NoSuchNumber, FewEntries, Refused}
 
 -- ---- questions 1, 2 and 41
 
-module _ (words entries number : ℕ) (s : List ℕ) where
-  pub asked-short : words < 1024 → Refused ShortWork ≡ explanation (editionOf s) words entries number s
+module _ (words entries number : ℕ) (s : List ℕ) {r q : Admission} (asked : r ≡ admission words number) (found : r ≡ q) where
+  pub explained-as : admit q (Refused ShortWork) NoSuchNumber (ask (leb entriesAsked entries) FewEntries (explainedRecord (editionOf s) number s)) ≡ explanation (editionOf s) words entries number s
   unfolding explanation
-  asked-short h = rw (lt-leb 1024 words h)
+  explained-as = by-admission words number (Refused ShortWork) NoSuchNumber (ask (leb entriesAsked entries) FewEntries (explainedRecord (editionOf s) number s)) asked found
 
-  pub asked-low : 1024 ≤ words → number < 1 → NoSuchNumber ≡ explanation (editionOf s) words entries number s
-  unfolding explanation
-  asked-low h k = rw (le-leb 1024 words h, lt-leb 1 number k)
+pub few-entries : (entries : ℕ) (e : Explanation) → entries < entriesAsked → FewEntries ≡ ask (leb entriesAsked entries) FewEntries e
+few-entries entries e m = rw (lt-leb entriesAsked entries m)
 
-  pub asked-high : 1024 ≤ words → 13 < number → NoSuchNumber ≡ explanation (editionOf s) words entries number s
-  unfolding explanation
-  asked-high h k = let l : 1 ≤ number = omega arith in rw (le-leb 1024 words h, le-leb 1 number l, lt-leb number 13 k)
-
-  module _ (h : 1024 ≤ words) (l : 1 ≤ number) (k : number ≤ 13) where
-    pub asked-few : entries < 256 → FewEntries ≡ explanation (editionOf s) words entries number s
-    unfolding explanation
-    asked-few m = rw (le-leb 1024 words h, le-leb 1 number l, le-leb number 13 k, lt-leb 256 entries m)
-
-    pub asked-record : 256 ≤ entries → explainedRecord (editionOf s) number s ≡ explanation (editionOf s) words entries number s
-    unfolding explanation
-    asked-record m = rw (le-leb 1024 words h, le-leb 1 number l, le-leb number 13 k, le-leb 256 entries m)
+pub enough-entries : (entries : ℕ) (e : Explanation) → entriesAsked ≤ entries → e ≡ ask (leb entriesAsked entries) FewEntries e
+enough-entries entries e m = rw (le-leb entriesAsked entries m)
 
 -- ---- questions 3 to 10
 
@@ -93,16 +86,21 @@ module _ (p : ℕ) (s : List ℕ) where
 
 -- histories that agree
 module _ (p : Predicate) (h k : History) (same : Agree h k) where
-  pub told-alike : eventsTold p h (verdict p h) ≡ eventsTold p k (verdict p k)
+  told-alike : eventsTold p h (verdict p h) ≡ eventsTold p k (verdict p k)
   told-alike = go (verdict p h) refl ∙ ap (eventsTold p k) (verdict-same h k same p)
     where
       go : (v : Verdict) → verdict p h ≡ v → eventsTold p h v ≡ eventsTold p k v
       go Met e = refl
       go (Broken a b) e = explained-same p h a b e k (same .events)
 
-  pub answer-alike : answerTo p h (verdict p h) ≡ answerTo p k (verdict p k)
+  answer-alike : answerTo p h (verdict p h) ≡ answerTo p k (verdict p k)
   answer-alike = go (verdict p h) refl ∙ ap (answerTo p k) (verdict-same h k same p)
     where
       go : (v : Verdict) → verdict p h ≡ v → answerTo p h v ≡ answerTo p k v
       go Met e = refl
       go (Broken a b) e = rw (explained-same p h a b e k (same .events))
+
+  -- the answer and the slice, by the one, are those by the other
+  pub both-alike : {r : Explanation} (out : List ℕ) {out' : List ℕ} → (r ≡ answerTo p k (verdict p k)) × (out' ≡ over (eventsTold p k (verdict p k)) out)
+      → (r ≡ answerTo p h (verdict p h)) × (out' ≡ over (eventsTold p h (verdict p h)) out)
+  both-alike out e = (e .0 ∙ sym answer-alike, e .1 ∙ ap (λ (l : List ℕ). over l out) (sym told-alike))

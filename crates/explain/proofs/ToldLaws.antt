@@ -1,20 +1,23 @@
 -- What is told from the judge's tables is what is told of the history that they hold. Assumes nothing.
 use mathlib.Core.Path.{_≡_, refl, sym, ap, ap₂, _∙_}
-use mathlib.Core.Bool.{Bool, true, not, _&&_, and-comm}
+use mathlib.Core.Bool.{Bool, true, false, not, _&&_, _||_, and-comm}
 use mathlib.Core.List.{List, [], _∷_, _++_}
 use Prim.Native.Nat.{ℕ, _+_, _*_, _<_, _≤_}
 use native.Mathlib.Omega.{arith}
-use lib.ListN.{length, set, drop, length-append, length-take, length-drop}
+use native.Mathlib.Decide.{decLt}
+use lib.ListN.{length, set, take, drop, take-append-drop, length-append, length-take, length-drop}
 use Rattle.rows.specs.Lowest.{lowest}
-use Rattle.rows.specs.Row.{onlyFirst, rowAt}
+use Rattle.rows.specs.Row.{has, orRow, onlyFirst, rowAt}
 use Rattle.rows.specs.Relation.{related, reaches, Table, Graph}
 use Rattle.rows.specs.Shortest.{shortestChain}
-use Rattle.rows.proofs.RowLaws.{row-has}
+use Rattle.rows.proofs.Tests.{or-elim}
+use Rattle.rows.proofs.RowLaws.{has-past, has-or, length-or, row-has}
 use Rattle.rows.proofs.LowestLaws.{same-lowest}
-use Rattle.rows.proofs.TableLaws.{row-room, row-front}
+use Rattle.rows.proofs.TableLaws.{row-room, row-front, length-row-le, has-row}
 use Rattle.rows.proofs.SliceLaws.{sliceAt, slice-row}
 use Rattle.rows.proofs.ReachLaws.{reaches-same, table-related, table-graph}
 use Rattle.rows.proofs.ShortestLaws.{chain-same}
+use Rattle.record.specs.Layout.{rowWords}
 use Rattle.record.specs.Terms.{Terms}
 use Rattle.record.specs.History.{History, under, vis}
 use Rattle.record.specs.Words.{isWriteIn, historyFrom}
@@ -26,12 +29,12 @@ use Rattle.consistency.specs.declared.Telling.{Telling}
 use Rattle.consistency.specs.declared.Telling.the-variants.{ByChain, ByMiddle, ByPair}
 use Rattle.consistency.specs.declared.Verdict.the-variants.{Met, Broken}
 use Rattle.consistency.proofs.ExplainedLaws.{Has, broke}
-use Rattle.events.specs.Given.{Given, Groups}
+use Rattle.events.specs.Given.{Given, writesRow, Groups}
 use Rattle.events.proofs.GivenLaws.{seen-table}
 use Rattle.tables.specs.Tables.{part, Prepared}
-use Rattle.tables.specs.Sweep.{Sweeps}
 use Rattle.tables.proofs.PartLaws.{part-row}
 use Rattle.explain.specs.Explanations.{eventsTold, answerTo, over}
+use Rattle.explain.specs.Steps.{stepIn}
 use Rattle.explain.specs.declared.Explanation.the-variants.{Told, NoBreak}
 
 -- ---- one event written, and two
@@ -67,53 +70,88 @@ none-told p h e out = rw e (refl, refl)
 -- ---- the tables
 
 -- row b of so's table, as code cuts it out
-pub so-row : (n b : ℕ) (t : List ℕ) → b < n → sliceAt t 4 (1 * n + b) ≡ rowAt (part n 4 1 t) 4 b
-so-row n b t h = slice-row t 4 (1 * n + b) ∙ sym (part-row n 4 1 t b h)
+pub so-row : (n b : ℕ) (t : List ℕ) → b < n → sliceAt t rowWords (1 * n + b) ≡ rowAt (part n rowWords 1 t) rowWords b
+so-row n b t h = slice-row t rowWords (1 * n + b) ∙ sym (part-row n rowWords 1 t b h)
 
-module _ (n : ℕ) (l v g t : List ℕ) (q : Terms) (given : Given n 4 l v) (ready : Prepared n 4 (under q (historyFrom n 4 l v)) t) where
+module _ (n : ℕ) (l v g t : List ℕ) (q : Terms) (given : Given n rowWords l v) (ready : Prepared n rowWords (under q (historyFrom n rowWords l v)) t) where
   abbrev h : History
-  h = under q (historyFrom n 4 l v)
+  h = under q (historyFrom n rowWords l v)
 
   abbrev sos : List ℕ
-  sos = part n 4 1 t
+  sos = part n rowWords 1 t
 
-  pub so-graph : Graph sos n 4
-  so-graph = table-graph n 4 (so h) sos (ready .timed .sos) (omega (arith, ready .size, length-take (n * 4) (drop (1 * (n * 4)) t), length-drop (1 * (n * 4)) t)) (given .rows .wide) (given .rows .fits)
+  pub so-graph : Graph sos n rowWords
+  so-graph = table-graph n rowWords (so h) sos (ready .timed .sos) (omega (arith, ready .size, length-take (n * rowWords) (drop (1 * (n * rowWords)) t), length-drop (1 * (n * rowWords)) t)) (given .rows .wide) (given .rows .fits)
 
-  seen : Table n 4 (vis h) v
+  seen : Table n rowWords (vis h) v
   unfolding vis historyFrom
-  seen = seen-table n 4 l v given
+  seen = seen-table n rowWords l v given
 
-  pub middle-told : (a b : ℕ) → a < n → b < n → Groups n 4 l g → lowest n (λ m. onlyFirst (rowAt sos 4 b) (rowAt g 4 256) m && related v 4 a m) ∷ b ∷ [] ≡ toldBy ByMiddle h a b
+  pub middle-told : (a b : ℕ) → a < n → b < n → Groups n rowWords l g → lowest n (λ m. onlyFirst (rowAt sos rowWords b) (rowAt g rowWords writesRow) m && related v rowWords a m) ∷ b ∷ [] ≡ toldBy ByMiddle h a b
   unfolding toldBy middleOf historyFrom
   middle-told a b left right w =
       ap (λ (m : ℕ). m ∷ b ∷ [])
-      (same-lowest n (λ m. onlyFirst (rowAt sos 4 b) (rowAt g 4 256) m && related v 4 a m) (λ m. vis h a m && (read h m && so h m b))
+      (same-lowest n (λ m. onlyFirst (rowAt sos rowWords b) (rowAt g rowWords writesRow) m && related v rowWords a m) (λ m. vis h a m && (read h m && so h m b))
       (λ m i.
-      ap₂ _&&_ (ap₂ (λ (x y : Bool). x && not y) (table-related n 4 (so h) sos (ready .timed .sos) m b i right) (row-has n (isWriteIn l) (rowAt g 4 256) (w .writes) m i)) (table-related n 4 (vis h) v seen a m left i)
+      ap₂ _&&_ (ap₂ (λ (x y : Bool). x && not y) (table-related n rowWords (so h) sos (ready .timed .sos) m b i right) (row-has n (isWriteIn l) (rowAt g rowWords writesRow) (w .writes) m i)) (table-related n rowWords (vis h) v seen a m left i)
       ∙ and-comm (so h m b && read h m) (vis h a m) ∙ ap (λ (x : Bool). vis h a m && x) (and-comm (so h m b) (read h m))))
 
--- ---- the steps of hb, kept over the front of a slice before their table is closed
+-- ---- the steps of hb, so joined with vis over the front of a slice
 
-module _ (n : ℕ) (l v t : List ℕ) (q : Terms) (given : Given n 4 l v) (sw : Sweeps n 4 (under q (historyFrom n 4 l v)) t) (size : 6 * (n * 4) ≤ length t)
-    (steps rest : List ℕ) (kept : steps ≡ part n 4 4 t ++ rest) where
+module _ (n : ℕ) (v t steps rest : List ℕ) (seen : Graph v n rowWords) (sos : Graph (part n rowWords 1 t) n rowWords)
+    (filled : steps ≡ orRow (part n rowWords 1 t ++ rest) (take (n * rowWords) v)) where
+  abbrev first : List ℕ
+  first = part n rowWords 1 t
+
+  abbrev second : List ℕ
+  second = take (n * rowWords) v
+
+  first-row : (y : ℕ) → y < n → rowAt (first ++ rest) rowWords y ≡ rowAt first rowWords y
+  first-row y h = row-front first rest rowWords y (row-room n rowWords y (length first) h (sos .size))
+
+  second-row : (y : ℕ) → y < n → rowAt second rowWords y ≡ rowAt v rowWords y
+  second-row y h =
+      sym (row-front second (drop (n * rowWords) v) rowWords y (row-room n rowWords y (length second) h (omega (arith, seen .size, length-take (n * rowWords) v))))
+      ∙ ap (λ (g : List ℕ). rowAt g rowWords y) (take-append-drop (n * rowWords) v)
+
+  shorter : length second ≤ length (first ++ rest)
+  shorter = omega (arith, length-take (n * rowWords) v, length-append first rest, sos .size)
+
+  pub steps-related : (x y : ℕ) → y < n → related steps rowWords x y ≡ stepIn n t v x y
+  steps-related x y h = elim (decLt x (64 * rowWords)) [
+    | yes i ↦ has-row steps rowWords y x i ∙ ap (λ (g : List ℕ). has g (64 * (y * rowWords) + x)) filled
+        ∙ has-or (first ++ rest) second (64 * (y * rowWords) + x) shorter
+        ∙ ap₂ _||_ (sym (has-row (first ++ rest) rowWords y x i) ∙ ap (λ (r : List ℕ). has r x) (first-row y h)) (sym (has-row second rowWords y x i) ∙ ap (λ (r : List ℕ). has r x) (second-row y h))
+    | no i ↦ let far : 64 * rowWords ≤ x = omega arith in past steps far ∙ sym (ap₂ _||_ (past first far) (past v far))
+  ]
+    where
+      past : (g : List ℕ) → 64 * rowWords ≤ x → has (rowAt g rowWords y) x ≡ false
+      past g far = has-past (rowAt g rowWords y) x (omega (arith, length-row-le g rowWords y))
+
+  pub steps-graph : Graph steps n rowWords
+  steps-graph = record {
+    size = omega (arith, ap length filled, length-or (first ++ rest) second, length-append first rest, sos .size);
+    wide = sos .wide;
+    fits = sos .fits;
+    inside = λ b x h e. or-elim (related first rowWords x b) (related v rowWords x b) (sym (steps-related x b h) ∙ e) (sos .inside b x h) (seen .inside b x h);
+  }
+
+-- what the tables say is a step
+
+module _ (n : ℕ) (l v t : List ℕ) (q : Terms) (given : Given n rowWords l v) (ready : Prepared n rowWords (under q (historyFrom n rowWords l v)) t) where
   abbrev said : History
-  said = under q (historyFrom n 4 l v)
+  said = under q (historyFrom n rowWords l v)
 
-  part-long : length (part n 4 4 t) ≡ n * 4
-  part-long = omega (arith, size, length-take (n * 4) (drop (4 * (n * 4)) t), length-drop (4 * (n * 4)) t)
-
-  steps-table : Table n 4 (step said) steps
-  steps-table b i = rw (kept, row-front (part n 4 4 t) rest 4 b (row-room n 4 b (length (part n 4 4 t)) i (omega (arith, part-long)))) (sw .steps b i)
-
-  pub kept-graph : Graph steps n 4
-  kept-graph = table-graph n 4 (step said) steps steps-table (omega (arith, ap length kept, length-append (part n 4 4 t) rest, part-long)) (given .rows .wide) (given .rows .fits)
+  step-held : (a b : ℕ) → a < n → b < n → stepIn n t v a b ≡ step said a b
+  unfolding step vis historyFrom
+  step-held a b i j =
+      ap₂ _||_ (table-related n rowWords (so said) (part n rowWords 1 t) (ready .timed .sos) a b i j) (table-related n rowWords (vis said) v (seen-table n rowWords l v given) a b i j)
 
   module _ (a b : ℕ) (left : a < n) (right : b < n) (has : Has ByChain said a b) where
-    pub chain-reached : reaches n (related steps 4) a b ≡ true
+    pub chain-reached : reaches n (stepIn n t v) a b ≡ true
     unfolding Has hb historyFrom
-    chain-reached = reaches-same n (related steps 4) (step said) (table-related n 4 (step said) steps steps-table) a b left right ∙ has
+    chain-reached = reaches-same n (stepIn n t v) (step said) step-held a b left right ∙ has
 
-    pub chain-told : shortestChain n (related steps 4) a b ≡ toldBy ByChain said a b
+    pub chain-told : shortestChain n (stepIn n t v) a b ≡ toldBy ByChain said a b
     unfolding toldBy historyFrom
-    chain-told = chain-same n (related steps 4) (step said) (table-related n 4 (step said) steps steps-table) b right a left chain-reached
+    chain-told = chain-same n (stepIn n t v) (step said) step-held b right a left chain-reached

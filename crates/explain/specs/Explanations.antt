@@ -4,7 +4,7 @@ use mathlib.Core.List.{List, [], _++_}
 use Prim.Native.Nat.{ℕ}
 use lib.Dec.{eqb, leb}
 use lib.ListN.{length, drop}
-use Rattle.record.specs.Layout.{Layout, workWords}
+use Rattle.record.specs.Layout.{Layout, editionOf, mostEvents}
 use Rattle.record.specs.History.{History, historyOf}
 use Rattle.record.specs.Questions.{numberOf, placeOf, ask, questions}
 use Rattle.record.specs.Words.{workAfter}
@@ -14,13 +14,14 @@ use Rattle.consistency.specs.Explained.{explained}
 use Rattle.consistency.specs.declared.Predicate.{Predicate}
 use Rattle.consistency.specs.declared.Verdict.{Verdict}
 use Rattle.consistency.specs.declared.Verdict.the-variants.{Met, Broken}
-use Rattle.judge.specs.Judgments.{isNumber, packedRefusal}
+use Rattle.packed.specs.Packed.{packedRefusal}
+use Rattle.judge.specs.Judgments.{admission, admit}
 use Rattle.explain.specs.declared.Explanation.{Explanation}
 use Rattle.explain.specs.declared.Explanation.the-variants.{Told, NoSuchNumber, FewEntries, NoBreak, Refused}
 
--- 41: the slice has an entry for every event that a record may have
-abbrev pub entriesAsked : Layout → ℕ
-entriesAsked L = L .events
+-- 41: the slice has an entry for every event that a record may have, of whatever edition
+abbrev pub entriesAsked : ℕ
+entriesAsked = mostEvents
 
 -- the events that are told of a verdict: none where the predicate is met
 abbrev pub eventsTold : Predicate → History → Verdict → List ℕ
@@ -41,9 +42,8 @@ explainedRecord L p s =
 -- questions 1, 2 and 41 before them, with a work slice of so many words, and a slice of so many entries
 unfoldable pub explanation : Layout → ℕ → ℕ → ℕ → List ℕ → Explanation
 explanation L words entries p s =
-    ask (leb (workWords L) words) (Refused ShortWork)
-    (ask (isNumber p) NoSuchNumber
-    (ask (leb (entriesAsked L) entries) FewEntries (explainedRecord L p s)))
+    admit (admission words p) (Refused ShortWork) NoSuchNumber
+    (ask (leb entriesAsked entries) FewEntries (explainedRecord L p s))
 
 -- a list written over the front of a slice; the entries beyond it stay
 abbrev pub over : List ℕ → List ℕ → List ℕ
@@ -79,3 +79,15 @@ packedExplanation NoSuchNumber = packedRefusal (refusalNumber NoSuchNumber) (ref
 packedExplanation FewEntries = packedRefusal (refusalNumber FewEntries) (refusalPlace FewEntries)
 packedExplanation NoBreak = packedRefusal (refusalNumber NoBreak) (refusalPlace NoBreak)
 packedExplanation (Refused r) = packedRefusal (refusalNumber (Refused r)) (refusalPlace (Refused r))
+
+-- ---- of a record's bytes alone, whose letters say the edition
+
+abbrev pub explanationOf : ℕ → ℕ → ℕ → List ℕ → Explanation
+explanationOf words entries p s = explanation (editionOf s) words entries p s
+
+-- both slices after an explanation
+abbrev pub entriesAfterIt : Explanation → ℕ → List ℕ → List ℕ → List ℕ
+entriesAfterIt e p s out = entriesAfter (editionOf s) (refusalNumber e) p s out
+
+abbrev pub workAfterIt : Explanation → List ℕ → List ℕ → List ℕ
+workAfterIt e s work = workLeft (editionOf s) (refusalNumber e) s work

@@ -1,3 +1,4 @@
 -- What the contracts of this crate cite.
 pub mod Explanations
 pub mod Means
+pub mod Steps

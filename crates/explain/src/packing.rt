@@ -11,11 +11,9 @@ pub fn pack(e: Explanation) -> u64
 {
     match e {
         Explanation::Told(k) => k as u64,
-        Explanation::NoSuchNumber => 2099200,
-        Explanation::FewEntries => 2139136,
-        Explanation::NoBreak => 2140160,
-        Explanation::Refused(r) => 2097152
-            + 1024 * record::number(r) as u64
-            + record::place(r) as u64,
+        Explanation::NoSuchNumber => packed::refusal(2, 0),
+        Explanation::FewEntries => packed::refusal(41, 0),
+        Explanation::NoBreak => packed::refusal(42, 0),
+        Explanation::Refused(r) => packed::refusal(record::number(r), record::place(r)),
     }
 }

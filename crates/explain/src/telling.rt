@@ -4,23 +4,25 @@ use consistency::Predicate;
 use consistency::Telling;
 use consistency::Verdict;
 use judge::prepared;
-use tables::groups;
-use tables::sweep;
+use record::layout;
 ghost use mathlib.Core.Path.{_≡_};
-ghost use mathlib.Core.Bool.{_&&_};
+ghost use mathlib.Core.Bool.{true, _&&_};
 ghost use mathlib.Core.List.{_∷_, _++_};
 ghost use Prim.Native.Nat.{_*_, _<_, _≤_};
-ghost use lib.ListN.{length, drop};
+ghost use lib.ListN.{length, take, drop};
 ghost use Rattle.rows.specs.Lowest.{lowest};
-ghost use Rattle.rows.specs.Row.{rowAt, onlyFirst};
-ghost use Rattle.rows.specs.Relation.{related, Graph};
-ghost use Rattle.record.specs.History.{under};
-ghost use Rattle.record.specs.Words.{historyFrom, termsFrom};
+ghost use Rattle.rows.specs.Row.{rowAt, orRow, onlyFirst};
+ghost use Rattle.rows.specs.Relation.{reaches, related, Graph};
+ghost use Rattle.rows.specs.Shortest.{shortestChain};
+ghost use Rattle.record.specs.Layout.{mostEvents, rowWords};
 ghost use Rattle.consistency.specs.Predicates.{verdict};
 ghost use Rattle.consistency.specs.Explained.{telling};
-ghost use Rattle.events.specs.Given.{Given};
+ghost use Rattle.events.specs.Given.{writesRow, groupRows};
 ghost use Rattle.tables.specs.Tables.{part};
-ghost use Rattle.explain.specs.Explanations.{answerTo, eventsTold, over};
+ghost use Rattle.judge.specs.Judgments.{saidBy};
+ghost use Rattle.judge.specs.Ready.{ReadInto};
+ghost use Rattle.explain.specs.Explanations.{entriesAsked, answerTo, eventsTold, over};
+ghost use Rattle.explain.specs.Steps.{stepIn};
 
 // How the break of a predicate is told.
 fn way(p: Predicate) -> Telling
@@ -45,52 +47,63 @@ fn way(p: Predicate) -> Telling
 
 // The lowest middle event between a and b, then b.
 fn write_middle(v: &[u64], n: usize, t: &[u64], groups: &[u64], a: usize, b: usize, out: &mut [u16])
-    requires { ⌜ Graph (now v) n 4 × Graph (part n 4 1 (now t)) n 4 × (6 * (n * 4) ≤ length (now t)) ⌝ }
-    requires { ⌜ (1036 ≤ length (now groups)) × (a < n) × (b < n) × (2 ≤ length (now out)) ⌝ }
-    ensures { λ _. ⌜ now (out .exit) ≡ lowest n (λ m. onlyFirst (rowAt (part n 4 1 (now (t .entry))) 4 b) (rowAt (now (groups .entry)) 4 256) m && related (now (v .entry)) 4 a m) ∷ b ∷ drop 2 (now (out .entry)) ⌝ }
+    requires { ⌜ Graph (now v) n rowWords × Graph (part n rowWords 1 (now t)) n rowWords × (6 * (n * rowWords) ≤ length (now t)) ⌝ }
+    requires { ⌜ (groupRows * rowWords ≤ length (now groups)) × (a < n) × (b < n) × (2 ≤ length (now out)) ⌝ }
+    ensures { λ _. ⌜ now (out .exit) ≡ lowest n (λ m. onlyFirst (rowAt (part n rowWords 1 (now (t .entry))) rowWords b) (rowAt (now (groups .entry)) rowWords writesRow) m && related (now (v .entry)) rowWords a m) ∷ b ∷ drop 2 (now (out .entry)) ⌝ }
 {
-    let at = (prepared::SO * n + b) * 4;
-    let writes = prepared::WRITES * 4;
-    let middle = chains::lowest_after(v, n, a, &t[at..at + 4], &groups[writes..writes + 4]);
+    let at = (prepared::SO * n + b) * layout::ROW;
+    let writes = events::WRITES * layout::ROW;
+    let middle = chains::lowest_after(
+        v,
+        n,
+        a,
+        &t[at..at + layout::ROW],
+        &groups[writes..writes + layout::ROW],
+    );
     out[0] = middle as u16;
     out[1] = b as u16;
 }
 
-// The steps of hb, before their table is closed.
-fn keep_steps(n: usize, t: &[u64], steps: &mut [u64])
-    requires { ⌜ (6 * (n * 4) ≤ length (now t)) × (n * 4 ≤ length (now steps)) ⌝ }
-    ensures { λ _. ⌜ now (steps .exit) ≡ part n 4 4 (now (t .entry)) ++ drop (n * 4) (now (steps .entry)) ⌝ }
+// The steps of hb, each so or vis: of a table's rows, those of so joined with the visible sets.
+fn fill_steps(v: &[u64], n: usize, t: &[u64], steps: &mut [u64])
+    requires { ⌜ (n * rowWords ≤ length (now v)) × (6 * (n * rowWords) ≤ length (now t)) × (n * rowWords ≤ length (now steps)) ⌝ }
+    ensures { λ _. ⌜ now (steps .exit) ≡ orRow (part n rowWords 1 (now (t .entry)) ++ drop (n * rowWords) (now (steps .entry))) (take (n * rowWords) (now (v .entry))) ⌝ }
 {
-    let size = n * 4;
-    let at = prepared::HB * size;
+    let size = n * layout::ROW;
+    let at = prepared::SO * size;
     rows::copy(steps, &t[at..at + size]);
+    rows::union(steps, &v[..size]);
 }
 
-// Judges a predicate, and tells of its break.
-pub fn tell(
-    p: Predicate,
-    l: &[u64],
-    v: &[u64],
-    terms: &[u64],
-    n: usize,
-    out: &mut [u16],
-) -> Explanation
-    requires { ⌜ Given n 4 (now l) (now v) × (17 ≤ length (now terms)) × (256 ≤ length (now out)) ⌝ }
-    ensures { λ r. ⌜ r ≡ answerTo p (under (termsFrom (now (terms .entry))) (historyFrom n 4 (now (l .entry)) (now (v .entry)))) (verdict p (under (termsFrom (now (terms .entry))) (historyFrom n 4 (now (l .entry)) (now (v .entry))))) ⌝ }
-    ensures { λ _. ⌜ now (out .exit) ≡ over (eventsTold p (under (termsFrom (now (terms .entry))) (historyFrom n 4 (now (l .entry)) (now (v .entry)))) (verdict p (under (termsFrom (now (terms .entry))) (historyFrom n 4 (now (l .entry)) (now (v .entry)))))) (now (out .entry)) ⌝ }
+// A shortest chain from a to b, and how many events it has.
+fn write_chain(v: &[u64], n: usize, t: &[u64], a: usize, b: usize, out: &mut [u16]) -> usize
+    requires { ⌜ Graph (now v) n rowWords × Graph (part n rowWords 1 (now t)) n rowWords × (6 * (n * rowWords) ≤ length (now t)) × (n ≤ mostEvents) ⌝ }
+    requires { ⌜ (a < n) × (b < n) × (n ≤ length (now out)) ⌝ }
+    requires { ⌜ reaches n (stepIn n (now t) (now v)) a b ≡ true ⌝ }
+    ensures { λ r. ⌜ r ≡ length (shortestChain n (stepIn n (now (t .entry)) (now (v .entry))) a b) ⌝ }
+    ensures { λ r. ⌜ now (out .exit) ≡ shortestChain n (stepIn n (now (t .entry)) (now (v .entry))) a b ++ drop r (now (out .entry)) ⌝ }
 {
-    let mut groups = [0u64; 1036];
-    groups::fill(l, n, 4, &mut groups);
-    let mut t = [0u64; 6144];
-    sweep::sweep(l, v, terms, n, 4, &groups, &mut t);
-    let mut steps = [0u64; 1024];
-    keep_steps(n, &t, &mut steps);
-    prepared::finish(l, n, &mut t);
-    let found = prepared::judge(p, l, v, terms, n, &groups, &t);
+    let mut steps = [0u64; layout::WORK];
+    fill_steps(v, n, t, &mut steps);
+    chains::shortest(&steps, n, layout::ROW, a, b, out)
+}
+
+// Judges a predicate of a record that passed, and tells of its break; v begins with its visible sets.
+pub fn tell(p: Predicate, s: &[u8], v: &[u64], out: &mut [u16]) -> Explanation
+    requires { ⌜ ReadInto (now s) (now v) × (entriesAsked ≤ length (now out)) ⌝ }
+    ensures { λ r. ⌜ r ≡ answerTo p (saidBy (now (s .entry))) (verdict p (saidBy (now (s .entry)))) ⌝ }
+    ensures { λ _. ⌜ now (out .exit) ≡ over (eventsTold p (saidBy (now (s .entry))) (verdict p (saidBy (now (s .entry))))) (now (out .entry)) ⌝ }
+{
+    let mut l = [0u64; layout::HEADS];
+    let mut terms = [0u64; layout::TERMS];
+    let mut groups = [0u64; events::GROUPS * layout::ROW];
+    let mut t = [0u64; prepared::TABLES * layout::WORK];
+    let n = prepared::prepare(s, v, &mut l, &mut terms, &mut groups, &mut t);
+    let found = prepared::judge(p, &l, v, &terms, n, &groups, &t);
     if let Verdict::Broken(a, b) = found {
         match way(p) {
             Telling::ByChain => {
-                return Explanation::Told(chains::shortest(&steps, n, 4, a, b, out));
+                return Explanation::Told(write_chain(v, n, &t, a, b, out));
             }
             Telling::ByMiddle => {
                 write_middle(v, n, &t, &groups, a, b, out);

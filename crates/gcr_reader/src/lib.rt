@@ -16,5 +16,5 @@ pub extern "C" fn gcr_read(s: &[u8], work: &mut [u64]) -> u64
     if number == 0 {
         return 0;
     }
-    2097152 + 1024 * number as u64 + record::place(r) as u64
+    packed::refusal(number, record::place(r))
 }

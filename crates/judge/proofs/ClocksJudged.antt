@@ -1,18 +1,18 @@
 -- Of two passing records that differ in the difference of clocks alone: lists without predicates 3 and 4 have one answer, and what the smaller difference
 -- met, the larger meets. Assumes nothing.
 use mathlib.Core.Path.{_≡_, sym, ap, ap₂, _∙_, subst}
-use mathlib.Core.Bool.{Bool, true, false, cond, _&&_}
+use mathlib.Core.Bool.{false, cond, _&&_}
 use mathlib.Core.List.{List}
 use Prim.Native.Nat.{ℕ, _+_, _-_, _*_, _/_, _%_, _≤_, _<_}
 use native.Mathlib.Omega.{arith}
 use native.Mathlib.Decide.{decLt}
 use borrow.Author.Tests.{lt-ltb, le-ltb}
-use lib.Dec.{eqb, ltb, leb}
+use lib.Dec.{eqb, ltb}
 use lib.ListN.{getD, take, drop}
 use lib.Seq.{take-take, getD-take, getD-drop}
 use Rattle.rows.specs.Octets.{little, hasByte}
 use Rattle.rows.specs.Row.{bitOf}
-use Rattle.record.specs.Layout.{Layout, edition, gcr2, editionOf, byte, countIn, slotAt, same, workWords}
+use Rattle.record.specs.Layout.{Layout, edition, gcr2, editionOf, byte, countIn, slotAt, same}
 use Rattle.record.specs.Terms.{Held, none, value, openingIn, differenceIn}
 use Rattle.record.specs.History.{historyOf, SameEvents}
 use Rattle.record.specs.Questions.{questions}
@@ -25,8 +25,10 @@ use Rattle.consistency.specs.declared.Outcome.the-variants.{AllMet}
 use Rattle.consistency.specs.declared.Predicate.the-variants.{RVal}
 use Rattle.consistency.proofs.SameVerdict.{SameFor}
 use Rattle.consistency.proofs.OtherClocks.{list-steady, list-larger}
-use Rattle.judge.specs.Judgments.{isNumber, pick, judgedList, judged}
+use Rattle.judge.specs.Judgments.{admission, admit, judgedList, judged}
 use Rattle.judge.specs.Clocks.{OnOtherClocks, ByClocks}
+use Rattle.judge.specs.declared.Admission.{Admission}
+use Rattle.judge.specs.declared.Admission.the-variants.{Granted, TooFewWords, OutOfRange}
 use Rattle.judge.specs.declared.Judgment.{Judgment}
 use Rattle.judge.specs.declared.Judgment.the-variants.{Judged, NoSuchNumber, Refused}
 
@@ -104,7 +106,7 @@ module _ (s s′ : List ℕ) (c : OnOtherClocks s s′) where
 
   -- of a record that passes
   abbrev about : ℕ → ℕ → Outcome → Judgment
-  about words number o = pick (leb (workWords L) words) (pick (isNumber number) (Judged o) NoSuchNumber) (Refused ShortWork)
+  about words number o = admit (admission words number) (Refused ShortWork) NoSuchNumber (Judged o)
 
   answer : (words number : ℕ) (ps : List ℕ) → judged (editionOf s) words number s ps ≡ about words number (firstBroken ps (historyOf (editionOf s) s))
   unfolding judged judgedList
@@ -125,16 +127,16 @@ module _ (s s′ : List ℕ) (c : OnOtherClocks s s′) where
   unfolding historyOf
   judged-larger words number ps more met =
       answer′ words number ps
-      ∙ go (leb (workWords L) words) (isNumber number) (firstBroken ps (historyOf L s)) (firstBroken ps (historyOf L s′))
+      ∙ go (admission words number) (firstBroken ps (historyOf L s)) (firstBroken ps (historyOf L s′))
       (list-larger (historyOf L s) (historyOf L s′) (same-events L) (same-openings L)
       (subst (λ (K : Layout). differenceIn L s ≤ differenceIn K s′) (sym one-edition) more) ps)
       (sym (answer words number ps) ∙ met)
     where
-      go : (t u : Bool) (o o′ : Outcome) → (o ≡ AllMet → o′ ≡ AllMet) → pick t (pick u (Judged o) NoSuchNumber) (Refused ShortWork) ≡ Judged AllMet
-          → pick t (pick u (Judged o′) NoSuchNumber) (Refused ShortWork) ≡ Judged AllMet
-      go true true o o′ f e = ap Judged (f cc)
-      go true false o o′ f e = e
-      go false u o o′ f e = e
+      go : (x : Admission) (o o′ : Outcome) → (o ≡ AllMet → o′ ≡ AllMet) → admit x (Refused ShortWork) NoSuchNumber (Judged o) ≡ Judged AllMet
+          → admit x (Refused ShortWork) NoSuchNumber (Judged o′) ≡ Judged AllMet
+      go TooFewWords o o′ f e = e
+      go OutOfRange o o′ f e = e
+      go Granted o o′ f e = ap Judged (f cc)
 
 pub by-clocks : (words number : ℕ) (ps s : List ℕ) {j : Judgment} → j ≡ judged (editionOf s) words number s ps → ByClocks words number ps s j
 by-clocks words number ps s e = record {

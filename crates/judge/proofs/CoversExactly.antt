@@ -7,7 +7,7 @@ use mathlib.Core.List.{List}
 use Prim.Native.Nat.{ℕ, _≤_}
 use native.Mathlib.Omega.{arith}
 use Rattle.rows.proofs.Tests.{split, tell}
-use Rattle.record.specs.Layout.{Layout, gcr2, editionOf}
+use Rattle.record.specs.Layout.{Layout, gcr2, editionOf, workWords}
 use Rattle.record.specs.History.{historyOf}
 use Rattle.record.specs.Encode.{recordBytes}
 use Rattle.record.specs.declared.Reading.the-variants.{Passed}
@@ -63,7 +63,7 @@ tells-others words m s {told} e = record {
 }
 
 pub covers-following : (i j : ℕ) → follows i j ≡ true → Covers i j
-covers-following i j f s = met-too 1024 s i j f
+covers-following i j f s = met-too workWords s i j f
 
 -- each of the eighteen
 pub covers-listed : (i j : ℕ) → listed implications i j ≡ true → Covers i j
@@ -81,8 +81,8 @@ module _ (k : ℕ) (least : 1 ≤ k) (most : k ≤ 8) where
   answer-is m e =
       let well = listed-well-formed 2 (numberedRecord k .events) (record-right k least most) in
       let written : Encoded gcr2 2 (separatingHistory k) = gcr2-encoded 2 (separatingHistory k) well in
-      ap (λ (L : Layout). modelJudgment L 1024 m bytes) (gcr2-back 2 (separatingHistory k) well)
-      ∙ to-outcome gcr2 1024 m (listOf m) bytes (record { work = omega arith; inRange = e }) (answer-of gcr2 bytes Passed (written .passes))
+      ap (λ (L : Layout). modelJudgment L workWords m bytes) (gcr2-back 2 (separatingHistory k) well)
+      ∙ to-outcome gcr2 workWords m (listOf m) bytes (record { work = omega arith; inRange = e }) (answer-of gcr2 bytes Passed (written .passes))
       ∙ ap Judged (sym (firstBroken-same (separatingHistory k) (historyOf gcr2 bytes) (written .agrees) (listOf m)))
 
 outcome-met : (o : Outcome) → isMet o ≡ true → o ≡ AllMet

@@ -3,6 +3,7 @@ use mathlib.Core.Path.{_≡_, refl, sym, ap, _∙_}
 use mathlib.Core.List.{List}
 use Prim.Native.Nat.{ℕ, _/_}
 use native.Mathlib.Omega.{arith}
+use Rattle.record.specs.Layout.{workWords}
 use Rattle.consistency.specs.declared.Outcome.the-variants.{AllMet, BrokenAt}
 use Rattle.judge.specs.Judgments.{packedJudgment}
 use Rattle.judge.specs.Covers.{IsBroken, broken-at, answer, TellsHosts}
@@ -29,9 +30,9 @@ broken-number (Judged (BrokenAt p a b)) broken-at f = omega arith
 
 pub tells-hosts : (m : ℕ) (s : List ℕ) {number : ℕ} → number ≡ packedJudgment (answer s m) → TellsHosts m s number
 tells-hosts m s {number} e =
-    let tells = tells-others 1024 m s refl in
+    let tells = tells-others workWords m s refl in
     record {
       met = λ q j f. ap packedJudgment (tells .met (number-met (answer s m) (sym e ∙ q)) j f);
       broken = λ q i f.
-          broken-number (answer s i) (tells .broken (number-broken (answer s m) (sym (ap (λ (x : ℕ). x / 1048576) e) ∙ q)) i f) (model-fits s 1024 i);
+          broken-number (answer s i) (tells .broken (number-broken (answer s m) (sym (ap (λ (x : ℕ). x / 1048576) e) ∙ q)) i f) (model-fits s workWords i);
     }

@@ -1,9 +1,9 @@
 -- Judgments by their tests, and the host's number of each: a break is at two events, so every part of the number fits. Assumes nothing.
 use mathlib.Core.Path.{_≡_, refl, sym, ap, ap₂, _∙_}
 use mathlib.Core.Logic.{_≢_}
-use mathlib.Core.Bool.{Bool, true, false}
+use mathlib.Core.Bool.{Bool, true, false, _&&_}
 use mathlib.Core.List.{List, [], _∷_, _++_}
-use Prim.Native.Nat.{ℕ, zero, suc, _+_, _*_, _^_, _<_, _≤_, min}
+use Prim.Native.Nat.{ℕ, zero, suc, _+_, _^_, _<_, _≤_, min}
 use native.Mathlib.Omega.{arith}
 use borrow.Author.Tests.{eq-eqb, ne-eqb, eqb-true, le-leb, lt-leb, leb-true, leb-false, ltb-true, ltb-false}
 use lib.Dec.{eqb, leb, ltb}
@@ -12,21 +12,24 @@ use lib.Seq.{take-all}
 use native.Mathlib.Numerals.{add-one}
 use Rattle.rows.proofs.Tests.{split}
 use Rattle.rows.proofs.FrontLaws.{replicate-more}
-use Rattle.record.specs.Layout.{editionOf, countIn}
+use Rattle.packed.specs.Packed.{packedBreak, packedRefusal}
+use Rattle.record.specs.Layout.{editionOf, countIn, mostEvents, workWords}
 use Rattle.record.specs.History.{History, historyOf, Agree}
-use Rattle.record.specs.Questions.{numberOf, placeOf, questions, reading}
+use Rattle.record.specs.Questions.{numberOf, placeOf, ask, questions, reading}
 use Rattle.record.specs.declared.Reading.{Reading}
 use Rattle.record.specs.declared.Reading.the-variants.{Passed, ShortWork}
 use Rattle.record.proofs.QuestionLaws.{reading-short, reading-long}
 use Rattle.record.proofs.QuestionsAnswered.{number-passed, number-most, place-small, passed-count}
 use Rattle.consistency.specs.Predicates.{breaks, rule, numbered, verdict}
 use Rattle.consistency.specs.Models.{listOf, orElse, firstBroken}
-use Rattle.judge.specs.Judgments.{isNumber, pick, judgedList, judged, predicateJudgment, modelJudgment, packedJudgment, packedJudgments, laidOver}
+use Rattle.judge.specs.Judgments.{isNumber, admission, admit, judgedList, judged, predicateJudgment, modelJudgment, packedJudgment, packedJudgments, laidOver}
 use Rattle.judge.specs.Lists.{upToZero, Numbers, packedVerdict, packedVerdicts}
 use Rattle.consistency.specs.declared.Verdict.{Verdict}
 use Rattle.consistency.specs.declared.Verdict.the-variants.{Met, Broken}
 use Rattle.consistency.specs.declared.Outcome.{Outcome}
 use Rattle.consistency.specs.declared.Outcome.the-variants.{AllMet, BrokenAt}
+use Rattle.judge.specs.declared.Admission.{Admission}
+use Rattle.judge.specs.declared.Admission.the-variants.{Granted, TooFewWords, OutOfRange}
 use Rattle.judge.specs.declared.Judgment.{Judgment}
 use Rattle.judge.specs.declared.Judgment.the-variants.{Judged, NoSuchNumber, Refused}
 use Rattle.consistency.proofs.FirstPairLaws.{Says, first-says}
@@ -46,22 +49,48 @@ module _ (s ps : List ℕ) (r : Reading) (asked : r ≡ questions (editionOf s) 
 
 -- ---- questions 1 and 2 before them
 
+module _ (words number : ℕ) where
+  pub admit-short : words < workWords → TooFewWords ≡ admission words number
+  unfolding admission
+  admit-short h = rw (lt-leb workWords words h)
+
+  pub admit-low : workWords ≤ words → number < 1 → OutOfRange ≡ admission words number
+  unfolding admission
+  admit-low h k = rw (le-leb workWords words h, lt-leb 1 number k)
+
+  pub admit-high : workWords ≤ words → 13 < number → OutOfRange ≡ admission words number
+  unfolding admission
+  admit-high h k = let l : 1 ≤ number = omega arith in rw (le-leb workWords words h, le-leb 1 number l, lt-leb number 13 k)
+
+  pub admit-both : workWords ≤ words → 1 ≤ number → number ≤ 13 → Granted ≡ admission words number
+  unfolding admission
+  admit-both h l k = rw (le-leb workWords words h, le-leb 1 number l, le-leb number 13 k)
+
+  -- what a yes to both says
+  pub granted : admission words number ≡ Granted → (workWords ≤ words) × (1 ≤ number) × (number ≤ 13)
+  unfolding admission
+  granted e = work (leb workWords words) refl e
+    where
+      high : workWords ≤ words → 1 ≤ number → (t : Bool) → leb number 13 ≡ t → ask t OutOfRange Granted ≡ Granted → (workWords ≤ words) × (1 ≤ number) × (number ≤ 13)
+      high w l true q f = (w, l, leb-true number 13 q)
+      high w l false q f = let z : _≡_ {A = ℕ} 0 1 = cc in absurd (omega arith)
+
+      low : workWords ≤ words → (t : Bool) → leb 1 number ≡ t → ask (t && leb number 13) OutOfRange Granted ≡ Granted → (workWords ≤ words) × (1 ≤ number) × (number ≤ 13)
+      low w true q f = high w (leb-true 1 number q) (leb number 13) refl f
+      low w false q f = let z : _≡_ {A = ℕ} 0 1 = cc in absurd (omega arith)
+
+      work : (t : Bool) → leb workWords words ≡ t → ask t TooFewWords (ask (isNumber number) OutOfRange Granted) ≡ Granted → (workWords ≤ words) × (1 ≤ number) × (number ≤ 13)
+      work true q f = low (leb-true workWords words q) (leb 1 number) refl f
+      work false q f = let z : _≡_ {A = ℕ} 0 1 = cc in absurd (omega arith)
+
+-- an answer that goes by them, r being how they were answered
+pub by-admission : {A : Type 0} (words number : ℕ) (x y next : A) {r q : Admission} → r ≡ admission words number → r ≡ q → admit q x y next ≡ admit (admission words number) x y next
+by-admission words number x y next e f = ap (λ (t : Admission). admit t x y next) (sym f ∙ e)
+
 module _ (words number : ℕ) (s ps : List ℕ) where
-  pub judged-short : words < 1024 → Refused ShortWork ≡ judged (editionOf s) words number s ps
+  pub judged-as : {r q : Admission} → r ≡ admission words number → r ≡ q → admit q (Refused ShortWork) NoSuchNumber (judgedList (editionOf s) s ps) ≡ judged (editionOf s) words number s ps
   unfolding judged
-  judged-short h = rw (lt-leb 1024 words h)
-
-  pub judged-low : 1024 ≤ words → number < 1 → NoSuchNumber ≡ judged (editionOf s) words number s ps
-  unfolding judged
-  judged-low h k = rw (le-leb 1024 words h, lt-leb 1 number k)
-
-  pub judged-high : 1024 ≤ words → 13 < number → NoSuchNumber ≡ judged (editionOf s) words number s ps
-  unfolding judged
-  judged-high h k = let l : 1 ≤ number = omega arith in rw (le-leb 1024 words h, le-leb 1 number l, lt-leb number 13 k)
-
-  pub judged-list : 1024 ≤ words → 1 ≤ number → number ≤ 13 → judgedList (editionOf s) s ps ≡ judged (editionOf s) words number s ps
-  unfolding judged
-  judged-list h l k = rw (le-leb 1024 words h, le-leb 1 number l, le-leb number 13 k)
+  judged-as e f = by-admission words number (Refused ShortWork) NoSuchNumber (judgedList (editionOf s) s ps) e f
 
 -- ---- the list of one predicate
 
@@ -96,17 +125,17 @@ module _ (words : ℕ) (s : List ℕ) (r : Reading) (asked : r ≡ reading (edit
   -- a record that is not read has the same judgment for every number
   predicate-refused : numberOf r ≢ 0 → (p : ℕ) → 1 ≤ p → p ≤ 13 → predicateJudgment (editionOf s) words p s ≡ Refused r
   unfolding predicateJudgment
-  predicate-refused f p i j = split (leb 1024 words) long short
+  predicate-refused f p i j = split (leb workWords words) long short
     where
-      short : leb 1024 words ≡ false → judged (editionOf s) words p s (p ∷ []) ≡ Refused r
+      short : leb workWords words ≡ false → judged (editionOf s) words p s (p ∷ []) ≡ Refused r
       short t =
-          let l = leb-false 1024 words t in
-          sym (judged-short words p s (p ∷ []) l) ∙ ap Refused (sym (asked ∙ reading-short (editionOf s) words s l))
+          let l = leb-false workWords words t in
+          sym (judged-as words p s (p ∷ []) (admit-short words p l) refl) ∙ ap Refused (sym (asked ∙ reading-short (editionOf s) words s l))
 
-      long : leb 1024 words ≡ true → judged (editionOf s) words p s (p ∷ []) ≡ Refused r
+      long : leb workWords words ≡ true → judged (editionOf s) words p s (p ∷ []) ≡ Refused r
       long t =
-          let l = leb-true 1024 words t in
-          sym (list-refused s (p ∷ []) r (asked ∙ reading-long (editionOf s) words s l) f ∙ judged-list words p s (p ∷ []) l i j)
+          let l = leb-true workWords words t in
+          sym (list-refused s (p ∷ []) r (asked ∙ reading-long (editionOf s) words s l) f ∙ judged-as words p s (p ∷ []) (admit-both words p l i j) refl)
 
   pub judgments-refused : numberOf r ≢ 0 → (k : ℕ) → k ≤ 13 → replicate k (packedJudgment (Refused r)) ≡ packedJudgments (editionOf s) words k s
   unfolding packedJudgments
@@ -118,15 +147,15 @@ module _ (words : ℕ) (s : List ℕ) (r : Reading) (asked : r ≡ reading (edit
 
   predicate-judged : numberOf r ≡ 0 → (p : ℕ) → 1 ≤ p → p ≤ 13 → predicateJudgment (editionOf s) words p s ≡ Judged (firstBroken (p ∷ []) (historyOf (editionOf s) s))
   unfolding predicateJudgment
-  predicate-judged z p i j = split (leb 1024 words) long short
+  predicate-judged z p i j = split (leb workWords words) long short
     where
-      short : leb 1024 words ≡ false → judged (editionOf s) words p s (p ∷ []) ≡ Judged (firstBroken (p ∷ []) (historyOf (editionOf s) s))
-      short t = absurd (omega (arith, z, ap numberOf (asked ∙ reading-short (editionOf s) words s (leb-false 1024 words t))))
+      short : leb workWords words ≡ false → judged (editionOf s) words p s (p ∷ []) ≡ Judged (firstBroken (p ∷ []) (historyOf (editionOf s) s))
+      short t = absurd (omega (arith, z, ap numberOf (asked ∙ reading-short (editionOf s) words s (leb-false workWords words t))))
 
-      long : leb 1024 words ≡ true → judged (editionOf s) words p s (p ∷ []) ≡ Judged (firstBroken (p ∷ []) (historyOf (editionOf s) s))
+      long : leb workWords words ≡ true → judged (editionOf s) words p s (p ∷ []) ≡ Judged (firstBroken (p ∷ []) (historyOf (editionOf s) s))
       long t =
-          let l = leb-true 1024 words t in
-          sym (list-judged s (p ∷ []) r (asked ∙ reading-long (editionOf s) words s l) z (firstBroken (p ∷ []) (historyOf (editionOf s) s)) refl ∙ judged-list words p s (p ∷ []) l i j)
+          let l = leb-true workWords words t in
+          sym (list-judged s (p ∷ []) r (asked ∙ reading-long (editionOf s) words s l) z (firstBroken (p ∷ []) (historyOf (editionOf s) s)) refl ∙ judged-as words p s (p ∷ []) (admit-both words p l i j) refl)
 
   pub judgments-judged : numberOf r ≡ 0 → (k : ℕ) → k ≤ 13 → packedVerdicts k (historyOf (editionOf s) s) ≡ packedJudgments (editionOf s) words k s
   unfolding packedVerdicts packedJudgments firstBroken
@@ -156,10 +185,10 @@ over-front vs out n e = split (ltb (length out) (length vs)) short long
 
 -- ---- the host's number of a judgment that code takes apart
 
-pub packed-broken : (j : Judgment) (o : Outcome) (p a b : ℕ) → j ≡ Judged o → o ≡ BrokenAt p a b → packedJudgment j ≡ 1048576 + 1024 * a + b
+pub packed-broken : (j : Judgment) (o : Outcome) (p a b : ℕ) → j ≡ Judged o → o ≡ BrokenAt p a b → packedJudgment j ≡ packedBreak a b
 packed-broken j o p a b e f = rw (e, f)
 
-pub packed-refused : (j : Judgment) (r : Reading) → j ≡ Refused r → packedJudgment j ≡ 2097152 + 1024 * numberOf r + placeOf r
+pub packed-refused : (j : Judgment) (r : Reading) → j ≡ Refused r → packedJudgment j ≡ packedRefusal (numberOf r) (placeOf r)
 packed-refused j r e = rw e
 
 -- ---- a break is at two events
@@ -180,18 +209,18 @@ broken-below h (p ∷ ps) = go (broken-below h ps) (verdict (numbered p) h) (fir
 
 -- ---- so the parts of every judgment fit into the host's number
 
-pick-into : (P : Judgment → Type 0) (t : Bool) (a b : Judgment) → (t ≡ true → P a) → (t ≡ false → P b) → P (pick t a b)
-pick-into P true a b f g = f refl
-pick-into P false a b f g = g refl
+ask-into : (P : Judgment → Type 0) (t : Bool) (a b : Judgment) → (t ≡ false → P a) → (t ≡ true → P b) → P (ask t a b)
+ask-into P true a b f g = g refl
+ask-into P false a b f g = f refl
 
-outcome-fits : (n : ℕ) → n ≤ 256 → (o : Outcome) → PairBelow n o → Fitting (Judged o)
+outcome-fits : (n : ℕ) → n ≤ mostEvents → (o : Outcome) → PairBelow n o → Fitting (Judged o)
 outcome-fits n h AllMet f = tt
 outcome-fits n h (BrokenAt p a b) f = (omega (arith, f .0), omega (arith, f .1))
 
 module _ (s : List ℕ) where
   questions-place : placeOf (questions (editionOf s) s) < 1024
   unfolding reading
-  questions-place = place-small 1024 s
+  questions-place = place-small workWords s
 
   passed-fits : (ps : List ℕ) → questions (editionOf s) s ≡ Passed → Fitting (Judged (firstBroken ps (historyOf (editionOf s) s)))
   unfolding historyOf
@@ -199,14 +228,19 @@ module _ (s : List ℕ) where
 
   pub judged-fits : (words number : ℕ) (ps : List ℕ) → Fitting (judged (editionOf s) words number s ps)
   unfolding judged judgedList
-  judged-fits words number ps =
-      let r : Reading = questions (editionOf s) s in
-      let o : Outcome = firstBroken ps (historyOf (editionOf s) s) in
-      let after : Judgment = pick (eqb (numberOf r) 0) (Judged o) (Refused r) in
-      pick-into Fitting (leb 1024 words) (pick (isNumber number) after NoSuchNumber) (Refused ShortWork) (λ t.
-      pick-into Fitting (isNumber number) after NoSuchNumber (λ u.
-      pick-into Fitting (eqb (numberOf r) 0) (Judged o) (Refused r) (λ x. passed-fits ps (number-passed r (eqb-true (numberOf r) 0 x))) (λ x. questions-place))
-      (λ u. tt)) (λ t. omega arith)
+  judged-fits words number ps = go (admission words number)
+    where
+      after : Fitting (ask (eqb (numberOf (questions (editionOf s) s)) 0) (Refused (questions (editionOf s) s)) (Judged (firstBroken ps (historyOf (editionOf s) s))))
+      after =
+          let r : Reading = questions (editionOf s) s in
+          ask-into Fitting (eqb (numberOf r) 0) (Refused r) (Judged (firstBroken ps (historyOf (editionOf s) s))) (λ x. questions-place)
+          (λ x. passed-fits ps (number-passed r (eqb-true (numberOf r) 0 x)))
+
+      go : (x : Admission)
+          → Fitting (admit x (Refused ShortWork) NoSuchNumber (ask (eqb (numberOf (questions (editionOf s) s)) 0) (Refused (questions (editionOf s) s)) (Judged (firstBroken ps (historyOf (editionOf s) s)))))
+      go TooFewWords = omega arith
+      go OutOfRange = tt
+      go Granted = after
 
   pub predicate-fits : (words p : ℕ) → Fitting (predicateJudgment (editionOf s) words p s)
   unfolding predicateJudgment

@@ -1,10 +1,11 @@
--- Laws of the judging calls. What users should know: MeansLaws (the second demand), ClocksJudged, CoversExactly, ReadsBack.
+-- Laws of the judging calls. What users should know: MeansLaws (the second demand), HostsExact (that of the hosts' numbers), ClocksJudged, CoversExactly, ReadsBack.
 pub mod MeansLaws
 pub mod ClocksJudged
 pub mod CoversExactly
 pub mod ReadsBack
 pub mod RecordLaws
 pub mod JudgmentLaws
+pub mod HostsExact
 pub mod CoversHosts
 pub mod ListLaws
 pub mod PreparedLaws

@@ -10,6 +10,7 @@ use Rattle.rows.specs.Row.{rowAt, RowPut}
 use Rattle.rows.specs.Relation.{Graph, Filled, reaches, related}
 use Rattle.rows.proofs.SliceLaws.{sliceAt, slice-row, length-slice, giveBack, given-back}
 use Rattle.rows.proofs.ReachLaws.{table-graph, table-row}
+use Rattle.record.specs.Layout.{rowWords}
 use Rattle.record.specs.Terms.{Terms}
 use Rattle.record.specs.History.{History, under}
 use Rattle.record.specs.Words.{historyFrom}
@@ -43,67 +44,67 @@ module _ (w c : ℕ) (g m : List ℕ) (wide : length m ≡ w) (room : c * w + w 
 
 -- ---- the tables, after the sweep
 
-module _ (n : ℕ) (l t : List ℕ) (graph : Graph (part n 4 4 t) n 4) (size : 6 * (n * 4) ≤ length t) where
+module _ (n : ℕ) (l t : List ℕ) (graph : Graph (part n rowWords 4 t) n rowWords) (size : 6 * (n * rowWords) ≤ length t) where
   -- tables 4 and 5 as they are lent
   abbrev steps : List ℕ
-  steps = sliceAt t (n * 4) 4
+  steps = sliceAt t (n * rowWords) 4
 
-  steps-part : steps ≡ part n 4 4 t
-  steps-part = slice-row t (n * 4) 4
+  steps-part : steps ≡ part n rowWords 4 t
+  steps-part = slice-row t (n * rowWords) 4
 
-  steps-long : length steps ≡ n * 4
-  steps-long = length-slice t (n * 4) 4 (omega arith)
+  steps-long : length steps ≡ n * rowWords
+  steps-long = length-slice t (n * rowWords) 4 (omega arith)
 
-  pub steps-graph : Graph steps n 4
+  pub steps-graph : Graph steps n rowWords
   steps-graph = rw steps-part graph
 
-  module _ (closed : List ℕ) (fill : Filled n 4 (reaches n (related steps 4)) steps closed) where
+  module _ (closed : List ℕ) (fill : Filled n rowWords (reaches n (related steps rowWords)) steps closed) where
     abbrev t₂ : List ℕ
-    t₂ = giveBack t (n * 4) 4 closed
+    t₂ = giveBack t (n * rowWords) 4 closed
 
-    closed-long : length closed ≡ n * 4
+    closed-long : length closed ≡ n * rowWords
     closed-long = fill .size ∙ steps-long
 
-    second : RowPut (n * 4) 4 closed t t₂
-    second = row-back (n * 4) 4 t closed closed-long (omega arith)
+    second : RowPut (n * rowWords) 4 closed t t₂
+    second = row-back (n * rowWords) 4 t closed closed-long (omega arith)
 
     abbrev positions : List ℕ
-    positions = sliceAt t₂ (n * 4) 5
+    positions = sliceAt t₂ (n * rowWords) 5
 
-    pub positions-long : length positions ≡ n * 4
-    positions-long = length-slice t₂ (n * 4) 5 (omega (arith, second .size))
+    pub positions-long : length positions ≡ n * rowWords
+    positions-long = length-slice t₂ (n * rowWords) 5 (omega (arith, second .size))
 
-    module _ (placed : List ℕ) (fill₅ : Filled n 4 (ar (fieldsOf l)) positions placed) where
+    module _ (placed : List ℕ) (fill₅ : Filled n rowWords (ar (fieldsOf l)) positions placed) where
       abbrev t₃ : List ℕ
-      t₃ = giveBack t₂ (n * 4) 5 placed
+      t₃ = giveBack t₂ (n * rowWords) 5 placed
 
-      placed-long : length placed ≡ n * 4
+      placed-long : length placed ≡ n * rowWords
       placed-long = fill₅ .size ∙ positions-long
 
-      third : RowPut (n * 4) 5 placed t₂ t₃
-      third = row-back (n * 4) 5 t₂ placed placed-long (omega (arith, second .size))
+      third : RowPut (n * rowWords) 5 placed t₂ t₃
+      third = row-back (n * rowWords) 5 t₂ placed placed-long (omega (arith, second .size))
 
-      pub tables-finished : Finished n 4 l t t₃
+      pub tables-finished : Finished n rowWords l t t₃
       tables-finished = record {
         size = third .size ∙ second .size;
         kept = λ k i. third .other k (λ e. omega arith) ∙ second .other k (λ e. omega arith);
         closed = rw (third .other 4 (λ e. omega arith), second .same, ← steps-part) (fill .table);
         placed = rw (third .same) (fill₅ .table);
-        rest = rest-back (n * 4) 5 t₂ placed placed-long (omega (arith, second .size)) (6 * (n * 4)) (omega arith)
-            ∙ rest-back (n * 4) 4 t closed closed-long (omega arith) (6 * (n * 4)) (omega arith);
+        rest = rest-back (n * rowWords) 5 t₂ placed placed-long (omega (arith, second .size)) (6 * (n * rowWords)) (omega arith)
+            ∙ rest-back (n * rowWords) 4 t closed closed-long (omega arith) (6 * (n * rowWords)) (omega arith);
       }
 
 -- ---- swept, and then finished
 
-module _ (n : ℕ) (l v t : List ℕ) (g : Given n 4 l v) (q : Terms) (sw : Sweeps n 4 (under q (historyFrom n 4 l v)) t) (size : 6 * (n * 4) ≤ length t) where
+module _ (n : ℕ) (l v t : List ℕ) (g : Given n rowWords l v) (q : Terms) (sw : Sweeps n rowWords (under q (historyFrom n rowWords l v)) t) (size : 6 * (n * rowWords) ≤ length t) where
   abbrev h : History
-  h = under q (historyFrom n 4 l v)
+  h = under q (historyFrom n rowWords l v)
 
-  pub swept-graph : Graph (part n 4 4 t) n 4
+  pub swept-graph : Graph (part n rowWords 4 t) n rowWords
   swept-graph =
-      table-graph n 4 (step h) (part n 4 4 t) (sw .steps) (omega (arith, length-take (n * 4) (drop (4 * (n * 4)) t), length-drop (4 * (n * 4)) t)) (g .rows .wide) (omega arith)
+      table-graph n rowWords (step h) (part n rowWords 4 t) (sw .steps) (omega (arith, length-take (n * rowWords) (drop (4 * (n * rowWords)) t), length-drop (4 * (n * rowWords)) t)) (g .rows .wide) (omega arith)
 
-  pub tables-ready : {t' : List ℕ} → Finished n 4 l t t' → Prepared n 4 h t'
+  pub tables-ready : {t' : List ℕ} → Finished n rowWords l t t' → Prepared n rowWords h t'
   unfolding hb historyFrom
   tables-ready {t'} f = record {
     size = omega (arith, f .size);
@@ -113,6 +114,6 @@ module _ (n : ℕ) (l v t : List ℕ) (g : Given n 4 l v) (q : Terms) (sw : Swee
       middles = rw (f .kept 2 (omega arith)) (sw .timed .middles);
       objects = rw (f .kept 3 (omega arith)) (sw .timed .objects);
     };
-    hbs = λ b i. table-row n 4 (step h) (part n 4 4 t) (sw .steps) b (rowAt (part n 4 4 t') 4 b) i (f .closed b i);
-    ars = fields-ars n l v q (part n 4 5 t') (f .placed);
+    hbs = λ b i. table-row n rowWords (step h) (part n rowWords 4 t) (sw .steps) b (rowAt (part n rowWords 4 t') rowWords b) i (f .closed b i);
+    ars = fields-ars n l v q (part n rowWords 5 t') (f .placed);
   }

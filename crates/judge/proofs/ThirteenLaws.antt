@@ -1,12 +1,13 @@
 -- Laws of the numbers of the thirteen verdicts. Assumes nothing.
 use mathlib.Core.Path.{_≡_, sym, ap, ap₂, _∙_}
 use mathlib.Core.List.{List, [], _∷_, _++_}
-use Prim.Native.Nat.{ℕ, _+_, _≤_, _<_}
+use Prim.Native.Nat.{ℕ, _+_, _^_, _≤_, _<_}
 use native.Mathlib.Numerals.{add-one}
 use native.Mathlib.Omega.{arith}
 use lib.ListN.{length, take, set}
 use lib.Seq.{take-all, take-suc-set}
 use Rattle.rows.specs.Relation.{Rel}
+use Rattle.record.specs.Layout.{mostEvents}
 use Rattle.record.specs.History.{History}
 use Rattle.consistency.specs.Predicates.{rule, breaks, verdict, numbered}
 use Rattle.judge.specs.Lists.{packedVerdict, packedVerdicts}
@@ -15,13 +16,13 @@ use Rattle.consistency.specs.declared.Verdict.{Verdict}
 use Rattle.consistency.specs.declared.Verdict.the-variants.{Met, Broken}
 use Rattle.consistency.proofs.FirstPairLaws.{Says, says-of}
 
--- ---- events are below 256, so a verdict's number is small
+-- ---- events are few, so a verdict's number is small
 
-small-said : (n : ℕ) (f : Rel) → n ≤ 256 → (v : Verdict) → Says n f v → packedVerdict v ≤ 2097151
+small-said : (n : ℕ) (f : Rel) → n ≤ mostEvents → (v : Verdict) → Says n f v → packedVerdict v < 2 ^ 32
 small-said n f i Met s = omega arith
 small-said n f i (Broken a b) s = omega (arith, s .left, s .right)
 
-pub packed-small : (p : Predicate) (h : History) (v : Verdict) → h .count ≤ 256 → v ≡ verdict p h → packedVerdict v ≤ 2097151
+pub packed-small : (p : Predicate) (h : History) (v : Verdict) → h .count ≤ mostEvents → v ≡ verdict p h → packedVerdict v < 2 ^ 32
 unfolding verdict
 packed-small p h v i e = small-said (h .count) (breaks h (rule p h)) i v (says-of (h .count) (breaks h (rule p h)) v (sym e))
 

@@ -3,10 +3,10 @@ use mathlib.Core.Path.{_≡_}
 use mathlib.Core.Bool.{true}
 use mathlib.Core.List.{List}
 use Prim.Native.Nat.{ℕ, _/_}
-use Rattle.record.specs.Layout.{editionOf}
+use Rattle.record.specs.Layout.{workWords}
 use Rattle.consistency.specs.Lattice.{follows}
 use Rattle.consistency.specs.declared.Outcome.the-variants.{AllMet, BrokenAt}
-use Rattle.judge.specs.Judgments.{modelJudgment, packedJudgment}
+use Rattle.judge.specs.Judgments.{modelJudgmentOf, packedJudgment}
 use Rattle.judge.specs.declared.Judgment.{Judgment}
 use Rattle.judge.specs.declared.Judgment.the-variants.{Judged}
 
@@ -16,7 +16,7 @@ pub data IsBroken : Judgment → Type 0 where
 
 -- the judge's answer about model m of a record, of whatever edition, over a work slice of 1,024 words
 abbrev pub answer : List ℕ → ℕ → Judgment
-answer s m = modelJudgment (editionOf s) 1024 m s
+answer s m = modelJudgmentOf workWords m s
 
 -- model i covers model j: every record that passes questions 3 to 10 and meets i meets j
 abbrev pub Covers : ℕ → ℕ → Type 0
@@ -30,9 +30,9 @@ pub record Separates (s : List ℕ) (i j : ℕ) : Type 0 where
 -- what the answer about model m of a record tells of other models
 pub record TellsOthers (words m : ℕ) (s : List ℕ) (told : Judgment) : Type 0 where
   -- met: so is every model that follows from m
-  pub met : told ≡ Judged AllMet → (j : ℕ) → follows m j ≡ true → modelJudgment (editionOf s) words j s ≡ Judged AllMet
+  pub met : told ≡ Judged AllMet → (j : ℕ) → follows m j ≡ true → modelJudgmentOf words j s ≡ Judged AllMet
   -- broken: so is every model from which m follows
-  pub broken : IsBroken told → (i : ℕ) → follows i m ≡ true → IsBroken (modelJudgment (editionOf s) words i s)
+  pub broken : IsBroken told → (i : ℕ) → follows i m ≡ true → IsBroken (modelJudgmentOf words i s)
 
 -- the same of the host's numbers: 0 is met, and a break's number divided by 1,048,576 is 1
 pub record TellsHosts (m : ℕ) (s : List ℕ) (number : ℕ) : Type 0 where

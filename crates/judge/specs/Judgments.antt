@@ -1,16 +1,20 @@
 -- The judging calls: questions 1 and 2, then the record's, then the verdict; and the host's number for an answer.
-use mathlib.Core.Bool.{Bool, true, false, _&&_}
+use mathlib.Core.Bool.{Bool, _&&_}
 use mathlib.Core.List.{List, [], _∷_, _++_}
-use Prim.Native.Nat.{ℕ, zero, suc, _+_, _*_}
+use Prim.Native.Nat.{ℕ, zero, suc, _+_}
 use lib.Dec.{eqb, leb}
 use lib.ListN.{length, take, drop}
-use Rattle.record.specs.Layout.{Layout, workWords}
-use Rattle.record.specs.History.{historyOf}
-use Rattle.record.specs.Questions.{numberOf, placeOf, questions}
+use Rattle.packed.specs.Packed.{packedBreak, packedRefusal}
+use Rattle.record.specs.Layout.{Layout, editionOf, workWords}
+use Rattle.record.specs.History.{History, historyOf}
+use Rattle.record.specs.Questions.{numberOf, placeOf, ask, questions}
+use Rattle.record.specs.Words.{workAfter}
 use Rattle.record.specs.declared.Reading.the-variants.{ShortWork}
 use Rattle.consistency.specs.Models.{listOf, firstBroken}
 use Rattle.consistency.specs.declared.Outcome.{Outcome}
 use Rattle.consistency.specs.declared.Outcome.the-variants.{AllMet, BrokenAt}
+use Rattle.judge.specs.declared.Admission.{Admission}
+use Rattle.judge.specs.declared.Admission.the-variants.{Granted, TooFewWords, OutOfRange}
 use Rattle.judge.specs.declared.Judgment.{Judgment}
 use Rattle.judge.specs.declared.Judgment.the-variants.{Judged, NoSuchNumber, Refused}
 
@@ -18,17 +22,23 @@ use Rattle.judge.specs.declared.Judgment.the-variants.{Judged, NoSuchNum
 abbrev pub isNumber : ℕ → Bool
 isNumber k = leb 1 k && leb k 13
 
-abbrev pub pick : Bool → Judgment → Judgment → Judgment
-pick true a b = a
-pick false a b = b
+-- questions 1 and 2, which every judging call asks first
+unfoldable pub admission : ℕ → ℕ → Admission
+admission words number = ask (leb workWords words) TooFewWords (ask (isNumber number) OutOfRange Granted)
+
+-- what refuses where 1 got a no, what where 2 did, and what comes after a yes to both
+abbrev pub admit : {A : Type 0} → Admission → A → A → A → A
+admit TooFewWords x y next = x
+admit OutOfRange x y next = y
+admit Granted x y next = next
 
 -- questions 3 to 10, and then the outcome of a list of predicates
 unfoldable pub judgedList : Layout → List ℕ → List ℕ → Judgment
-judgedList L s ps = pick (eqb (numberOf (questions L s)) 0) (Judged (firstBroken ps (historyOf L s))) (Refused (questions L s))
+judgedList L s ps = ask (eqb (numberOf (questions L s)) 0) (Refused (questions L s)) (Judged (firstBroken ps (historyOf L s)))
 
 -- questions 1 and 2 before them
 unfoldable pub judged : Layout → ℕ → ℕ → List ℕ → List ℕ → Judgment
-judged L words number s ps = pick (leb (workWords L) words) (pick (isNumber number) (judgedList L s ps) NoSuchNumber) (Refused ShortWork)
+judged L words number s ps = admit (admission words number) (Refused ShortWork) NoSuchNumber (judgedList L s ps)
 
 -- a predicate's judgment, and a model's
 unfoldable pub predicateJudgment : Layout → ℕ → ℕ → List ℕ → Judgment
@@ -46,10 +56,7 @@ refusedNumber (Refused r) = numberOf r
 -- the host's number: 0 met; 1,048,576 + 1,024 × a + b broken; 2,097,152 + 1,024 × number + place refused
 abbrev pub packedOutcome : Outcome → ℕ
 packedOutcome AllMet = 0
-packedOutcome (BrokenAt p a b) = 1048576 + 1024 * a + b
-
-abbrev pub packedRefusal : ℕ → ℕ → ℕ
-packedRefusal number place = 2097152 + 1024 * number + place
+packedOutcome (BrokenAt p a b) = packedBreak a b
 
 abbrev pub packedJudgment : Judgment → ℕ
 packedJudgment (Judged o) = packedOutcome o
@@ -64,3 +71,23 @@ packedJudgments L words (suc k) s = packedJudgments L words k s ++ (packedJudgme
 -- the first of vs, as many as fit, over the front of out
 abbrev pub laidOver : List ℕ → List ℕ → List ℕ
 laidOver vs out = take (length out) vs ++ drop (length vs) out
+
+-- ---- of a record's bytes alone, whose letters say the edition
+
+-- what a record says
+abbrev pub saidBy : List ℕ → History
+saidBy s = historyOf (editionOf s) s
+
+abbrev pub predicateJudgmentOf : ℕ → ℕ → List ℕ → Judgment
+predicateJudgmentOf words p s = predicateJudgment (editionOf s) words p s
+
+abbrev pub modelJudgmentOf : ℕ → ℕ → List ℕ → Judgment
+modelJudgmentOf words m s = modelJudgment (editionOf s) words m s
+
+-- the hosts' numbers of all thirteen predicates' judgments
+abbrev pub packedJudgmentsOf : ℕ → List ℕ → List ℕ
+packedJudgmentsOf words s = packedJudgments (editionOf s) words 13 s
+
+-- the work slice after a judgment
+abbrev pub workAfterJudgment : Judgment → List ℕ → List ℕ → List ℕ
+workAfterJudgment j s work = workAfter (editionOf s) (refusedNumber j) s work

@@ -2,9 +2,10 @@
 use mathlib.Core.Path.{_≡_}
 use mathlib.Core.Bool.{cond}
 use mathlib.Core.List.{List, [], _∷_, _++_}
-use Prim.Native.Nat.{ℕ, zero, suc, _+_, _*_, _≤_}
+use Prim.Native.Nat.{ℕ, zero, suc, _+_, _≤_}
 use lib.Dec.{eqb}
 use lib.ListN.{length, getD}
+use Rattle.packed.specs.Packed.{packedBreak}
 use Rattle.record.specs.History.{History}
 use Rattle.consistency.specs.Predicates.{numbered, verdict}
 use Rattle.consistency.specs.declared.Verdict.{Verdict}
@@ -23,7 +24,7 @@ pub record Numbers (ks : List ℕ) : Type 0 where
 -- a verdict as a host's number, and those of the first k predicates
 abbrev pub packedVerdict : Verdict → ℕ
 packedVerdict Met = 0
-packedVerdict (Broken a b) = 1048576 + 1024 * a + b
+packedVerdict (Broken a b) = packedBreak a b
 
 unfoldable pub packedVerdicts : ℕ → History → List ℕ
 packedVerdicts zero h = []

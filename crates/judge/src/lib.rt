@@ -6,20 +6,28 @@ pub mod thirteen;
 
 use consistency::Outcome;
 use record::Reading;
+use record::layout;
 ghost use mathlib.Core.Path.{_≡_};
 ghost use mathlib.Core.List.{[], _∷_};
 ghost use Prim.Native.Nat.{_≤_};
-ghost use lib.ListN.{length, take};
-ghost use Rattle.record.specs.Layout.{editionOf};
-ghost use Rattle.record.specs.History.{historyOf};
-ghost use Rattle.record.specs.Questions.{numberOf, reading, questions};
-ghost use Rattle.record.specs.Words.{visibleWords, workAfter};
-ghost use Rattle.consistency.specs.Models.{listOf, firstBroken};
-ghost use Rattle.judge.specs.Judgments.{refusedNumber, predicateJudgment, modelJudgment, packedJudgments, judgedList};
-ghost use Rattle.judge.specs.Means.{Exact};
+ghost use lib.ListN.{length};
+ghost use Rattle.record.specs.Layout.{editionOf, workWords};
+ghost use Rattle.record.specs.Questions.{numberOf, reading};
+ghost use Rattle.record.specs.Words.{workAfter};
+ghost use Rattle.consistency.specs.Models.{listOf};
+ghost use Rattle.judge.specs.Judgments.{admission, judgedList, predicateJudgmentOf, modelJudgmentOf, packedJudgmentsOf, workAfterJudgment};
+ghost use Rattle.judge.specs.Means.{ExactOf};
+ghost use Rattle.judge.specs.Hosts.{ExactThirteen};
 ghost use Rattle.judge.specs.Clocks.{ByClocks};
 ghost use Rattle.judge.specs.Covers.{TellsOthers};
 ghost use Rattle.judge.specs.Lists.{upToZero, Numbers};
+
+// How questions 1 and 2 were answered.
+pub enum Admission {
+    Granted,
+    TooFewWords,
+    OutOfRange,
+}
 
 // The answer of a judging call.
 pub enum Judgment {
@@ -34,78 +42,69 @@ pub struct AllJudged {
     pub judgments: [u64; 13],
 }
 
-// The outcome of a list of predicates, of a record that passed; v begins with its visible sets.
-fn outcome_of(list: [u8; 4], s: &[u8], v: &[u64]) -> Outcome
-    requires { ⌜ questions (editionOf (now s)) (now s) ≡ Reading.Passed ⌝ }
-    requires { ⌜ take 1024 (now v) ≡ visibleWords (editionOf (now s)) (now s) ⌝ }
-    requires { ⌜ Numbers list ⌝ }
-    ensures { λ r. ⌜ r ≡ firstBroken (upToZero list) (historyOf (editionOf (now (s .entry))) (now (s .entry))) ⌝ }
+// Questions 1 and 2, which every judging call asks first: of a work slice of so many words, and of a predicate's or model's number.
+pub fn admit(words: usize, number: usize) -> Admission
+    ensures { λ r. ⌜ r ≡ admission words number ⌝ }
 {
-    let n = reader::header::count(s);
-    let mut l = [0u64; 1024];
-    reader::words::load(s, n, 0, 4, &mut l);
-    let mut terms = [0u64; 17];
-    reader::words::load_terms(s, &mut terms);
-    lists::first_broken(list, &l, v, &terms, n)
+    if words < layout::WORK {
+        return Admission::TooFewWords;
+    }
+    if number < 1 {
+        return Admission::OutOfRange;
+    }
+    if 13 < number {
+        return Admission::OutOfRange;
+    }
+    Admission::Granted
 }
 
 // Questions 3 to 10, then a list of predicates.
 fn judge_list(list: [u8; 4], s: &[u8], work: &mut [u64]) -> Judgment
-    requires { ⌜ (1024 ≤ length (now work)) × Numbers list ⌝ }
+    requires { ⌜ (workWords ≤ length (now work)) × Numbers list ⌝ }
     ensures { λ r. ⌜ r ≡ judgedList (editionOf (now (s .entry))) (now (s .entry)) (upToZero list) ⌝ }
-    ensures { λ r. ⌜ now (work .exit) ≡ workAfter (editionOf (now (s .entry))) (refusedNumber r) (now (s .entry)) (now (work .entry)) ⌝ }
+    ensures { λ r. ⌜ now (work .exit) ≡ workAfterJudgment r (now (s .entry)) (now (work .entry)) ⌝ }
 {
     let reading = reader::ask(s, work);
     if record::number(reading) != 0 {
         return Judgment::Refused(reading);
     }
-    Judgment::Judged(outcome_of(list, s, work))
+    Judgment::Judged(lists::first_broken(list, s, work))
 }
 
 // Judges a predicate by its number.
 pub fn judge_predicate(number: usize, s: &[u8], work: &mut [u64]) -> Judgment
-    ensures { λ r. ⌜ r ≡ predicateJudgment (editionOf (now (s .entry))) (length (now (work .entry))) number (now (s .entry)) ⌝ }
-    ensures { λ r. ⌜ Exact (editionOf (now (s .entry))) (length (now (work .entry))) number (number ∷ []) (now (s .entry)) r ⌝ }
+    ensures { λ r. ⌜ r ≡ predicateJudgmentOf (length (now (work .entry))) number (now (s .entry)) ⌝ }
+    ensures { λ r. ⌜ ExactOf (length (now (work .entry))) number (number ∷ []) (now (s .entry)) r ⌝ }
     ensures { λ r. ⌜ ByClocks (length (now (work .entry))) number (number ∷ []) (now (s .entry)) r ⌝ }
-    ensures { λ r. ⌜ now (work .exit) ≡ workAfter (editionOf (now (s .entry))) (refusedNumber r) (now (s .entry)) (now (work .entry)) ⌝ }
+    ensures { λ r. ⌜ now (work .exit) ≡ workAfterJudgment r (now (s .entry)) (now (work .entry)) ⌝ }
 {
-    if work.len() < 1024 {
-        return Judgment::Refused(Reading::ShortWork);
+    match admit(work.len(), number) {
+        Admission::TooFewWords => Judgment::Refused(Reading::ShortWork),
+        Admission::OutOfRange => Judgment::NoSuchNumber,
+        Admission::Granted => judge_list([number as u8, 0, 0, 0], s, work),
     }
-    if number < 1 {
-        return Judgment::NoSuchNumber;
-    }
-    if 13 < number {
-        return Judgment::NoSuchNumber;
-    }
-    let list = [number as u8, 0, 0, 0];
-    judge_list(list, s, work)
 }
 
 // Judges a model by its number.
 pub fn judge_model(number: usize, s: &[u8], work: &mut [u64]) -> Judgment
-    ensures { λ r. ⌜ r ≡ modelJudgment (editionOf (now (s .entry))) (length (now (work .entry))) number (now (s .entry)) ⌝ }
-    ensures { λ r. ⌜ Exact (editionOf (now (s .entry))) (length (now (work .entry))) number (listOf number) (now (s .entry)) r ⌝ }
+    ensures { λ r. ⌜ r ≡ modelJudgmentOf (length (now (work .entry))) number (now (s .entry)) ⌝ }
+    ensures { λ r. ⌜ ExactOf (length (now (work .entry))) number (listOf number) (now (s .entry)) r ⌝ }
     ensures { λ r. ⌜ ByClocks (length (now (work .entry))) number (listOf number) (now (s .entry)) r ⌝ }
     ensures { λ r. ⌜ TellsOthers (length (now (work .entry))) number (now (s .entry)) r ⌝ }
-    ensures { λ r. ⌜ now (work .exit) ≡ workAfter (editionOf (now (s .entry))) (refusedNumber r) (now (s .entry)) (now (work .entry)) ⌝ }
+    ensures { λ r. ⌜ now (work .exit) ≡ workAfterJudgment r (now (s .entry)) (now (work .entry)) ⌝ }
 {
-    if work.len() < 1024 {
-        return Judgment::Refused(Reading::ShortWork);
+    match admit(work.len(), number) {
+        Admission::TooFewWords => Judgment::Refused(Reading::ShortWork),
+        Admission::OutOfRange => Judgment::NoSuchNumber,
+        Admission::Granted => judge_list(lists::of_model(number), s, work),
     }
-    if number < 1 {
-        return Judgment::NoSuchNumber;
-    }
-    if 13 < number {
-        return Judgment::NoSuchNumber;
-    }
-    judge_list(lists::of_model(number), s, work)
 }
 
 // Reads a record once and judges all thirteen predicates.
 pub fn judge_all(s: &[u8], work: &mut [u64]) -> AllJudged
     ensures { λ r. ⌜ r .reading ≡ reading (editionOf (now (s .entry))) (length (now (work .entry))) (now (s .entry)) ⌝ }
-    ensures { λ r. ⌜ r .judgments ≡ packedJudgments (editionOf (now (s .entry))) (length (now (work .entry))) 13 (now (s .entry)) ⌝ }
+    ensures { λ r. ⌜ r .judgments ≡ packedJudgmentsOf (length (now (work .entry))) (now (s .entry)) ⌝ }
+    ensures { λ r. ⌜ ExactThirteen (length (now (work .entry))) (now (s .entry)) (r .judgments) ⌝ }
     ensures { λ r. ⌜ now (work .exit) ≡ workAfter (editionOf (now (s .entry))) (numberOf (r .reading)) (now (s .entry)) (now (work .entry)) ⌝ }
 {
     let reading = reader::read(s, work);
@@ -116,11 +115,6 @@ pub fn judge_all(s: &[u8], work: &mut [u64]) -> AllJudged
             judgments: [refusal; 13],
         };
     }
-    let n = reader::header::count(s);
-    let mut l = [0u64; 1024];
-    reader::words::load(s, n, 0, 4, &mut l);
-    let mut terms = [0u64; 17];
-    reader::words::load_terms(s, &mut terms);
-    let judgments = thirteen::verdicts(&l, work, &terms, n);
+    let judgments = thirteen::verdicts(s, work);
     AllJudged { reading, judgments }
 }

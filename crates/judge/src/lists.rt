@@ -3,16 +3,14 @@ use super::prepared;
 use consistency::Outcome;
 use consistency::Predicate;
 use consistency::Verdict;
-use tables::groups;
+use record::layout;
 ghost use mathlib.Core.Path.{_≡_};
 ghost use Prim.Native.Nat.{_≤_};
-ghost use lib.ListN.{length};
-ghost use Rattle.record.specs.History.{under};
-ghost use Rattle.record.specs.Words.{historyFrom, termsFrom};
 ghost use Rattle.consistency.specs.Predicates.{numbered};
 ghost use Rattle.consistency.specs.Models.{listOf, firstBroken};
-ghost use Rattle.events.specs.Given.{Given};
+ghost use Rattle.judge.specs.Judgments.{saidBy};
 ghost use Rattle.judge.specs.Lists.{upToZero, Numbers};
+ghost use Rattle.judge.specs.Ready.{ReadInto};
 
 // The predicates of each model in the order in which they are asked, 0 past a list's end.
 const MODELS: [[u8; 4]; 13] = [
@@ -61,22 +59,23 @@ pub fn by_number(k: u8) -> Predicate
     }
 }
 
-// The first broken predicate of a list, with its pair.
-pub fn first_broken(list: [u8; 4], l: &[u64], v: &[u64], terms: &[u64], n: usize) -> Outcome
-    requires { ⌜ Given n 4 (now l) (now v) × Numbers list × (17 ≤ length (now terms)) ⌝ }
-    ensures { λ r. ⌜ r ≡ firstBroken (upToZero list) (under (termsFrom (now (terms .entry))) (historyFrom n 4 (now (l .entry)) (now (v .entry)))) ⌝ }
+// The first broken predicate of a list, with its pair, of a record that passed; v begins with its visible sets.
+pub fn first_broken(list: [u8; 4], s: &[u8], v: &[u64]) -> Outcome
+    requires { ⌜ ReadInto (now s) (now v) × Numbers list ⌝ }
+    ensures { λ r. ⌜ r ≡ firstBroken (upToZero list) (saidBy (now (s .entry))) ⌝ }
 {
-    let mut groups = [0u64; 1036];
-    groups::fill(l, n, 4, &mut groups);
-    let mut t = [0u64; 6144];
-    prepared::prepare(l, v, terms, n, &groups, &mut t);
+    let mut l = [0u64; layout::HEADS];
+    let mut terms = [0u64; layout::TERMS];
+    let mut groups = [0u64; events::GROUPS * layout::ROW];
+    let mut t = [0u64; prepared::TABLES * layout::WORK];
+    let n = prepared::prepare(s, v, &mut l, &mut terms, &mut groups, &mut t);
     for k in 0..4 {
         let number = list[k];
         if number == 0 {
             return Outcome::AllMet;
         }
         let p = by_number(number);
-        let found = prepared::judge(p, l, v, terms, n, &groups, &t);
+        let found = prepared::judge(p, &l, v, &terms, n, &groups, &t);
         if let Verdict::Broken(a, b) = found {
             return Outcome::BrokenAt(number as usize, a, b);
         }

@@ -13,9 +13,9 @@ pub fn pack(j: Judgment) -> u64
     match j {
         Judgment::Judged(o) => match o {
             Outcome::AllMet => 0,
-            Outcome::BrokenAt(_, a, b) => 1048576 + 1024 * a as u64 + b as u64,
+            Outcome::BrokenAt(_, a, b) => packed::broken(a, b),
         },
-        Judgment::NoSuchNumber => 2099200,
-        Judgment::Refused(r) => 2097152 + 1024 * record::number(r) as u64 + record::place(r) as u64,
+        Judgment::NoSuchNumber => packed::refusal(2, 0),
+        Judgment::Refused(r) => packed::refusal(record::number(r), record::place(r)),
     }
 }

@@ -2,39 +2,38 @@
 use super::lists;
 use super::prepared;
 use consistency::Verdict;
-use tables::groups;
+use record::layout;
 ghost use mathlib.Core.Path.{_≡_};
-ghost use Prim.Native.Nat.{_≤_};
-ghost use lib.ListN.{length};
-ghost use Rattle.record.specs.History.{under};
-ghost use Rattle.record.specs.Words.{historyFrom, termsFrom};
+ghost use Prim.Native.Nat.{_^_, _<_};
+ghost use Rattle.judge.specs.Judgments.{saidBy};
 ghost use Rattle.judge.specs.Lists.{packedVerdict, packedVerdicts};
-ghost use Rattle.events.specs.Given.{Given};
+ghost use Rattle.judge.specs.Ready.{ReadInto};
 
 // A verdict as a host's number.
 fn pack(v: Verdict) -> u64
-    requires { ⌜ packedVerdict v ≤ 2097151 ⌝ }
+    requires { ⌜ packedVerdict v < 2 ^ 32 ⌝ }
     ensures { λ r. ⌜ r ≡ packedVerdict v ⌝ }
 {
     match v {
         Verdict::Met => 0,
-        Verdict::Broken(a, b) => 1048576 + 1024 * a as u64 + b as u64,
+        Verdict::Broken(a, b) => packed::broken(a, b),
     }
 }
 
-// The numbers of the thirteen verdicts, in the paper's order.
-pub fn verdicts(l: &[u64], v: &[u64], terms: &[u64], n: usize) -> [u64; 13]
-    requires { ⌜ Given n 4 (now l) (now v) × (17 ≤ length (now terms)) ⌝ }
-    ensures { λ r. ⌜ r ≡ packedVerdicts 13 (under (termsFrom (now (terms .entry))) (historyFrom n 4 (now (l .entry)) (now (v .entry)))) ⌝ }
+// The numbers of the thirteen verdicts, in the paper's order, of a record that passed; v begins with its visible sets.
+pub fn verdicts(s: &[u8], v: &[u64]) -> [u64; 13]
+    requires { ⌜ ReadInto (now s) (now v) ⌝ }
+    ensures { λ r. ⌜ r ≡ packedVerdicts 13 (saidBy (now (s .entry))) ⌝ }
 {
-    let mut groups = [0u64; 1036];
-    groups::fill(l, n, 4, &mut groups);
-    let mut t = [0u64; 6144];
-    prepared::prepare(l, v, terms, n, &groups, &mut t);
+    let mut l = [0u64; layout::HEADS];
+    let mut terms = [0u64; layout::TERMS];
+    let mut groups = [0u64; events::GROUPS * layout::ROW];
+    let mut t = [0u64; prepared::TABLES * layout::WORK];
+    let n = prepared::prepare(s, v, &mut l, &mut terms, &mut groups, &mut t);
     let mut answers = [0u64; 13];
     for k in 0..13 {
         let p = lists::by_number(k as u8 + 1);
-        let found = prepared::judge(p, l, v, terms, n, &groups, &t);
+        let found = prepared::judge(p, &l, v, &terms, n, &groups, &t);
         answers[k] = pack(found);
     }
     answers

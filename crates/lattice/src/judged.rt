@@ -2,6 +2,7 @@
 use super::records;
 use consistency::Outcome;
 use judge::Judgment;
+use record::layout;
 ghost use mathlib.Core.Path.{_≡_};
 ghost use Prim.Native.Nat.{_≤_};
 ghost use Rattle.consistency.specs.Separating.{separatingBytes, tells, separator};
@@ -15,7 +16,7 @@ pub fn of_record(k: usize, m: usize) -> Judgment
 {
     let mut rec = [0u8; 1024];
     records::write(k, &mut rec);
-    let mut work = [0u64; 1024];
+    let mut work = [0u64; layout::WORK];
     judge::judge_model(m, &rec, &mut work)
 }
 

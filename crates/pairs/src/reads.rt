@@ -91,8 +91,8 @@ fn last_write(
     let end = at + w;
     let from = events::object(l, e) as usize * w;
     let to = from + w;
-    let writes = 256 * w;
-    let reads = 257 * w;
+    let writes = events::WRITES * w;
+    let reads = events::READS * w;
     let mut seen = [0u64; 8];
     rows::meet(
         &mut seen[0..w],

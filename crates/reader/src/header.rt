@@ -9,12 +9,12 @@ ghost use Rattle.record.specs.Layout.{editionOf, countIn, sitesIn, same};
 ghost use Rattle.record.specs.Questions.{lengthRight, termsRight, headerRight};
 
 pub fn length_holds(s: &[u8]) -> bool
-    ensures { λ r. ⌜ r ≡ lengthRight (editionOf (now (s .entry))) (now (s .entry)) ⌝ }
+    ensures { λ r. ⌜ r ≡ lengthRight (now (s .entry)) ⌝ }
 {
     if s.len() < 512 {
         return false;
     }
-    if 19456 < s.len() {
+    if layout::LONGEST < s.len() {
         return false;
     }
     s.len() % 512 == 0

@@ -7,10 +7,11 @@ pub mod slots;
 pub mod words;
 
 use record::Reading;
+use record::layout;
 ghost use mathlib.Core.Path.{_≡_};
 ghost use Prim.Native.Nat.{_≤_};
 ghost use lib.ListN.{length};
-ghost use Rattle.record.specs.Layout.{editionOf};
+ghost use Rattle.record.specs.Layout.{editionOf, workWords};
 ghost use Rattle.record.specs.Questions.{numberOf, byteQuestions, questions, reading};
 ghost use Rattle.record.specs.Words.{workAfter};
 
@@ -46,13 +47,13 @@ fn ask_bytes(s: &[u8]) -> Reading
 
 // Questions 3 to 10, over a work slice that is long enough.
 pub fn ask(s: &[u8], work: &mut [u64]) -> Reading
-    requires { ⌜ 1024 ≤ length (now work) ⌝ }
+    requires { ⌜ workWords ≤ length (now work) ⌝ }
     ensures { λ r. ⌜ r ≡ questions (editionOf (now (s .entry))) (now (s .entry)) ⌝ }
     ensures { λ r. ⌜ now (work .exit) ≡ workAfter (editionOf (now (s .entry))) (numberOf r) (now (s .entry)) (now (work .entry)) ⌝ }
 {
     let bytes = ask_bytes(s);
     if record::number(bytes) != 0 {
-        rows::clear(&mut work[0..1024]);
+        rows::clear(&mut work[0..layout::WORK]);
         return bytes;
     }
     let n = header::count(s);
@@ -64,7 +65,7 @@ pub fn read(s: &[u8], work: &mut [u64]) -> Reading
     ensures { λ r. ⌜ r ≡ reading (editionOf (now (s .entry))) (length (now (work .entry))) (now (s .entry)) ⌝ }
     ensures { λ r. ⌜ now (work .exit) ≡ workAfter (editionOf (now (s .entry))) (numberOf r) (now (s .entry)) (now (work .entry)) ⌝ }
 {
-    if work.len() < 1024 {
+    if work.len() < layout::WORK {
         return Reading::ShortWork;
     }
     ask(s, work)

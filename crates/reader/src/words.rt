@@ -5,7 +5,7 @@ ghost use mathlib.Core.Path.{_≡_};
 ghost use mathlib.Core.List.{_++_};
 ghost use Prim.Native.Nat.{_+_, _*_, _/_, _≤_};
 ghost use lib.ListN.{length, drop};
-ghost use Rattle.record.specs.Layout.{editionOf};
+ghost use Rattle.record.specs.Layout.{editionOf, termsLength};
 ghost use Rattle.record.specs.Words.{slotWords, termsWords};
 
 // w words from byte `off` of each of the first n slots.
@@ -26,7 +26,7 @@ pub fn load(s: &[u8], n: usize, off: usize, w: usize, out: &mut [u64])
 
 // What block 0 says beside count and sites, as 17 words.
 pub fn load_terms(s: &[u8], out: &mut [u64])
-    requires { ⌜ (512 ≤ length (now s)) × (length (now out) ≡ 17) ⌝ }
+    requires { ⌜ (512 ≤ length (now s)) × (length (now out) ≡ termsLength) ⌝ }
     ensures { λ _. ⌜ now (out .exit) ≡ termsWords (now (s .entry)) ⌝ }
 {
     octets::load(out, s, 8);

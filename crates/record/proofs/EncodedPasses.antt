@@ -16,7 +16,7 @@ use Rattle.rows.proofs.LowestLaws.{none-some}
 use Rattle.rows.proofs.ReachLaws.{reaches-same}
 use Rattle.record.specs.declared.Reading.{Reading}
 use Rattle.record.specs.declared.Reading.the-variants.{Passed, WrongLength, WrongCheck, WrongHeader, WrongBlocks, WrongSlot, WrongPosition, WrongSet, OnRing}
-use Rattle.record.specs.Layout.{Layout, edition, gcr2, editionOf, byte, countIn, sitesIn, slotAt, tailAt, zeros, same}
+use Rattle.record.specs.Layout.{Layout, edition, gcr2, editionOf, byte, countIn, sitesIn, slotAt, tailAt, zeros, same, longestRecord}
 use Rattle.record.specs.Terms.{none, openingIn, openingsRight, termsIn, SameTerms}
 use Rattle.record.specs.Blocks.{blockRight}
 use Rattle.record.specs.History.{History, historyOf, vis, Agree}
@@ -132,16 +132,16 @@ module _ (L : Layout) (ok : Sound L) (sites : ℕ) (h : History) (good : WellFor
 
   -- ---- questions 3 to 6
 
-  pub length-most : length (recordBytes L sites h) ≤ L .longest
+  pub length-most : length (recordBytes L sites h) ≤ longestRecord
   length-most = omega (arith, length-record L ok h sites, blocks-most L ok n (good .count))
 
-  length-yes : lengthRight L (recordBytes L sites h) ≡ true
+  length-yes : lengthRight (recordBytes L sites h) ≡ true
   unfolding lengthRight
   length-yes =
-      and-both (leb 512 (length s)) (leb (length s) (L .longest) && eqb (length s % 512) 0)
+      and-both (leb 512 (length s)) (leb (length s) longestRecord && eqb (length s % 512) 0)
       (le-leb 512 (length s) (omega (arith, length-record L ok h sites)))
-      (and-both (leb (length s) (L .longest)) (eqb (length s % 512) 0)
-      (le-leb (length s) (L .longest) length-most)
+      (and-both (leb (length s) longestRecord) (eqb (length s % 512) 0)
+      (le-leb (length s) longestRecord length-most)
       (eq-eqb (length s % 512) 0 (omega (arith, length-record L ok h sites))))
 
   blocks-back : length (recordBytes L sites h) / 512 ≡ blocksFor L (h .count)
@@ -236,7 +236,7 @@ module _ (L : Layout) (ok : Sound L) (sites : ℕ) (h : History) (good : WellFor
   byte-questions : byteQuestions L (recordBytes L sites h) ≡ Passed
   unfolding byteQuestions
   byte-questions =
-      ask-yes (lengthRight L s) WrongLength _ length-yes
+      ask-yes (lengthRight s) WrongLength _ length-yes
       ∙ each-yes (length s / 512) (λ k. not (blockRight s k)) WrongCheck _ checks-yes
       ∙ ask-yes (headerRight L s) WrongHeader _ header-yes
       ∙ ask-yes (blocksRight L s) WrongBlocks _ blocks-yes
@@ -262,7 +262,7 @@ pub record Encoded (L : Layout) (sites : ℕ) (h : History) : Type 0 where
   pub passes : questions L (recordBytes L sites h) ≡ Passed
   pub agrees : Agree h (historyOf L (recordBytes L sites h))
   pub long : length (recordBytes L sites h) ≡ 512 * blocksFor L (h .count)
-  pub most : length (recordBytes L sites h) ≤ L .longest
+  pub most : length (recordBytes L sites h) ≤ longestRecord
   pub siteByte : sitesIn (recordBytes L sites h) ≡ sites
   pub bytes : Bytes (recordBytes L sites h)
 

@@ -67,7 +67,7 @@ pub first-edition : (s : List ℕ) → same (take 4 s) (gcr2 .letters) ≡ false
 first-edition s e = ap (λ (b : Bool). same (take 4 s) (edition b .letters)) e
 
 -- two lists that are the same to a test are one
-same-one : (l m : List ℕ) → same l m ≡ true → l ≡ m
+pub same-one : (l m : List ℕ) → same l m ≡ true → l ≡ m
 unfolding same
 same-one [] [] e = refl
 same-one [] (y ∷ m) e = absurd (true≢false (sym e))

@@ -7,13 +7,17 @@ pub mod NumberBytes
 pub mod OpeningLaws
 pub mod SealLaws
 pub mod SoundLayout
+pub mod PlaceLaws
+pub mod SlotSays
 pub mod SlotImage
 pub mod ImageLaws
 pub mod AskLaws
 pub mod PositionLaws
 pub mod SetLaws
 pub mod QuestionLaws
+pub mod SaidAgain
 pub mod EncodedPasses
+pub mod PassedWellFormed
 pub mod ListedLaws
 pub mod SlotWords
 pub mod WorkLaws
@@ -22,3 +26,7 @@ pub mod QuestionsAnswered
 pub mod WordBytes
 pub mod SlotStored
 pub mod WrittenLaws
+pub mod PositionsFilled
+pub mod RecordSame
+pub mod ConvertedLaws
+pub mod MovedLaws

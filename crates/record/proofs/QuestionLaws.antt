@@ -12,7 +12,7 @@ use Rattle.rows.specs.Relation.{Rel}
 use Rattle.rows.proofs.Tests.{and-left, and-right}
 use Rattle.record.specs.declared.Reading.{Reading}
 use Rattle.record.specs.declared.Reading.the-variants.{Passed, ShortWork, WrongLength, WrongCheck, WrongHeader, WrongBlocks, WrongSlot, WrongPosition, WrongSet, OnRing}
-use Rattle.record.specs.Layout.{Layout, gcr2, editionOf, byte, countIn, sitesIn, slotAt, zeros, same, workWords}
+use Rattle.record.specs.Layout.{Layout, gcr2, editionOf, byte, countIn, sitesIn, slotAt, zeros, same, longestRecord, workWords}
 use Rattle.record.specs.Terms.{openingsRight}
 use Rattle.record.specs.Blocks.{blockRight}
 use Rattle.record.specs.History.{historyOf, vis}
@@ -28,13 +28,13 @@ blocksIn s = length s / 512
 -- ---- what a yes says
 
 module _ (L : Layout) (s : List ℕ) where
-  pub length-says : lengthRight L s ≡ true → (512 ≤ length s) × (length s ≤ L .longest) × (length s % 512 ≡ 0)
+  pub length-says : lengthRight s ≡ true → (512 ≤ length s) × (length s ≤ longestRecord) × (length s % 512 ≡ 0)
   unfolding lengthRight
   length-says t =
-      let most = and-right (leb 512 (length s)) (leb (length s) (L .longest) && eqb (length s % 512) 0) t in (
-        leb-true 512 (length s) (and-left (leb 512 (length s)) (leb (length s) (L .longest) && eqb (length s % 512) 0) t),
-        leb-true (length s) (L .longest) (and-left (leb (length s) (L .longest)) (eqb (length s % 512) 0) most),
-        eqb-true (length s % 512) 0 (and-right (leb (length s) (L .longest)) (eqb (length s % 512) 0) most),
+      let most = and-right (leb 512 (length s)) (leb (length s) longestRecord && eqb (length s % 512) 0) t in (
+        leb-true 512 (length s) (and-left (leb 512 (length s)) (leb (length s) longestRecord && eqb (length s % 512) 0) t),
+        leb-true (length s) longestRecord (and-left (leb (length s) longestRecord) (eqb (length s % 512) 0) most),
+        eqb-true (length s % 512) 0 (and-right (leb (length s) longestRecord) (eqb (length s % 512) 0) most),
       )
 
   pub header-says : headerRight L s ≡ true → countIn s ≤ L .events
@@ -115,20 +115,20 @@ module _ (L : Layout) (s : List ℕ) (end : Reading) where
   fromChecks = askEach (blocksIn s) (λ k. not (blockRight s k)) WrongCheck fromHeader
 
   abbrev pub fromLength : Reading
-  fromLength = ask (lengthRight L s) WrongLength fromChecks
+  fromLength = ask (lengthRight s) WrongLength fromChecks
 
 -- what each answer to them says; the readings at ⊥ are no answers to them
 abbrev pub BytesAnswer : Layout → List ℕ → Reading → Type 0
 BytesAnswer L s Passed = BytesRight L s
 BytesAnswer L s ShortWork = ⊥
-BytesAnswer L s WrongLength = lengthRight L s ≡ false
-BytesAnswer L s (WrongCheck k) = (lengthRight L s ≡ true) × LowestWrong (blocksIn s) (λ b. not (blockRight s b)) k
-BytesAnswer L s WrongHeader = (lengthRight L s ≡ true) × ChecksRight s × (headerRight L s ≡ false)
-BytesAnswer L s WrongBlocks = (lengthRight L s ≡ true) × ChecksRight s × (headerRight L s ≡ true) × (blocksRight L s ≡ false)
+BytesAnswer L s WrongLength = lengthRight s ≡ false
+BytesAnswer L s (WrongCheck k) = (lengthRight s ≡ true) × LowestWrong (blocksIn s) (λ b. not (blockRight s b)) k
+BytesAnswer L s WrongHeader = (lengthRight s ≡ true) × ChecksRight s × (headerRight L s ≡ false)
+BytesAnswer L s WrongBlocks = (lengthRight s ≡ true) × ChecksRight s × (headerRight L s ≡ true) × (blocksRight L s ≡ false)
 BytesAnswer L s (WrongSlot e) =
-    (lengthRight L s ≡ true) × ChecksRight s × (headerRight L s ≡ true) × (blocksRight L s ≡ true) × LowestWrong (slotsIn L s) (λ d. not (slotRight L s d)) e
+    (lengthRight s ≡ true) × ChecksRight s × (headerRight L s ≡ true) × (blocksRight L s ≡ true) × LowestWrong (slotsIn L s) (λ d. not (slotRight L s d)) e
 BytesAnswer L s (WrongPosition e) =
-    (lengthRight L s ≡ true) × ChecksRight s × (headerRight L s ≡ true) × (blocksRight L s ≡ true) × SlotsRight L s
+    (lengthRight s ≡ true) × ChecksRight s × (headerRight L s ≡ true) × (blocksRight L s ≡ true) × SlotsRight L s
     × LowestWrong (countIn s) (wrongPosition (historyOf L s)) e
 BytesAnswer L s (WrongSet e) = ⊥
 BytesAnswer L s (OnRing e) = ⊥
@@ -142,7 +142,7 @@ module _ (L : Layout) (s : List ℕ) where
   bytes-answered =
       let P : Reading → Type 0 = BytesAnswer L s in
       rw bytes-asked
-      (ask-into P (lengthRight L s) WrongLength (fromChecks L s Passed) (λ f. f) (λ three.
+      (ask-into P (lengthRight s) WrongLength (fromChecks L s Passed) (λ f. f) (λ three.
       each-into P (blocksIn s) (λ k. not (blockRight s k)) WrongCheck (fromHeader L s Passed) (λ k f. (three, f)) (λ four'.
       let four : ChecksRight s = λ k h. not-false (blockRight s k) (four' k h) in
       ask-into P (headerRight L s) WrongHeader (fromBlocks L s Passed) (λ f. (three, four, f)) (λ five.
@@ -221,10 +221,10 @@ module _ (L : Layout) (s : List ℕ) (b : Reading) (q : b ≡ byteQuestions L s)
 -- ---- after question 1
 
 module _ (L : Layout) (w : ℕ) (s : List ℕ) where
-  pub reading-short : w < workWords L → reading L w s ≡ ShortWork
+  pub reading-short : w < workWords → reading L w s ≡ ShortWork
   unfolding reading
-  reading-short h = ask-no (leb (workWords L) w) ShortWork (questions L s) (lt-leb (workWords L) w h)
+  reading-short h = ask-no (leb workWords w) ShortWork (questions L s) (lt-leb workWords w h)
 
-  pub reading-long : workWords L ≤ w → reading L w s ≡ questions L s
+  pub reading-long : workWords ≤ w → reading L w s ≡ questions L s
   unfolding reading
-  reading-long h = ask-yes (leb (workWords L) w) ShortWork (questions L s) (le-leb (workWords L) w h)
+  reading-long h = ask-yes (leb workWords w) ShortWork (questions L s) (le-leb workWords w h)

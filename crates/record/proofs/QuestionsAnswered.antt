@@ -1,6 +1,7 @@
 -- What each answer to questions 3 to 10 says of a record, and that no other record gets it: the first question that fails, at the lowest place.
 -- A ring that is named is one, and a record that passes has none. Assumes nothing.
 use mathlib.Core.Path.{_≡_, refl, sym, ap, _∙_, subst}
+use mathlib.Core.Logic.{_↔_}
 use mathlib.Core.Bool.{true, false, not}
 use mathlib.Core.List.{List, _++_}
 use Prim.Native.Nat.{ℕ, _+_, _*_, _<_, _≤_}
@@ -13,11 +14,10 @@ use Rattle.rows.specs.Row.{rowAt}
 use Rattle.rows.specs.Relation.{Rel, reaches, Steps, Graph, Table}
 use Rattle.rows.proofs.Tests.{tell, never, and-left}
 use Rattle.rows.proofs.RowLaws.{row-of}
-use Rattle.rows.proofs.TableLaws.{row-within}
 use Rattle.rows.proofs.ReachLaws.{reaches-sound, reaches-complete, table-graph}
 use Rattle.record.specs.declared.Reading.{Reading}
 use Rattle.record.specs.declared.Reading.the-variants.{Passed, ShortWork, WrongLength, WrongCheck, WrongHeader, WrongBlocks, WrongSlot, WrongPosition, WrongSet, OnRing}
-use Rattle.record.specs.Layout.{Layout, editionOf, countIn, slotAt, workWords}
+use Rattle.record.specs.Layout.{Layout, editionOf, countIn, mostEvents, rowWords, workWords}
 use Rattle.record.specs.Blocks.{blockRight}
 use Rattle.record.specs.History.{History, historyOf, vis}
 use Rattle.record.specs.Slots.{slotRight}
@@ -30,6 +30,8 @@ use Rattle.record.proofs.WorkLaws.{length-visible}
 use Rattle.record.proofs.WordsLaws.{visible-vis}
 use Rattle.record.proofs.PositionLaws.{position-says, positions-distinct}
 use Rattle.record.proofs.SetLaws.{set-inside}
+use Rattle.record.proofs.SlotWords.{vis-within}
+use Rattle.record.proofs.SoundLayout.{sound-of}
 use Rattle.record.proofs.AskLaws.{ask-yes, ask-no, ask-into, each-yes, each-first, ask-then, each-then}
 use Rattle.record.proofs.QuestionLaws.{blocksIn, length-says, header-says, terms-say, sites-say, slot-site, blocks-say, fromPositions, fromSlots, fromBlocks, fromHeader, fromChecks, fromLength, BytesAnswer, bytes-asked, bytes-answered, SetsAnswer, sets-answered}
 
@@ -73,8 +75,8 @@ module _ (L : Layout) (s : List ℕ) where
   unfolding questions
   in-order =
       ap (λ (r : Reading). andThen r sets) (bytes-asked L s)
-      ∙ ask-then (lengthRight L s) WrongLength (fromChecks L s Passed) sets refl
-      ∙ ap (ask (lengthRight L s) WrongLength)
+      ∙ ask-then (lengthRight s) WrongLength (fromChecks L s Passed) sets refl
+      ∙ ap (ask (lengthRight s) WrongLength)
       (each-then (blocksIn s) (λ k. not (blockRight s k)) WrongCheck (fromHeader L s Passed) sets (λ k. refl)
       ∙ ap (askEach (blocksIn s) (λ k. not (blockRight s k)) WrongCheck)
       (ask-then (headerRight L s) WrongHeader (fromBlocks L s Passed) sets refl
@@ -85,20 +87,20 @@ module _ (L : Layout) (s : List ℕ) where
       ∙ ap (askEach (slotsIn L s) (λ e. not (slotRight L s e)) WrongSlot)
       (each-then (countIn s) (wrongPosition (historyOf L s)) WrongPosition Passed sets (λ e. refl))))))
 
-  to-checks : lengthRight L s ≡ true → questions L s ≡ fromChecks L s sets
-  to-checks three = in-order ∙ ask-yes (lengthRight L s) WrongLength (fromChecks L s sets) three
+  to-checks : lengthRight s ≡ true → questions L s ≡ fromChecks L s sets
+  to-checks three = in-order ∙ ask-yes (lengthRight s) WrongLength (fromChecks L s sets) three
 
-  to-header : lengthRight L s ≡ true → ChecksRight s → questions L s ≡ fromHeader L s sets
+  to-header : lengthRight s ≡ true → ChecksRight s → questions L s ≡ fromHeader L s sets
   to-header three four =
       to-checks three ∙ each-yes (blocksIn s) (λ k. not (blockRight s k)) WrongCheck (fromHeader L s sets) (λ k h. ap not (four k h))
 
-  to-blocks : lengthRight L s ≡ true → ChecksRight s → headerRight L s ≡ true → questions L s ≡ fromBlocks L s sets
+  to-blocks : lengthRight s ≡ true → ChecksRight s → headerRight L s ≡ true → questions L s ≡ fromBlocks L s sets
   to-blocks three four five = to-header three four ∙ ask-yes (headerRight L s) WrongHeader (fromBlocks L s sets) five
 
-  to-slots : lengthRight L s ≡ true → ChecksRight s → headerRight L s ≡ true → blocksRight L s ≡ true → questions L s ≡ fromSlots L s sets
+  to-slots : lengthRight s ≡ true → ChecksRight s → headerRight L s ≡ true → blocksRight L s ≡ true → questions L s ≡ fromSlots L s sets
   to-slots three four five six = to-blocks three four five ∙ ask-yes (blocksRight L s) WrongBlocks (fromSlots L s sets) six
 
-  to-positions : lengthRight L s ≡ true → ChecksRight s → headerRight L s ≡ true → blocksRight L s ≡ true → SlotsRight L s → questions L s ≡ fromPositions L s sets
+  to-positions : lengthRight s ≡ true → ChecksRight s → headerRight L s ≡ true → blocksRight L s ≡ true → SlotsRight L s → questions L s ≡ fromPositions L s sets
   to-positions three four five six seven =
       to-slots three four five six ∙ each-yes (slotsIn L s) (λ e. not (slotRight L s e)) WrongSlot (fromPositions L s sets) (λ e h. ap not (seven e h))
 
@@ -120,7 +122,7 @@ module _ (L : Layout) (s : List ℕ) where
   answer-only Passed a =
       to-rings (a .bytes) (a .sets) ∙ each-yes (countIn s) (onRing (countIn s) (vis (historyOf L s))) OnRing Passed (a .rings)
   answer-only ShortWork a = absurd a
-  answer-only WrongLength a = in-order ∙ ask-no (lengthRight L s) WrongLength (fromChecks L s sets) a
+  answer-only WrongLength a = in-order ∙ ask-no (lengthRight s) WrongLength (fromChecks L s sets) a
   answer-only (WrongCheck k) a = to-checks (a .0) ∙ each-first (blocksIn s) (λ b. not (blockRight s b)) WrongCheck (fromHeader L s sets) k (a .1)
   answer-only WrongHeader a = to-header (a .0) (a .1) ∙ ask-no (headerRight L s) WrongHeader (fromBlocks L s sets) (a .2)
   answer-only WrongBlocks a = to-blocks (a .0) (a .1) (a .2) ∙ ask-no (blocksRight L s) WrongBlocks (fromSlots L s sets) (a .3)
@@ -139,6 +141,11 @@ module _ (L : Layout) (s : List ℕ) where
   answer-of r q = subst (Tells L s) q answered
 
 -- ---- rings
+
+-- an event is on a ring exactly if one or more steps lead from it to itself
+pub ring-iff-steps : (n : ℕ) (v : Rel) (e : ℕ) → (onRing n v e ≡ true) ↔ Steps n v e e
+unfolding onRing
+ring-iff-steps n v e = (reaches-sound n v e e, reaches-complete n v)
 
 -- e is the lowest of n events from which one or more steps of v lead back to the event
 pub record LowestRing (n : ℕ) (v : Rel) (e : ℕ) : Type 0 where
@@ -177,12 +184,7 @@ module _ (L : Layout) (s : List ℕ) where
   pub passed-right : questions L s ≡ Passed → Passes L s
   passed-right q = answer-of L s Passed q
 
--- a visible set holds no event past its bytes
-vis-within : (L : Layout) (s : List ℕ) (a b : ℕ) → vis (historyOf L s) a b ≡ true → a < 64 * L .row
-unfolding vis historyOf
-vis-within L s a b t = ltb-true a (64 * L .row) (and-left (ltb a (64 * L .row)) (hasByte s (slotAt L b + 32) a) t)
-
--- what those who read a record of the edition `GCR1` use
+-- what those who read a record use
 module _ (s : List ℕ) (passed : questions (editionOf s) s ≡ Passed) where
   right : Passes (editionOf s) s
   right = passed-right (editionOf s) s passed
@@ -193,8 +195,8 @@ module _ (s : List ℕ) (passed : questions (editionOf s) s ≡ Passed) where
   abbrev h : History
   h = historyOf (editionOf s) s
 
-  pub passed-count : countIn s ≤ 256
-  passed-count = header-says (editionOf s) s (right .bytes .header)
+  pub passed-count : countIn s ≤ mostEvents
+  passed-count = omega (arith, header-says (editionOf s) s (right .bytes .header), sound-of s .few)
 
   pub passed-terms : termsRight (editionOf s) s ≡ true
   passed-terms = terms-say (editionOf s) s (right .bytes .header)
@@ -217,27 +219,26 @@ module _ (s : List ℕ) (passed : questions (editionOf s) s ≡ Passed) where
 
   -- visible sets have events below n, and not the event itself
   pub passed-inside : (e b : ℕ) → e < countIn s → vis (historyOf (editionOf s) s) b e ≡ true → (b < countIn s) × (b ≡ e → ⊥)
-  passed-inside e b l t = set-inside 4 n (vis h) e (right .sets e l) b (vis-within (editionOf s) s b e t) t
+  passed-inside e b l t = set-inside (editionOf s .row) n (vis h) e (right .sets e l) b (vis-within (editionOf s) s b e t) t
 
   pub passed-ringless : (e : ℕ) → e < countIn s → Steps (countIn s) (vis (historyOf (editionOf s) s)) e e → ⊥
   passed-ringless e l = no-steps n (vis h) e (right .rings e l)
 
   -- the visible words are vis in rows, whatever follows them
   module _ (bytes : Bytes s) (rest : List ℕ) where
-    pub passed-table : Table (countIn s) 4 (vis (historyOf (editionOf s) s)) (visibleWords (editionOf s) s ++ rest)
+    pub passed-table : Table (countIn s) rowWords (vis (historyOf (editionOf s) s)) (visibleWords (editionOf s) s ++ rest)
     passed-table b l =
         let g : List ℕ = visibleWords (editionOf s) s ++ rest in
-        row-of n (λ a. vis h a b) (rowAt g 4 b)
+        row-of n (λ a. vis h a b) (rowAt g rowWords b)
         (λ x t.
-        let k : x < 256 = row-within g 4 b x t in
-        let v : vis h x b ≡ true = sym (visible-vis (editionOf s) s bytes rest x b k l) ∙ t in
+        let v : vis h x b ≡ true = sym (visible-vis (editionOf s) s bytes (sound-of s .narrow) rest x b l) ∙ t in
         (passed-inside b x l v .0, v))
-        (λ x k t. visible-vis (editionOf s) s bytes rest x b (omega (arith, passed-count)) l ∙ t)
+        (λ x k t. visible-vis (editionOf s) s bytes (sound-of s .narrow) rest x b l ∙ t)
 
-    pub passed-graph : Graph (visibleWords (editionOf s) s ++ rest) (countIn s) 4
+    pub passed-graph : Graph (visibleWords (editionOf s) s ++ rest) (countIn s) rowWords
     passed-graph =
-        table-graph n 4 (vis h) (visibleWords (editionOf s) s ++ rest) passed-table
-        (omega (arith, length-append (visibleWords (editionOf s) s) rest, length-visible (editionOf s) s passed-count, passed-count)) passed-count (omega arith)
+        table-graph n rowWords (vis h) (visibleWords (editionOf s) s ++ rest) passed-table
+        (omega (arith, length-append (visibleWords (editionOf s) s) rest, length-visible (editionOf s) s (sound-of s .narrow) passed-count, passed-count)) passed-count (omega arith)
 
 -- ---- a number and a place that a host's number has room for
 
@@ -268,7 +269,7 @@ number-passed (OnRing k) e = absurd (omega arith)
 
 pub place-small : (w : ℕ) (s : List ℕ) → placeOf (reading (editionOf s) w s) < 1024
 unfolding reading
-place-small w s = ask-into (λ r. placeOf r < 1024) (leb (workWords (editionOf s)) w) ShortWork (questions (editionOf s) s) (λ t. omega arith) (λ t. small (questions (editionOf s) s) (answered (editionOf s) s))
+place-small w s = ask-into (λ r. placeOf r < 1024) (leb workWords w) ShortWork (questions (editionOf s) s) (λ t. omega arith) (λ t. small (questions (editionOf s) s) (answered (editionOf s) s))
   where
     small : (r : Reading) → Tells (editionOf s) s r → placeOf r < 1024
     small Passed a = omega arith

@@ -1,8 +1,8 @@
 -- Laws of block checks: writing them changes no other byte, and then every block's check is right. Assumes nothing.
 use mathlib.Core.Path.{_≡_, refl, sym, ap, ap₂, _∙_}
-use mathlib.Core.Bool.{true, _&&_}
+use mathlib.Core.Bool.{Bool, true, _&&_}
 use mathlib.Core.List.{List, _++_}
-use Prim.Native.Nat.{ℕ, zero, suc, _+_, _*_, _%_, _^_, _<_, _≤_}
+use Prim.Native.Nat.{ℕ, zero, suc, _+_, _*_, _-_, _%_, _^_, _<_, _≤_}
 use native.Mathlib.Nat.{le-refl}
 use native.Mathlib.Numerals.{add-one}
 use native.Mathlib.Omega.{arith}
@@ -10,14 +10,14 @@ use native.Mathlib.Decide.{decLt}
 use lib.Dec.{eqb}
 use lib.ListN.{length, getD, length-append, List·getD-append}
 use lib.Seq.{sets, length-sets}
-use borrow.Author.Tests.{eq-eqb}
+use borrow.Author.Tests.{eq-eqb, eqb-true}
 use Rattle.rows.specs.Octets.{little}
-use Rattle.rows.proofs.Tests.{and-both}
+use Rattle.rows.proofs.Tests.{and-both, and-left, and-right}
 use Rattle.record.specs.Blocks.{sumA, sumB, blockRight}
 use Rattle.record.specs.Encode.{littleBytes, seal, sealed}
-use Rattle.record.proofs.StoresLaws.{Stands, Outside, getD-sets-outside, getD-sets-inside, sets-front, stands-front, stands-back, Bytes, bytes-append, bytes-sets}
+use Rattle.record.proofs.StoresLaws.{Stands, Outside, getD-sets-outside, getD-sets-inside, sets-front, sets-again, stands-front, stands-back, stands-append, Bytes, bytes-append, bytes-sets}
 use Rattle.record.proofs.NumberBytes.{length-little, little-stands, little-same, bytes-little}
-use Rattle.record.proofs.WordBytes.{little-then}
+use Rattle.record.proofs.WordBytes.{little-then, little-read}
 
 -- ---- the sums look at the first 508 bytes of their block
 
@@ -153,3 +153,53 @@ unfolding sealed
 sealed-front zero p q h = refl
 sealed-front (suc n) p q h =
     ap (λ (l : List ℕ). seal l n) (sealed-front n p q (omega arith)) ∙ seal-front (sealed n p) q n (omega (arith, length-sealed n p))
+
+-- ---- checks that are right, written again
+
+right-stands : (s : List ℕ) (k : ℕ) → Bytes s → blockRight s k ≡ true → Stands s (512 * k + 508) (checkBytes s k)
+unfolding blockRight
+right-stands s k bytes right =
+    let first : Bool = eqb (little 2 s (512 * k + 508)) (sumA 254 s k) in
+    let second : Bool = eqb (little 2 s (512 * k + 510)) (sumB 254 s k) in
+    let a : little 2 s (512 * k + 508) ≡ sumA 254 s k = eqb-true (little 2 s (512 * k + 508)) (sumA 254 s k) (and-left first second right) in
+    let b : little 2 s (512 * k + 510) ≡ sumB 254 s k = eqb-true (little 2 s (512 * k + 510)) (sumB 254 s k) (and-right first second right) in
+    let next : 512 * k + 508 + 2 ≡ 512 * k + 510 = omega arith in
+    stands-append s (512 * k + 508) (littleBytes 2 (sumA 254 s k)) (littleBytes 2 (sumB 254 s k)) 2 (length-little 2 (sumA 254 s k))
+    (rw (← a) (little-read s bytes 2 (512 * k + 508)))
+    (rw (next, ← b) (little-read s bytes 2 (512 * k + 510)))
+
+pub sealed-again : (n : ℕ) (s : List ℕ) → Bytes s → ((k : ℕ) → k < n → blockRight s k ≡ true) → sealed n s ≡ s
+unfolding sealed
+sealed-again zero s bytes right = refl
+sealed-again (suc n) s bytes right =
+    ap (λ (l : List ℕ). seal l n) (sealed-again n s bytes (λ k l. right k (omega arith)))
+    ∙ sets-again (checkBytes s n) s (512 * n + 508) (right-stands s n bytes (right n (omega arith)))
+
+-- lists that agree but for the checks agree once they have them
+pub sealed-same : (n : ℕ) (s t : List ℕ) → 512 * n ≤ length s → 512 * n ≤ length t → ((p : ℕ) → p < 512 * n → p % 512 < 508 → getD s p 0 ≡ getD t p 0)
+    → (p : ℕ) → p < 512 * n → getD (sealed n s) p 0 ≡ getD (sealed n t) p 0
+unfolding sealed
+sealed-same zero s t long-s long-t same p l = absurd (omega arith)
+sealed-same (suc n) s t long-s long-t same p l = elim (decLt p (512 * n)) [
+  | yes below ↦
+      seal-outside (sealed n s) n p (λ x y. omega arith)
+      ∙ sealed-same n s t (omega arith) (omega arith) (λ i m. same i (omega arith)) p below
+      ∙ sym (seal-outside (sealed n t) n p (λ x y. omega arith))
+  | no g ↦ elim (decLt (p % 512) 508) [
+    | yes free ↦ sealed-outside (suc n) s p free ∙ same p l free ∙ sym (sealed-outside (suc n) t p free)
+    | no check ↦
+        let j : ℕ = p - (512 * n + 508) in
+        let here : p ≡ 512 * n + 508 + j = omega arith in
+        let block : (i : ℕ) → i < 508 → getD (sealed n s) (512 * n + i) 0 ≡ getD (sealed n t) (512 * n + i) 0 =
+        λ i m. sealed-outside n s (512 * n + i) (omega arith) ∙ same (512 * n + i) (omega arith) (omega arith) ∙ sym (sealed-outside n t (512 * n + i) (omega arith)) in
+        let sums : checkBytes (sealed n s) n ≡ checkBytes (sealed n t) n =
+        ap₂ (λ (a b : ℕ). littleBytes 2 a ++ littleBytes 2 b)
+        (sumA-same (sealed n s) (sealed n t) n block 254 (le-refl 254)) (sumB-same (sealed n s) (sealed n t) n block 254 (le-refl 254)) in
+        rw here (written s long-s j (omega arith) ∙ ap (λ (l : List ℕ). getD l j 0) sums ∙ sym (written t long-t j (omega arith)))
+  ]
+]
+  where
+    written : (s : List ℕ) → 512 * suc n ≤ length s → (j : ℕ) → j < 4 → getD (seal (sealed n s) n) (512 * n + 508 + j) 0 ≡ getD (checkBytes (sealed n s) n) j 0
+    written s long j l =
+        getD-sets-inside (checkBytes (sealed n s) n) (sealed n s) (512 * n + 508) (omega (arith, length-check (sealed n s) n, length-sealed n s)) j
+        (omega (arith, length-check (sealed n s) n))

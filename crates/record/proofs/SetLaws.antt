@@ -4,6 +4,7 @@ use mathlib.Core.Bool.{Bool, true, false, not, _&&_, _||_}
 use mathlib.Core.List.{List, _++_}
 use Prim.Native.Nat.{ℕ, _+_, _*_, _^_, _<_, _≤_}
 use native.Mathlib.Omega.{arith}
+use native.Mathlib.Decide.{decLt}
 use borrow.Author.Tests.{eq-eqb, eqb-true, leb-true, leb-false, not-false}
 use lib.Dec.{eqb, leb}
 use lib.ListN.{length, length-append}
@@ -15,13 +16,13 @@ use Rattle.rows.proofs.Tests.{split, tell, never, and-both, and-left, and-right
 use Rattle.rows.proofs.LowestLaws.{some-of, some-at, some-none, none-some, same-some, same-lowest}
 use Rattle.rows.proofs.RowLaws.{only-some, subset-has, row-in, row-has}
 use Rattle.rows.proofs.ReachLaws.{reaches-same}
-use Rattle.rows.proofs.TableLaws.{length-row-le, row-within}
-use Rattle.record.specs.Layout.{Layout, slotAt}
+use Rattle.rows.proofs.TableLaws.{length-row-le}
+use Rattle.record.specs.Layout.{Layout, slotAt, rowWords}
 use Rattle.record.specs.History.{historyOf, vis}
-use Rattle.record.specs.Words.{slotWords}
+use Rattle.record.specs.Words.{setRows}
 use Rattle.record.specs.Questions.{wrongSet, onRing}
 use Rattle.record.proofs.StoresLaws.{Bytes}
-use Rattle.record.proofs.SlotWords.{length-slot-words, vis-byte, related-vis}
+use Rattle.record.proofs.SlotWords.{length-set-rows, vis-byte, vis-past, vis-within, related-vis}
 
 -- ---- one visible set, of w words
 
@@ -48,6 +49,19 @@ module _ (w n : ℕ) (v : Rel) (e : ℕ) where
   set-same u same = same-some (64 * w) (λ b. v b e && (leb n b || eqb b e)) (λ b. u b e && (leb n b || eqb b e))
       (λ b h. ap (λ (t : Bool). t && (leb n b || eqb b e)) (same b h))
 
+-- a set whose members are all in its first k words may be asked in w
+pub set-wider : (k w n : ℕ) (v : Rel) (e : ℕ) → k ≤ w → ((b : ℕ) → 64 * k ≤ b → v b e ≡ false) → wrongSet w n v e ≡ wrongSet k n v e
+set-wider k w n v e h past = split (wrongSet k n v e)
+    (λ t. wide t ∙ sym t)
+    (λ t. set-right w n v e (λ b l s. set-inside k n v e t b (within b s) s) ∙ sym t)
+  where
+    within : (b : ℕ) → v b e ≡ true → b < 64 * k
+    within b s = elim (decLt b (64 * k)) [ yes l ↦ l | no g ↦ absurd (tell (v b e) s (past b (omega arith))) ]
+
+    wide : wrongSet k n v e ≡ true → wrongSet w n v e ≡ true
+    wide t = split (wrongSet w n v e) (λ u. u)
+        (λ u. absurd (tell (wrongSet k n v e) t (set-right k n v e (λ b l s. set-inside w n v e u b (omega arith) s))))
+
 -- ---- the same of row e of a table, beside the row of the events below n
 
 module _ (g : List ℕ) (w n e : ℕ) (below : List ℕ) (all : Row n (λ x. true) below) where
@@ -72,35 +86,37 @@ pub byte-itself : (L : Layout) (s : List ℕ) (n e : ℕ) → e < 64 * L .row �
 byte-itself L s n e h t =
     set-wrong (L .row) n (vis (historyOf L s)) e e h (vis-byte L s e e h ∙ t) (or-right (leb n e) (eqb e e) (eq-eqb e e refl))
 
-module _ (L : Layout) (s : List ℕ) (bytes : Bytes s) (m : ℕ) (rest g : List ℕ) (loaded : g ≡ slotWords L 32 (L .row) s m ++ rest) where
+module _ (L : Layout) (s : List ℕ) (narrow : L .row ≤ rowWords) (bytes : Bytes s) (m : ℕ) (rest g : List ℕ) (loaded : g ≡ setRows L s m ++ rest) where
   -- a table g that begins with the sets of the first m events
-  same : (a b : ℕ) → a < 64 * L .row → b < m → related g (L .row) a b ≡ vis (historyOf L s) a b
-  same a b h k = ap (λ (r : List ℕ). related r (L .row) a b) loaded ∙ related-vis L s bytes m rest a b h k
+  same : (a b : ℕ) → b < m → related g rowWords a b ≡ vis (historyOf L s) a b
+  same a b k = ap (λ (r : List ℕ). related r rowWords a b) loaded ∙ related-vis L s narrow bytes m rest a b k
 
   module _ (n e : ℕ) (below : List ℕ) (all : Row n (λ x. true) below) (h : e < m) where
-    wrong : wrongSet (L .row) n (related g (L .row)) e ≡ wrongSet (L .row) n (vis (historyOf L s)) e
-    wrong = set-same (L .row) n (related g (L .row)) e (vis (historyOf L s)) (λ b k. same b e k h)
+    wrong : wrongSet rowWords n (related g rowWords) e ≡ wrongSet (L .row) n (vis (historyOf L s)) e
+    wrong =
+        set-same rowWords n (related g rowWords) e (vis (historyOf L s)) (λ b k. same b e h)
+        ∙ set-wider (L .row) rowWords n (vis (historyOf L s)) e narrow (λ b k. vis-past L s b e k)
 
-    pub loaded-outside : not (some (64 * length (rowAt g (L .row) e)) (onlyFirst (rowAt g (L .row) e) below)) ≡ false → wrongSet (L .row) n (vis (historyOf L s)) e ≡ true
-    loaded-outside t = sym wrong ∙ row-outside g (L .row) n e below all t
+    pub loaded-outside : not (some (64 * length (rowAt g rowWords e)) (onlyFirst (rowAt g rowWords e) below)) ≡ false → wrongSet (L .row) n (vis (historyOf L s)) e ≡ true
+    loaded-outside t = sym wrong ∙ row-outside g rowWords n e below all t
 
-    pub loaded-right : not (some (64 * length (rowAt g (L .row) e)) (onlyFirst (rowAt g (L .row) e) below)) ≡ true → e < 64 * L .row
+    pub loaded-right : not (some (64 * length (rowAt g rowWords e)) (onlyFirst (rowAt g rowWords e) below)) ≡ true → e < 64 * L .row
         → hasByte s (slotAt L e + 32) e ≡ false → wrongSet (L .row) n (vis (historyOf L s)) e ≡ false
-    loaded-right t k f = sym wrong ∙ row-right g (L .row) n e below all t (same e e k h ∙ vis-byte L s e e k ∙ f)
+    loaded-right t k f = sym wrong ∙ row-right g rowWords n e below all t (same e e h ∙ vis-byte L s e e k ∙ f)
 
   -- where every set gets a yes
-  module _ (wide : m ≤ 64 * L .row) (right : (e : ℕ) → e < m → wrongSet (L .row) m (vis (historyOf L s)) e ≡ false) where
-    pub loaded-graph : 64 * L .row < 2 ^ 64 → Graph g m (L .row)
-    loaded-graph fits = record {
-      size = omega (arith, ap length loaded, length-append (slotWords L 32 (L .row) s m) rest, length-slot-words L 32 (L .row) s m);
+  module _ (wide : m ≤ 64 * rowWords) (right : (e : ℕ) → e < m → wrongSet (L .row) m (vis (historyOf L s)) e ≡ false) where
+    pub loaded-graph : Graph g m rowWords
+    loaded-graph = record {
+      size = omega (arith, ap length loaded, length-append (setRows L s m) rest, length-set-rows L s narrow m);
       wide = wide;
-      fits = fits;
+      fits = omega arith;
       inside = λ b x h t.
-          let k = row-within g (L .row) b x t in
-          set-inside (L .row) m (vis (historyOf L s)) b (right b h) x k (sym (same x b k h) ∙ t) .0;
+          let v : vis (historyOf L s) x b ≡ true = sym (same x b h) ∙ t in
+          set-inside (L .row) m (vis (historyOf L s)) b (right b h) x (vis-within L s x b v) v .0;
     }
 
-    pub loaded-ring : lowest m (λ a. reaches m (related g (L .row)) a a) ≡ lowest m (onRing m (vis (historyOf L s)))
+    pub loaded-ring : lowest m (λ a. reaches m (related g rowWords) a a) ≡ lowest m (onRing m (vis (historyOf L s)))
     unfolding onRing
-    loaded-ring = same-lowest m (λ a. reaches m (related g (L .row)) a a) (onRing m (vis (historyOf L s)))
-        (λ a h. reaches-same m (related g (L .row)) (vis (historyOf L s)) (λ x y p q. same x y (omega arith) q) a a h h)
+    loaded-ring = same-lowest m (λ a. reaches m (related g rowWords) a a) (onRing m (vis (historyOf L s)))
+        (λ a h. reaches-same m (related g rowWords) (vis (historyOf L s)) (λ x y p q. same x y q) a a h h)

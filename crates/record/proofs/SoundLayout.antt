@@ -8,7 +8,7 @@ use native.Mathlib.Omega.{arith}
 use native.Mathlib.Decide.{decLt}
 use borrow.Author.Tests.{eq-eqb, ne-eqb}
 use lib.ListN.{length}
-use Rattle.record.specs.Layout.{Layout, edition, editionOf, slotAt, nextSlot, tailAt}
+use Rattle.record.specs.Layout.{Layout, edition, editionOf, slotAt, nextSlot, tailAt, mostEvents, longestRecord, rowWords}
 use Rattle.record.specs.Encode.{blocksFor}
 use Rattle.record.proofs.StoresLaws.{Outside, Bytes, bytes-nil, bytes-cons}
 
@@ -23,7 +23,10 @@ pub record Sound (L : Layout) : Type 0 where
   -- a visible set has room for every event, and two bytes for their count
   pub wide : L .events ≤ 64 * L .row
   pub counted : L .events < 256 ^ 2
-  pub longest : 512 * blocksFor L (L .events) ≤ L .longest
+  -- the house has room: for its events, its records, and its sets as rows of the work slice
+  pub few : L .events ≤ mostEvents
+  pub longest : 512 * blocksFor L (L .events) ≤ longestRecord
+  pub narrow : L .row ≤ rowWords
 
 last-letter : (termed : Bool) → cond termed 50 49 < 256
 last-letter true = omega arith
@@ -40,7 +43,9 @@ edition-sound termed = record {
   room = omega arith;
   wide = omega arith;
   counted = omega arith;
+  few = omega arith;
   longest = omega arith;
+  narrow = omega arith;
 }
 
 -- a record's own edition
@@ -132,7 +137,7 @@ module _ (L : Layout) (ok : Sound L) where
       let block : e / p < q = div-lt-iff-lt-mul {k = p} {x = e} {y = q} (ok .some) .1 most in
       omega (arith, slot-end e, ok .room)
 
-  pub blocks-most : (n : ℕ) → n ≤ L .events → 512 * blocksFor L n ≤ L .longest
+  pub blocks-most : (n : ℕ) → n ≤ L .events → 512 * blocksFor L n ≤ longestRecord
   blocks-most n h =
       let p : ℕ = L .perBlock in
       let q : ℕ = (n + (p - 1)) / p in

@@ -52,6 +52,20 @@ sets-front (a ∷ vs) p q at h =
     ap (λ (l : List ℕ). sets l (suc at) vs) (set-append-left p q at a (omega arith))
     ∙ sets-front vs (set p at a) q (suc at) (omega (arith, length-set p at a))
 
+-- ---- what stands, stored again, changes nothing
+
+set-again : (l : List ℕ) (at a : ℕ) → getD l at 0 ≡ a → set l at a ≡ l
+set-again [] at a e = refl
+set-again (x ∷ l) zero a e = ap (λ (y : ℕ). y ∷ l) (sym e)
+set-again (x ∷ l) (suc at) a e = ap (λ (m : List ℕ). x ∷ m) (set-again l at a e)
+
+pub sets-again : (vs l : List ℕ) (at : ℕ) → Stands l at vs → sets l at vs ≡ l
+sets-again [] l at h = refl
+sets-again (a ∷ vs) l at h =
+    let here : at ≡ at + 0 = omega arith in
+    ap (λ (m : List ℕ). sets m (suc at) vs) (set-again l at a (rw here (h 0 (omega arith))))
+    ∙ sets-again vs l (suc at) (λ j k. let next : suc at + j ≡ at + suc j = omega arith in rw next (h (suc j) (omega arith)))
+
 -- ---- parts of what stands
 
 pub stands-front : (s : List ℕ) (at : ℕ) (a b : List ℕ) → Stands s at (a ++ b) → Stands s at a

@@ -16,14 +16,15 @@ use Rattle.rows.proofs.Tests.{split}
 use Rattle.rows.proofs.Digits.{bit-of-zero}
 use Rattle.rows.proofs.ByteLaws.{little-join, little-lt, getD-words, has-words}
 use Rattle.rows.proofs.TableLaws.{getD-row}
-use Rattle.record.specs.Layout.{Layout, editionOf, countIn, slotAt, zeros}
+use Rattle.record.specs.Layout.{Layout, editionOf, countIn, slotAt, zeros, mostEvents, rowWords}
 use Rattle.record.specs.Terms.{none, termsIn, SameTerms, openingIn}
 use Rattle.record.specs.History.{historyOf, under, vis, Agree}
 use Rattle.record.specs.Questions.{termsRight}
-use Rattle.record.specs.Words.{slotWords, visibleWords, headWords, historyFrom, termsWords, differenceFrom, figureIn, openingFrom, termsFrom}
+use Rattle.record.specs.Words.{setRows, visibleWords, headWords, historyFrom, termsWords, differenceFrom, figureIn, openingFrom, termsFrom}
 use Rattle.record.proofs.StoresLaws.{Bytes}
 use Rattle.record.proofs.NumberBytes.{zeros-byte, little-same}
 use Rattle.record.proofs.SlotWords.{row-slot-words, related-vis}
+use Rattle.record.proofs.SoundLayout.{sound-of}
 
 -- ---- parts of a little-endian number
 
@@ -118,12 +119,12 @@ module _ (L : Layout) (s : List ℕ) (bytes : Bytes s) where
 
   -- ---- the visible sets
 
-  pub visible-vis : (rest : List ℕ) (a b : ℕ) → a < 64 * L .row → b < countIn s → related (visibleWords L s ++ rest) (L .row) a b ≡ vis (historyOf L s) a b
+  pub visible-vis : L .row ≤ rowWords → (rest : List ℕ) (a b : ℕ) → b < countIn s → related (visibleWords L s ++ rest) rowWords a b ≡ vis (historyOf L s) a b
   unfolding visibleWords
-  visible-vis rest a b h k =
-      let sets : List ℕ = slotWords L 32 (L .row) s (countIn s) in
-      let zeros : List ℕ = replicate (L .row * (L .events - countIn s)) 0 in
-      ap (λ (g : List ℕ). related g (L .row) a b) (append-assoc sets zeros rest) ∙ related-vis L s bytes (countIn s) (zeros ++ rest) a b h k
+  visible-vis narrow rest a b k =
+      let sets : List ℕ = setRows L s (countIn s) in
+      let zeros : List ℕ = replicate (rowWords * (mostEvents - countIn s)) 0 in
+      ap (λ (g : List ℕ). related g rowWords a b) (append-assoc sets zeros rest) ∙ related-vis L s narrow bytes (countIn s) (zeros ++ rest) a b k
 
   -- ---- the terms
 
@@ -143,10 +144,10 @@ module _ (L : Layout) (s : List ℕ) (bytes : Bytes s) where
 
   -- ---- field by field
 
-  pub words-agree-at : countIn s ≤ 64 * L .row → termsRight L s ≡ true → (tail rest : List ℕ)
-      → Agree (historyOf L s) (under (termsFrom (termsWords s)) (historyFrom (countIn s) (L .row) (headWords L s ++ tail) (visibleWords L s ++ rest)))
+  pub words-agree-at : L .row ≤ rowWords → termsRight L s ≡ true → (tail rest : List ℕ)
+      → Agree (historyOf L s) (under (termsFrom (termsWords s)) (historyFrom (countIn s) rowWords (headWords L s ++ tail) (visibleWords L s ++ rest)))
   unfolding historyOf historyFrom vis
-  words-agree-at wide right tail rest = record {
+  words-agree-at narrow right tail rest = record {
     events = record {
       count = refl;
       isWrite = λ e h. sym (ap (λ (x : ℕ). eqb x 1) (first-byte tail e h 0 (4 * e) (slotAt L e) (omega arith) (omega arith) (omega arith)));
@@ -158,7 +159,7 @@ module _ (L : Layout) (s : List ℕ) (bytes : Bytes s) where
       position = λ e h. sym (part tail e h 1 (4 * e + 1) (slotAt L e + 8) (omega arith) (omega arith) (omega arith) 2 2 4 refl ∙ ap (little 2 s) (omega arith));
       start = λ e h. sym (word tail e h 2 (4 * e + 2) (slotAt L e + 16) (omega arith) (omega arith) refl);
       return = λ e h p. returned e h;
-      sees = λ e b h k. sym (visible-vis rest b e (omega arith) h);
+      sees = λ e b h k. sym (visible-vis narrow rest b e h);
     };
     return = returned;
     terms = terms-agree right;
@@ -168,7 +169,7 @@ module _ (L : Layout) (s : List ℕ) (bytes : Bytes s) where
       returned e h = sym (word tail e h 3 (4 * e + 3) (slotAt L e + 24) (omega arith) (omega arith) refl)
 
 -- a record's words, whatever follows them, say what it says
-pub words-agree : (s : List ℕ) → Bytes s → countIn s ≤ 256 → termsRight (editionOf s) s ≡ true → (tail rest : List ℕ)
+pub words-agree : (s : List ℕ) → Bytes s → termsRight (editionOf s) s ≡ true → (tail rest : List ℕ)
     → Agree (historyOf (editionOf s) s)
-    (under (termsFrom (termsWords s)) (historyFrom (countIn s) 4 (headWords (editionOf s) s ++ tail) (visibleWords (editionOf s) s ++ rest)))
-words-agree s bytes few = words-agree-at (editionOf s) s bytes few
+    (under (termsFrom (termsWords s)) (historyFrom (countIn s) rowWords (headWords (editionOf s) s ++ tail) (visibleWords (editionOf s) s ++ rest)))
+words-agree s bytes = words-agree-at (editionOf s) s bytes (sound-of s .narrow)

@@ -1,15 +1,14 @@
 -- Laws of the work slice: zero after a refusal, else the visible sets, and the words past those asked for as they were. Assumes nothing.
 use mathlib.Core.Path.{_≡_, sym, ap, ap₂, _∙_}
-use mathlib.Core.List.{List, _++_, append-assoc}
+use mathlib.Core.List.{List, [], _++_, append-assoc, append-nil}
 use Prim.Native.Nat.{ℕ, _+_, _*_, _-_, _≤_}
-use native.Mathlib.Nat.{mul-comm, mul-sub, mul-le-mul-right}
 use native.Mathlib.Omega.{arith}
 use borrow.Author.Tests.{eq-eqb, ne-eqb, le-ltb}
-use lib.ListN.{length, take, drop, replicate, length-append, length-drop, length-replicate}
+use lib.ListN.{length, take, drop, replicate, length-append, length-drop, length-replicate, drop-of-length-le}
 use lib.Seq.{length-take-le, take-at, drop-at, drop-drop}
-use Rattle.record.specs.Layout.{Layout, countIn, workWords}
-use Rattle.record.specs.Words.{slotWords, visibleWords, workAfter}
-use Rattle.record.proofs.SlotWords.{length-slot-words}
+use Rattle.record.specs.Layout.{Layout, countIn, mostEvents, rowWords, workWords}
+use Rattle.record.specs.Words.{setRows, visibleWords, workAfter}
+use Rattle.record.proofs.SlotWords.{length-set-rows}
 
 -- the first m words are zero, and the rest l's
 abbrev pub ZeroFirst : ℕ → List ℕ → List ℕ → Type 0
@@ -26,42 +25,52 @@ loaded-past p l d i k q h most =
     let past : (e : List ℕ) → drop k e ≡ drop (k - i) (drop i e) = λ e. ap (λ (j : ℕ). drop j e) (sym whole) ∙ sym (drop-drop (k - i) i e) in
     past d ∙ ap (drop (k - i)) (ap (drop i) q ∙ drop-at p (drop i l) i h) ∙ sym (past l)
 
-rest-zeros : (L : Layout) (n : ℕ) → n ≤ L .events → workWords L - n * L .row ≡ L .row * (L .events - n)
-rest-zeros L n few = omega (arith, mul-sub (L .row) (L .events) n, mul-comm (L .row) (L .events), mul-comm (L .row) n)
+-- a row r of which the first k words become m, and the rest zero
+pub row-loaded : (k i : ℕ) (r m z : List ℕ) → i ≡ k → k ≤ length r → length m ≡ k → z ≡ replicate (length (take (length (m ++ drop i r) - k) (drop k (m ++ drop i r)))) 0
+    → take k (m ++ drop i r) ++ (z ++ drop (length (m ++ drop i r) - k) (drop k (m ++ drop i r))) ≡ m ++ replicate (length r - k) 0
+row-loaded k i r m z e h size q =
+    let l : List ℕ = m ++ drop i r in
+    let long : length l ≡ length r = omega (arith, length-append m (drop i r), length-drop i r) in
+    let room : length (drop k l) ≡ length r - k = omega (arith, length-drop k l) in
+    let many : length (take (length l - k) (drop k l)) ≡ length r - k = length-take-le (length l - k) (drop k l) (omega arith) ∙ omega arith in
+    let none : drop (length l - k) (drop k l) ≡ [] = drop-of-length-le (drop k l) {i = length l - k} (omega arith) in
+    rw (take-at m (drop i r) k size, none, q, many, append-nil {A = ℕ} (replicate (length r - k) 0))
 
-module _ (L : Layout) (s : List ℕ) (few : countIn s ≤ L .events) where
-  pub length-visible : length (visibleWords L s) ≡ workWords L
+rest-zeros : (n : ℕ) → n ≤ mostEvents → workWords - n * rowWords ≡ rowWords * (mostEvents - n)
+rest-zeros n few = omega arith
+
+module _ (L : Layout) (s : List ℕ) (narrow : L .row ≤ rowWords) (few : countIn s ≤ mostEvents) where
+  pub length-visible : length (visibleWords L s) ≡ workWords
   unfolding visibleWords
   length-visible =
       let n : ℕ = countIn s in
-      let w : ℕ = L .row in
-      omega (arith, length-append (slotWords L 32 w s n) (replicate (w * (L .events - n)) 0), length-slot-words L 32 w s n, length-replicate {A = ℕ} (w * (L .events - n)) 0, rest-zeros L n few, mul-le-mul-right w few)
+      omega (arith, length-append (setRows L s n) (replicate (rowWords * (mostEvents - n)) 0), length-set-rows L s narrow n, length-replicate {A = ℕ} (rowWords * (mostEvents - n)) 0)
 
   -- the sets loaded, and the words behind them cleared
-  pub visible-cleared : (n : ℕ) (l d z : List ℕ) → n ≡ countIn s → d ≡ slotWords L 32 (L .row) s n ++ drop (n * L .row) l → workWords L ≤ length d
-      → z ≡ replicate (length (take (workWords L - n * L .row) (drop (n * L .row) d))) 0
-      → take (n * L .row) d ++ (z ++ drop (workWords L - n * L .row) (drop (n * L .row) d)) ≡ visibleWords L s ++ drop (workWords L) l
+  pub visible-cleared : (n : ℕ) (l d z : List ℕ) → n ≡ countIn s → d ≡ setRows L s n ++ drop (n * rowWords) l → workWords ≤ length d
+      → z ≡ replicate (length (take (workWords - n * rowWords) (drop (n * rowWords) d))) 0
+      → take (n * rowWords) d ++ (z ++ drop (workWords - n * rowWords) (drop (n * rowWords) d)) ≡ visibleWords L s ++ drop workWords l
   unfolding visibleWords
   visible-cleared n l d z same q long zeros =
-      let sets : List ℕ = slotWords L 32 (L .row) s n in
-      let i : ℕ = n * L .row in
-      let size : length sets ≡ i = length-slot-words L 32 (L .row) s n in
-      let most : n ≤ L .events = omega arith in
-      let room : i ≤ workWords L = mul-le-mul-right (L .row) most in
-      let whole : i + (workWords L - i) ≡ workWords L = omega arith in
+      let sets : List ℕ = setRows L s n in
+      let i : ℕ = n * rowWords in
+      let size : length sets ≡ i = length-set-rows L s narrow n in
+      let most : n ≤ mostEvents = omega arith in
+      let room : i ≤ workWords = omega arith in
+      let whole : i + (workWords - i) ≡ workWords = omega arith in
       let front : take i d ≡ sets = ap (take i) q ∙ take-at sets (drop i l) i size in
-      let many : length (take (workWords L - i) (drop i d)) ≡ L .row * (L .events - n) =
-      length-take-le (workWords L - i) (drop i d) (omega (arith, length-drop i d)) ∙ rest-zeros L n most in
-      let back : drop (workWords L - i) (drop i d) ≡ drop (workWords L) l =
-      drop-drop (workWords L - i) i d ∙ ap (λ (k : ℕ). drop k d) whole ∙ loaded-past sets l d i (workWords L) q size room in
-      rw (front, zeros, many, back, ← same) (sym (append-assoc sets (replicate (L .row * (L .events - n)) 0) (drop (workWords L) l)))
+      let many : length (take (workWords - i) (drop i d)) ≡ rowWords * (mostEvents - n) =
+      length-take-le (workWords - i) (drop i d) (omega (arith, length-drop i d)) ∙ rest-zeros n most in
+      let back : drop (workWords - i) (drop i d) ≡ drop workWords l =
+      drop-drop (workWords - i) i d ∙ ap (λ (k : ℕ). drop k d) whole ∙ loaded-past sets l d i workWords q size room in
+      rw (front, zeros, many, back, ← same) (sym (append-assoc sets (replicate (rowWords * (mostEvents - n)) 0) (drop workWords l)))
 
 -- ---- what is left, by the answer's number
 
-pub work-refused : (L : Layout) (number : ℕ) (s l d : List ℕ) → 3 ≤ number → ZeroFirst (workWords L) l d → d ≡ workAfter L number s l
+pub work-refused : (L : Layout) (number : ℕ) (s l d : List ℕ) → 3 ≤ number → ZeroFirst workWords l d → d ≡ workAfter L number s l
 unfolding workAfter
 work-refused L number s l d h q = rw (ne-eqb number 0 (λ e. omega arith), le-ltb number 3 h) q
 
-pub work-passed : (L : Layout) (number : ℕ) (s l d : List ℕ) → number ≡ 0 → d ≡ visibleWords L s ++ drop (workWords L) l → d ≡ workAfter L number s l
+pub work-passed : (L : Layout) (number : ℕ) (s l d : List ℕ) → number ≡ 0 → d ≡ visibleWords L s ++ drop workWords l → d ≡ workAfter L number s l
 unfolding workAfter
 work-passed L number s l d e q = rw (eq-eqb number 0 e) q

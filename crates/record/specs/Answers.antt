@@ -34,7 +34,7 @@ RingsRight n v = (e : ℕ) → e < n → onRing n v e ≡ false
 
 -- 3 to 8 get a yes
 pub record BytesRight (L : Layout) (s : List ℕ) : Type 0 where
-  pub length : lengthRight L s ≡ true
+  pub length : lengthRight s ≡ true
   pub checks : ChecksRight s
   pub header : headerRight L s ≡ true
   pub blocks : blocksRight L s ≡ true
@@ -51,14 +51,14 @@ pub record Passes (L : Layout) (s : List ℕ) : Type 0 where
 abbrev pub Tells : Layout → List ℕ → Reading → Type 0
 Tells L s Passed = Passes L s
 Tells L s ShortWork = ⊥
-Tells L s WrongLength = lengthRight L s ≡ false
-Tells L s (WrongCheck k) = (lengthRight L s ≡ true) × LowestWrong (length s / 512) (λ b. not (blockRight s b)) k
-Tells L s WrongHeader = (lengthRight L s ≡ true) × ChecksRight s × (headerRight L s ≡ false)
-Tells L s WrongBlocks = (lengthRight L s ≡ true) × ChecksRight s × (headerRight L s ≡ true) × (blocksRight L s ≡ false)
+Tells L s WrongLength = lengthRight s ≡ false
+Tells L s (WrongCheck k) = (lengthRight s ≡ true) × LowestWrong (length s / 512) (λ b. not (blockRight s b)) k
+Tells L s WrongHeader = (lengthRight s ≡ true) × ChecksRight s × (headerRight L s ≡ false)
+Tells L s WrongBlocks = (lengthRight s ≡ true) × ChecksRight s × (headerRight L s ≡ true) × (blocksRight L s ≡ false)
 Tells L s (WrongSlot e) =
-    (lengthRight L s ≡ true) × ChecksRight s × (headerRight L s ≡ true) × (blocksRight L s ≡ true) × LowestWrong (slotsIn L s) (λ d. not (slotRight L s d)) e
+    (lengthRight s ≡ true) × ChecksRight s × (headerRight L s ≡ true) × (blocksRight L s ≡ true) × LowestWrong (slotsIn L s) (λ d. not (slotRight L s d)) e
 Tells L s (WrongPosition e) =
-    (lengthRight L s ≡ true) × ChecksRight s × (headerRight L s ≡ true) × (blocksRight L s ≡ true) × SlotsRight L s
+    (lengthRight s ≡ true) × ChecksRight s × (headerRight L s ≡ true) × (blocksRight L s ≡ true) × SlotsRight L s
     × LowestWrong (countIn s) (wrongPosition (historyOf L s)) e
 Tells L s (WrongSet e) = BytesRight L s × LowestWrong (countIn s) (wrongSet (L .row) (countIn s) (vis (historyOf L s))) e
 Tells L s (OnRing e) = BytesRight L s × SetsRight L (countIn s) (vis (historyOf L s)) × LowestWrong (countIn s) (onRing (countIn s) (vis (historyOf L s))) e

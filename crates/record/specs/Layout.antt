@@ -1,6 +1,7 @@
 -- Where things stand in a record ('The record'). An edition is a value of Layout, which has the numbers by which editions may differ. Those that they share
 -- stand where they are used: block 0's fields here, in Terms, Questions and Encode, the first 32 bytes of a slot in History, Slots, Words and Encode, a block's
--- check in Blocks and Encode. The code writes numbers out; its contracts hold them to these.
+-- check in Blocks and Encode. The house's own numbers, which hold whatever a record's edition is, stand at the end. The code has them as constants; its contracts
+-- hold them to these.
 use mathlib.Core.Bool.{Bool, true, false, cond, _&&_}
 use mathlib.Core.List.{List, [], _∷_}
 use Prim.Native.Nat.{ℕ, zero, suc, _+_, _*_, _-_, _/_, _%_}
@@ -16,15 +17,14 @@ pub record Layout : Type 0 where
   pub perBlock : ℕ
   -- 64-bit words of a visible set
   pub row : ℕ
-  -- the most events, and the longest record in bytes
+  -- the most events
   pub events : ℕ
-  pub longest : ℕ
   -- whether block 0 has terms: a difference of clocks, and openings
   pub terms : Bool
 
 -- the editions, which differ in their letters and in whether they have terms
 abbrev pub edition : Bool → Layout
-edition termed = record { letters = 71 ∷ 67 ∷ 82 ∷ cond termed 50 49 ∷ []; slot = 64; perBlock = 7; row = 4; events = 256; longest = 19456; terms = termed }
+edition termed = record { letters = 71 ∷ 67 ∷ 82 ∷ cond termed 50 49 ∷ []; slot = 64; perBlock = 7; row = 4; events = 256; terms = termed }
 
 -- `GCR1`, and `GCR2`
 abbrev pub gcr1 : Layout
@@ -71,6 +71,22 @@ same (x ∷ l) (y ∷ m) = eqb x y && same l m
 abbrev pub editionOf : List ℕ → Layout
 editionOf s = edition (same (take 4 s) (gcr2 .letters))
 
--- words of 64 bits that a reader is lent
-abbrev pub workWords : Layout → ℕ
-workWords L = L .events * L .row
+-- ---- the house's numbers
+
+-- the most events of a record, of whatever edition, and the bytes of the longest
+abbrev pub mostEvents : ℕ
+mostEvents = 256
+
+abbrev pub longestRecord : ℕ
+longestRecord = 19456
+
+-- words of 64 bits that a reader is lent: a row of so many for each event
+abbrev pub rowWords : ℕ
+rowWords = 4
+
+abbrev pub workWords : ℕ
+workWords = mostEvents * rowWords
+
+-- words of block 0's terms
+abbrev pub termsLength : ℕ
+termsLength = 17

@@ -6,7 +6,10 @@ pub mod History
 pub mod Slots
 pub mod Questions
 pub mod Answers
+pub mod LaidOut
 pub mod Words
 pub mod Encode
 pub mod WellFormed
+pub mod Positioned
+pub mod Converted
 pub mod Listed

@@ -6,7 +6,7 @@ use lib.Dec.{eqb, leb}
 use lib.ListN.{length, take}
 use Rattle.rows.specs.Lowest.{lowest, some}
 use Rattle.rows.specs.Relation.{Rel, reaches}
-use Rattle.record.specs.Layout.{Layout, countIn, sitesIn, zeros, same, workWords}
+use Rattle.record.specs.Layout.{Layout, countIn, sitesIn, zeros, same, longestRecord, workWords}
 use Rattle.record.specs.Terms.{openingsRight}
 use Rattle.record.specs.Blocks.{blockRight}
 use Rattle.record.specs.History.{History, historyOf, vis}
@@ -39,9 +39,9 @@ placeOf (WrongPosition e) = e
 placeOf (WrongSet e) = e
 placeOf (OnRing e) = e
 
--- 3: 512 to 19,456 bytes, and a multiple of 512
-unfoldable pub lengthRight : Layout → List ℕ → Bool
-lengthRight L s = leb 512 (length s) && (leb (length s) (L .longest) && eqb (length s % 512) 0)
+-- 3: from 512 bytes to the longest record's, and a multiple of 512
+unfoldable pub lengthRight : List ℕ → Bool
+lengthRight s = leb 512 (length s) && (leb (length s) longestRecord && eqb (length s % 512) 0)
 
 -- the bytes of block 0 behind the sites, up to its check: where the edition has terms, any difference in 8 to 11 and openings in 12 to 143; and zeros
 unfoldable pub termsRight : Layout → List ℕ → Bool
@@ -85,7 +85,7 @@ askEach n wrong refusal next = ask (not (some n wrong)) (refusal (lowest n wrong
 -- questions 3 to 8, which are asked of the bytes alone
 unfoldable pub byteQuestions : Layout → List ℕ → Reading
 byteQuestions L s =
-    ask (lengthRight L s) WrongLength
+    ask (lengthRight s) WrongLength
     (askEach (length s / 512) (λ k. not (blockRight s k)) WrongCheck
     (ask (headerRight L s) WrongHeader
     (ask (blocksRight L s) WrongBlocks
@@ -105,7 +105,7 @@ questions L s = andThen (byteQuestions L s) (setQuestions L (countIn s) (vis (hi
 
 -- the whole reading, with a work slice of w words
 unfoldable pub reading : Layout → ℕ → List ℕ → Reading
-reading L w s = ask (leb (workWords L) w) ShortWork (questions L s)
+reading L w s = ask (leb workWords w) ShortWork (questions L s)
 
 -- a reading as a host's number: 0 passed, 2,097,152 + 1,024 × number + place refused
 unfoldable pub packedReading : Reading → ℕ

@@ -6,25 +6,37 @@ use lib.Dec.{eqb, ltb}
 use lib.ListN.{getD, drop, replicate}
 use Rattle.rows.specs.Octets.{words}
 use Rattle.rows.specs.Row.{has, rowAt}
-use Rattle.record.specs.Layout.{Layout, slotAt, countIn, workWords}
+use Rattle.record.specs.Layout.{Layout, slotAt, countIn, mostEvents, rowWords, workWords, termsLength}
 use Rattle.record.specs.Terms.{Held, none, value, Terms, bare}
 use Rattle.record.specs.History.{History}
 
+-- the rows of the first n events, one after the other
+unfoldable pub rowsOf : (ℕ → List ℕ) → ℕ → List ℕ
+rowsOf row zero = []
+rowsOf row (suc e) = rowsOf row e ++ row e
+
 -- w words from byte `off` of each of the first n slots
 unfoldable pub slotWords : Layout → ℕ → ℕ → List ℕ → ℕ → List ℕ
-slotWords L off w s zero = []
-slotWords L off w s (suc e) = slotWords L off w s e ++ words w s (slotAt L e + off)
+slotWords L off w s n = rowsOf (λ e. words w s (slotAt L e + off)) n
 
--- the visible sets, the same number of words for each event, and zero from event n on
+-- the visible set of event e as a row of the work slice: its words, and zeros behind them where the edition's sets are narrower than a row
+abbrev pub setRow : Layout → List ℕ → ℕ → List ℕ
+setRow L s e = words (L .row) s (slotAt L e + 32) ++ replicate (rowWords - L .row) 0
+
+-- those of the first n events
+unfoldable pub setRows : Layout → List ℕ → ℕ → List ℕ
+setRows L s n = rowsOf (setRow L s) n
+
+-- the visible sets, a row for each event, and zero from event n on
 unfoldable pub visibleWords : Layout → List ℕ → List ℕ
-visibleWords L s = slotWords L 32 (L .row) s (countIn s) ++ replicate (L .row * (L .events - countIn s)) 0
+visibleWords L s = setRows L s (countIn s) ++ replicate (rowWords * (mostEvents - countIn s)) 0
 
 -- the work slice after a reading or a judgment: unchanged where a question before 3 refused, zero where one from 3 on did, else the visible sets.
 -- Words past those asked for never change.
 unfoldable pub workAfter : Layout → ℕ → List ℕ → List ℕ → List ℕ
 workAfter L number s work =
-    cond (eqb number 0) (visibleWords L s ++ drop (workWords L) work)
-    (cond (ltb number 3) work (replicate (workWords L) 0 ++ drop (workWords L) work))
+    cond (eqb number 0) (visibleWords L s ++ drop workWords work)
+    (cond (ltb number 3) work (replicate workWords 0 ++ drop workWords work))
 
 -- the other 32 bytes of a slot, as four words an event
 unfoldable pub headWords : Layout → List ℕ → List ℕ
@@ -77,7 +89,7 @@ historyFrom n w l v = record {
 
 -- block 0 from byte 8 on, as 17 words
 unfoldable pub termsWords : List ℕ → List ℕ
-termsWords s = words 17 s 8
+termsWords s = words termsLength s 8
 
 -- its terms in them: the difference is the lower half of the first; object o has an opening where bit 32 + o is set, and the values stand two in a word
 -- behind that one, the even object's below

@@ -10,6 +10,26 @@ pub const GCR1: [u8; 4] = *b"GCR1";
 
 pub const GCR2: [u8; 4] = *b"GCR2";
 
+// The house's numbers, whatever a record's edition is: the most events, the bytes of the longest record, and words of 64 bits of a row of the work slice and of
+// the whole slice.
+pub const EVENTS: usize = 256;
+
+pub const LONGEST: usize = 19456;
+
+pub const ROW: usize = 4;
+
+pub const WORK: usize = EVENTS * ROW;
+
+// Words of a visible set, in the editions that there are.
+pub const SET: usize = 4;
+
+// Words of the fields of an event, of those of all events, and of the terms in block 0.
+pub const HEAD: usize = 4;
+
+pub const HEADS: usize = EVENTS * HEAD;
+
+pub const TERMS: usize = 17;
+
 // Where the slot after the one at `at` starts, in every edition: behind it, or 128 bytes on where the next block starts there, as it does after a block's last slot.
 pub fn next_slot(at: usize) -> usize
     requires { ⌜ at + 128 < 2 ^ 64 ⌝ }

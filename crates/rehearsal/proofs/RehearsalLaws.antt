@@ -5,7 +5,8 @@ use mathlib.Core.List.{List, _++_}
 use Prim.Native.Nat.{ℕ, _+_, _*_, _-_, _%_, _≤_, _<_}
 use native.Mathlib.Omega.{arith}
 use lib.Dec.{eqb, leb}
-use lib.ListN.{length, drop}
+use lib.ListN.{length, take, drop}
+use lib.Seq.{take-at, drop-at}
 use borrow.Author.Tests.{eq-eqb, ne-eqb, eqb-true, leb-true, le-ltb}
 use Rattle.rows.specs.Count.{sum, howMany}
 use Rattle.rows.specs.Row.{has, onlyFirst, rowAt}
@@ -28,7 +29,7 @@ use Rattle.record.specs.Questions.{ask}
 use Rattle.store.specs.Rules.{run, answers}
 use Rattle.store.specs.Recorded.{recorded, storeRecord}
 use Rattle.store.specs.Outstanding.{lacks, outstanding, AddsUp, ToldAddsUp}
-use Rattle.store.specs.Rehearsal.{rehearsalRefusal, termsOf, storeAfter, recordOf, recordAfter, answersAfter, lengthAfter, outstandingAfter}
+use Rattle.store.specs.Rehearsal.{rehearsalRefusal, termsOf, storeAfter, callCount, answerIn, recordOf, recordAfter, answersAfter, lengthAfter, outstandingAfter}
 use Rattle.rehearsal.specs.Arrays.{Ends, ranStore, Bounded, DistinctStamps}
 use Rattle.rehearsal.specs.declared.Ran.{Ran}
 use Rattle.store.specs.Demand.{Rehearses}
@@ -36,7 +37,8 @@ use Rattle.store.proofs.RunKeeps.{every-run}
 use Rattle.store.proofs.SameRecord.{record-same}
 use Rattle.store.proofs.Sizes.{every-limits, every-sizes}
 use Rattle.store.proofs.StoreIsCausal.{key-once}
-use Rattle.store.proofs.EveryClose.{every-close}
+use Rattle.store.proofs.WholeList.{each-answer, beyond-answers}
+use Rattle.store.proofs.EveryClose.{every-close, close-at}
 use Rattle.store.proofs.EveryCopy.{every-copy}
 use Rattle.store.proofs.CopiesTold.{every-copy-told}
 use Rattle.store.proofs.ThirdDemand.{script-formed, third-demand}
@@ -153,11 +155,17 @@ module _ (n : ℕ) (openings script rec ans : List ℕ) where
         recorded = rw refused;
         answered = rw refused;
         copies = rw refused;
+        kept = λ x. (refl, refl);
+        front = λ z. absurd (some z);
+        beyond = refl;
         edition = λ z. absurd (some z);
         clocks = λ z j l. absurd (some z);
         opened = λ z j l. absurd (some z);
         causal = λ z. absurd (some z);
+        each-answer = λ z k l. absurd (some z);
+        beyond-answers = λ z. absurd (some z);
         closes = λ z before after e. absurd (some z);
+        closes-at = λ z k l e. absurd (some z);
         adds-up = λ z. absurd (some z);
         told-adds-up = λ z. absurd (some z);
       }
@@ -216,6 +224,11 @@ module _ (n : ℕ) (openings script rec ans : List ℕ) where
     accepted-rehearses rec′ ans′ long copies answered recorded lasts left =
         let yes : eqb (rehearsalRefusal n openings script rec ans) 0 ≡ true = eq-eqb (rehearsalRefusal n openings script rec ans) 0 ok in
         let right = accepted n openings script rec ans ok in
+        let whole : rec′ ≡ recordOf n openings script ++ drop (512 * blocksFor gcr2 (ran .count)) rec =
+        recorded ∙ ap (λ (s : List ℕ). s ++ drop (512 * blocksFor gcr2 (ran .count)) rec) record-right in
+        let long-right : length (recordOf n openings script) ≡ long = record-long ∙ sym lasts in
+        let rest : List ℕ = drop (length script) ans in
+        let calls : length script ≡ 8 * callCount script = omega (arith, right .whole) in
         let counted : copies ≡ outstanding n (storeAfter n openings script) = left ∙ outstanding-right in
         record {
           number = sym ok;
@@ -223,11 +236,21 @@ module _ (n : ℕ) (openings script rec ans : List ℕ) where
           recorded = rw (yes, record-long, ← record-right) recorded;
           answered = rw yes answered;
           copies = rw yes counted;
+          kept = λ some. absurd (some refl);
+          front = λ z. ap (take long) whole ∙ take-at (recordOf n openings script) (drop (512 * blocksFor gcr2 (ran .count)) rec) long long-right;
+          beyond =
+              ap (drop long) whole ∙ drop-at (recordOf n openings script) (drop (512 * blocksFor gcr2 (ran .count)) rec) long long-right
+              ∙ ap (λ (i : ℕ). drop i rec) (sym lasts);
           edition = λ z. record-edition n openings script rec ans ok opens bytes;
           clocks = λ z. record-clocks n openings script;
           opened = λ z. record-opened n openings script rec ans ok opens;
           causal = λ z. third-demand n (right .least) n≤8 openings script opens bytes;
+          each-answer = λ z k l. ap (λ (a : List ℕ). answerIn a k) answered ∙ each-answer n openings script rest k l;
+          beyond-answers = λ z. ap (drop (8 * callCount script)) answered ∙ beyond-answers n openings script rest ∙ ap (λ (i : ℕ). drop i ans) calls;
           closes = λ z before after e. every-close n n≤8 (termsOf openings) before;
+          closes-at = λ z k l e.
+              let c = close-at n n≤8 openings script rest k l e in
+              (c .0, ap (λ (a : List ℕ). answerIn a k) answered ∙ c .1);
           adds-up = λ z. rw counted script-adds-up;
-          told-adds-up = λ z. rw (answered, counted) (script-told (drop (length script) ans));
+          told-adds-up = λ z. rw (answered, counted) (script-told rest);
         }

@@ -1,6 +1,6 @@
 -- Laws of sums and of how many numbers pass a test; the ones of a word, and the members of a row that another lacks. Assumes nothing.
-use mathlib.Core.Path.{_≡_, refl, ap, _∙_}
-use mathlib.Core.Bool.{Bool, true, false, not, cond}
+use mathlib.Core.Path.{_≡_, refl, sym, ap, _∙_}
+use mathlib.Core.Bool.{Bool, true, false, not, cond, _||_}
 use mathlib.Core.List.{List}
 use Prim.Native.Nat.{ℕ, zero, suc, _+_, _-_, _*_, _/_, _%_, _^_, _≤_, _<_}
 use native.Mathlib.Omega.{arith}
@@ -9,9 +9,11 @@ use lib.Count.{ones, ones-step, ones-le}
 use lib.Dec.{eqb}
 use lib.ListN.{getD}
 use native.Mathlib.Nat.{le-refl, pow-succ'}
+use Rattle.rows.specs.Lowest.{some}
 use Rattle.rows.specs.Count.{sum, howMany}
 use Rattle.rows.specs.Row.{bitOf, onlyFirst}
 use Rattle.rows.proofs.Tests.{split}
+use Rattle.rows.proofs.LowestLaws.{some-of, some-more, none-some}
 use Rattle.rows.proofs.Digits.{digit-zero, digit-suc}
 use Rattle.rows.proofs.RowLaws.{lacking, lacking-lt, only-word}
 
@@ -162,3 +164,34 @@ only-many a b i h k =
       many-same 64 (λ j. onlyFirst a b (i * 64 + j)) (bitOf (lacking a b i)) (only-word a b i k),
       ones-many 64 (lacking a b i) (lacking-lt a b i h),
     )
+
+-- ---- different numbers below n
+
+-- x is one of f 0 .. f (m - 1)
+abbrev valued : (ℕ → ℕ) → ℕ → ℕ → Bool
+valued f m x = some m (λ i. eqb (f i) x)
+
+module _ (n : ℕ) (f : ℕ → ℕ) where
+  many-valued : (m : ℕ) → ((i : ℕ) → i < m → f i < n) → ((i j : ℕ) → i < j → j < m → f i ≡ f j → ⊥) → howMany n (valued f m) ≡ m
+  many-valued zero below apart = many-same n (valued f 0) (λ x. false) (λ x l. none-some 0 (λ i. eqb (f i) x) (λ i h. absurd (omega arith))) ∙ sum-each n 0 ∙ omega arith
+  many-valued (suc m) below apart =
+      let rest = many-valued m (λ i h. below i (omega arith)) (λ i j h l. apart i j h (omega arith)) in
+      let new : valued f m (f m) ≡ false = none-some m (λ i. eqb (f i) (f m)) (λ i h. ne-eqb (f i) (f m) (λ q. apart i m h (le-refl (suc m)) q)) in
+      let now : valued f (suc m) (f m) ≡ true = some-of (suc m) (λ i. eqb (f i) (f m)) m (le-refl (suc m)) (eq-eqb (f m) (f m) refl) in
+      sum-other n (λ x. cond (valued f (suc m) x) 1 0) (λ x. cond (valued f m x) 1 0) (f m) 1 (below m (le-refl (suc m)))
+      (rw (new, now) refl)
+      (λ x l other. ap (λ (t : Bool). cond {A = ℕ} t 1 0) (some-more m (λ i. eqb (f i) x) ∙ or-none (valued f m x) (eqb (f m) x) (ne-eqb (f m) x (λ q. other (sym q)))))
+      ∙ omega (arith, rest)
+    where
+      or-none : (t u : Bool) → u ≡ false → t || u ≡ t
+      or-none true u e = refl
+      or-none false u e = e
+
+  -- there are at most n
+  pub few-different : (m : ℕ) → ((i : ℕ) → i < m → f i < n) → ((i j : ℕ) → i < j → j < m → f i ≡ f j → ⊥) → m ≤ n
+  few-different m below apart = omega (arith, many-valued m below apart, many-most n (valued f m))
+
+  -- and where there are n, each number below n is one of them
+  pub all-different : ((i : ℕ) → i < n → f i < n) → ((i j : ℕ) → i < n → j < n → f i ≡ f j → i ≡ j) → (x : ℕ) → x < n → some n (λ i. eqb (f i) x) ≡ true
+  all-different below apart x l =
+      many-all n (valued f n) (omega (arith, many-valued n below (λ i j h k q. omega (arith, apart i j (omega arith) k q)))) x l

@@ -13,3 +13,5 @@ pub mod SliceLaws
 pub mod ByteLaws
 pub mod ReachLaws
 pub mod ShortestLaws
+pub mod PlacingLaws
+pub mod PlacingTurns

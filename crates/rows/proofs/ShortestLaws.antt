@@ -1,20 +1,30 @@
 -- Laws of shortest chains. Assumes nothing.
 use mathlib.Core.Path.{_≡_, refl, sym, ap, ap₂, _∙_}
-use mathlib.Core.Bool.{Bool, true, false, cond, _&&_, _||_}
+use mathlib.Core.Bool.{Bool, true, false, _&&_}
 use mathlib.Core.List.{List, [], _∷_}
 use Prim.Native.Nat.{ℕ, zero, suc, _+_, _-_, _<_, _≤_}
 use native.Mathlib.Omega.{arith}
-use borrow.Author.Tests.{ltb-true, ltb-false, eqb-true, eq-eqb, ne-eqb}
-use lib.Dec.{ltb, eqb}
+use borrow.Author.Tests.{ltb-true, ltb-false}
+use lib.Dec.{ltb}
 use lib.ListN.{length, getD}
 use Rattle.rows.specs.Lowest.{lowest, some}
-use Rattle.rows.specs.Count.{howMany}
 use Rattle.rows.specs.Relation.{Rel, reaches, Steps, one, more}
 use Rattle.rows.specs.Shortest.{leads, distance, nextOf, stepsFrom, shortestChain, Entries, last, next, NotLater, same, lower, then, Shortest}
-use Rattle.rows.proofs.Tests.{split, tell, never, or-elim, and-both, and-left, and-right}
+use Rattle.rows.proofs.Tests.{split, tell, and-both, and-left, and-right}
 use Rattle.rows.proofs.LowestLaws.{lowest-low, same-lowest, some-of, some-at, same-some}
-use Rattle.rows.proofs.CountLaws.{many-most, sum-other, sum-each}
+use Rattle.rows.proofs.CountLaws.{few-different}
 use Rattle.rows.proofs.ReachLaws.{reaches-sound}
+
+-- a list that begins with the lowest number at which f holds, beside one that begins with another
+pub lowest-not-later : (n : ℕ) (f : ℕ → Bool) (x : ℕ) {l m : List ℕ} → f x ≡ true → (lowest n f ≡ x → NotLater l m) → NotLater (lowest n f ∷ l) (x ∷ m)
+lowest-not-later n f x {l} {m} e rest =
+    split (ltb (lowest n f) x)
+    (λ t. lower (ltb-true (lowest n f) x t))
+    (λ t. split (ltb x (lowest n f))
+    (λ u. absurd (tell (f x) e (lowest-low n f .below x (ltb-true x (lowest n f) u))))
+    (λ u.
+    let z : lowest n f ≡ x = omega (arith, ltb-false (lowest n f) x t, ltb-false x (lowest n f) u) in
+    rw z (then (rest z))))
 
 module _ (n : ℕ) (r : Rel) where
   -- ---- k + 1 steps
@@ -93,16 +103,8 @@ module _ (n : ℕ) (r : Rel) where
     from-first zero a (next s i c) e = absurd (omega (arith, entries-some c))
     from-first (suc k) a (last s) e = absurd (omega arith)
     from-first (suc k) a (next {m = x} {l = l} s i c) e =
-        let y : ℕ = nextOf n r b k a in
         let q : onward b k a x ≡ true = and-both (r a x) (leads n r k x b) s (entries-lead c k (omega arith)) in
-        rw (from-more b k a)
-        (split (ltb y x)
-        (λ t. lower (ltb-true y x t))
-        (λ t. split (ltb x y)
-        (λ u. absurd (tell (onward b k a x) q (lowest-low n (onward b k a) .below x (ltb-true x y u))))
-        (λ u.
-        let z : y ≡ x = omega (arith, ltb-false y x t, ltb-false x y u) in
-        rw z (then (from-first k x c (omega arith))))))
+        rw (from-more b k a) (lowest-not-later n (onward b k a) x q (λ z. rw z (from-first k x c (omega arith))))
 
     -- ---- its entries
 
@@ -157,35 +159,6 @@ module _ (n : ℕ) (r : Rel) where
         let z : x ≡ b = q ∙ t .end v in
         tell (leads n r i a b) (rw z at (s .to)) (fewer i (omega arith)))
 
--- ---- a list of different numbers below n has at most n entries
-
-abbrev among : List ℕ → ℕ → Bool
-among [] x = false
-among (y ∷ l) x = eqb x y || among l x
-
-among-at : (l : List ℕ) (x : ℕ) → among l x ≡ true → ((j : ℕ) → j < length l → getD l j 0 ≡ x → ⊥) → ⊥
-among-at [] x e never-so = tell false e refl
-among-at (y ∷ l) x e never-so =
-    or-elim (eqb x y) (among l x) e
-    (λ t. never-so 0 (omega arith) (sym (eqb-true x y t)))
-    (λ t. among-at l x t (λ j h q. never-so (suc j) (omega arith) q))
-
-among-many : (n : ℕ) (l : List ℕ) → ((i : ℕ) → i < length l → getD l i 0 < n) → ((i j : ℕ) → i < j → j < length l → getD l i 0 ≡ getD l j 0 → ⊥)
-    → howMany n (among l) ≡ length l
-among-many n [] below once = sum-each n 0 ∙ omega arith
-among-many n (x ∷ l) below once =
-    let rest : howMany n (among l) ≡ length l =
-    among-many n l (λ i h. below (suc i) (omega arith)) (λ i j h k q. once (suc i) (suc j) (omega arith) (omega arith) q) in
-    let new : among l x ≡ false = never (among l x) (λ t. among-at l x t (λ j h q. once 0 (suc j) (omega arith) (omega arith) (sym q))) in
-    sum-other n (λ y. cond (among (x ∷ l) y) 1 0) (λ y. cond (among l y) 1 0) x 1 (below 0 (omega arith))
-    (rw (eq-eqb x x refl, new) refl)
-    (λ y h other. rw (ne-eqb y x other) refl)
-    ∙ omega (arith, rest)
-
-distinct-few : (n : ℕ) (l : List ℕ) → ((i : ℕ) → i < length l → getD l i 0 < n) → ((i j : ℕ) → i < j → j < length l → getD l i 0 ≡ getD l j 0 → ⊥)
-    → length l ≤ n
-distinct-few n l below once = omega (arith, among-many n l below once, many-most n (among l))
-
 -- ---- the distance
 
 module _ (n : ℕ) (r : Rel) (b : ℕ) (right : b < n) where
@@ -197,7 +170,7 @@ module _ (n : ℕ) (r : Rel) (b : ℕ) (right : b < n) where
   fewest-small : (k a : ℕ) → leads n r k a b ≡ true → ((j : ℕ) → j < k → leads n r j a b ≡ false) → k < n
   fewest-small k a e fewer =
       let long = from-length n r b k a in
-      omega (arith, long, distinct-few n (stepsFrom n r b k a) inside (λ i j h m. from-once n r b k a e fewer i j h (omega (arith, long))))
+      omega (arith, long, few-different n (λ i. getD (stepsFrom n r b k a) i 0) (length (stepsFrom n r b k a)) inside (λ i j h m. from-once n r b k a e fewer i j h (omega (arith, long))))
     where
       inside : (i : ℕ) → i < length (stepsFrom n r b k a) → getD (stepsFrom n r b k a) i 0 < n
       inside i h =
@@ -259,7 +232,7 @@ module _ (n : ℕ) (r : Rel) (b : ℕ) (right : b < n) where
 
 -- ---- there is one only
 
-not-later-both : {l m : List ℕ} → NotLater l m → NotLater m l → l ≡ m
+pub not-later-both : {l m : List ℕ} → NotLater l m → NotLater m l → l ≡ m
 not-later-both same q = refl
 not-later-both (lower h) q = absurd (apart h q)
   where

@@ -5,8 +5,8 @@ use Prim.Native.Nat.{ℕ, _+_, _-_, _*_, _≤_}
 use native.Mathlib.Omega.{arith}
 use native.Mathlib.Nat.{add-sub-cancel-left}
 use lib.ListN.{length, take, drop, drop-of-length-le}
-use Rattle.rows.specs.Row.{rowAt, RowPut}
-use Rattle.rows.proofs.TableLaws.{length-row, row-copied, putRow, length-put, row-put-same, row-put-other}
+use Rattle.rows.specs.Row.{rowAt, putRow, RowPut}
+use Rattle.rows.proofs.TableLaws.{length-row, row-copied, length-put, row-put-same, row-put-other}
 
 abbrev pub sliceAt : List ℕ → ℕ → ℕ → List ℕ
 sliceAt g w b = take (b * w + w - b * w) (drop (b * w) g)
@@ -31,6 +31,7 @@ given-back w c g {m} {m'} room q long =
     let wide : length m ≡ w = ap length q ∙ long in
     let given : giveBack g w c m ≡ putRow g w c m = rw add-sub-cancel-left in
     record {
+      whole = given ∙ ap (putRow g w c) q;
       size = ap length given ∙ length-put g w c m wide room;
       same = ap (λ (x : List ℕ). rowAt x w c) given ∙ row-put-same g w c m wide room ∙ q;
       other = λ d ne. ap (λ (x : List ℕ). rowAt x w d) given ∙ row-put-other g w c m wide room d ne;

@@ -12,7 +12,7 @@ use lib.Dec.{eqb}
 use lib.Bits.{bitOr}
 use lib.ListN.{length, getD, set, take, drop, replicate, length-take, length-drop, length-append, length-replicate, List·getD-append, List·getD-eq-default}
 use lib.Seq.{length-take-le, take-append-le, drop-append-le, getD-take, getD-drop, getD-set-other, getD-append-add, take-set-lt, drop-set-add, take-at, drop-at, ext-getD}
-use Rattle.rows.specs.Row.{bitOf, has, insert, orRow, orPart, rowAt}
+use Rattle.rows.specs.Row.{bitOf, has, insert, orRow, orPart, rowAt, putRow}
 use Rattle.rows.proofs.Tests.{tell, never}
 use Rattle.rows.proofs.FrontLaws.{front-all}
 use Rattle.rows.proofs.RowLaws.{has-insert, has-or, has-within, has-cleared, length-insert, length-or}
@@ -145,9 +145,6 @@ module _ (g : List ℕ) (w b x : ℕ) (inside : x < 64 * w) where
       row-insert-other c
 
 -- ---- row b is replaced by m, or joined with it
-
-abbrev pub putRow : List ℕ → ℕ → ℕ → List ℕ → List ℕ
-putRow g w b m = take (b * w) g ++ (m ++ drop w (drop (b * w) g))
 
 module _ (g : List ℕ) (w b : ℕ) (m : List ℕ) (wide : length m ≡ w) (room : b * w + w ≤ length g) where
   front : length (take (b * w) g) ≡ b * w

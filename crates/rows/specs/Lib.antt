@@ -5,3 +5,4 @@ pub mod Row
 pub mod Octets
 pub mod Relation
 pub mod Shortest
+pub mod Placing

@@ -70,8 +70,13 @@ rowAt g w b = take w (drop (b * w) g)
 abbrev pub Row : ℕ → (ℕ → Bool) → List ℕ → Type 0
 Row n f l = (x : ℕ) → has l x ≡ (ltb x n && f x)
 
--- row c is replaced by m
+-- a table of rows of w words with m in the place of row b
+abbrev pub putRow : List ℕ → ℕ → ℕ → List ℕ → List ℕ
+putRow g w b m = take (b * w) g ++ (m ++ drop w (drop (b * w) g))
+
+-- row c is replaced by m: so of every word, and of each row, where rows have a word
 pub record RowPut (w c : ℕ) (m old new : List ℕ) : Type 0 where
+  pub whole : new ≡ putRow old w c m
   pub size : length new ≡ length old
   pub same : rowAt new w c ≡ m
   pub other : (d : ℕ) → (d ≡ c → ⊥) → rowAt new w d ≡ rowAt old w d

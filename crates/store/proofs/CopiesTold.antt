@@ -32,7 +32,7 @@ use Rattle.store.proofs.WholeList.{storeUpTo, store-up-to, answers-whol
 use Rattle.store.proofs.EveryCopy.{Reached, run-more, holds, done-add-up}
 
 -- a call's kind is its first byte, unless it is malformed
-abbrev Kind : Call → ℕ → Type 0
+abbrev pub Kind : Call → ℕ → Type 0
 Kind c b = (c ≡ malformed) ⊎ (kindOf c ≡ b)
 
 by-whole : (t : Bool) (c : Call) (b : ℕ) → Kind c b → Kind (cond t c malformed) b
@@ -43,7 +43,7 @@ by-kind : (t : Bool) (c d : Call) (b : ℕ) → (t ≡ true → kindOf c ≡ b) 
 by-kind true c d b h k = inr (h refl)
 by-kind false c d b h k = k
 
-kind-read : (s : List ℕ) (at : ℕ) → Kind (callAt s at) (byte s at)
+pub kind-read : (s : List ℕ) (at : ℕ) → Kind (callAt s at) (byte s at)
 unfolding callAt
 kind-read s at =
     let b : ℕ = byte s at in
@@ -64,7 +64,7 @@ done-read kind n st s at =
     ]
 
 -- an answer's first byte is the number that refused its call, or 0
-answer-number : (n : ℕ) (st : Store) (c : Call) → byte (answer n st c) 0 ≡ refusal n st c
+pub answer-number : (n : ℕ) (st : Store) (c : Call) → byte (answer n st c) 0 ≡ refusal n st c
 unfolding answer doneAnswer
 answer-number n st c =
     split (eqb (refusal n st c) 0)
@@ -82,7 +82,7 @@ one-bit : (t : Bool) → cond t 1 0 ≡ bit t
 one-bit true = refl
 one-bit false = refl
 
-close-only : (c : Call) (x y : ℕ) → (c ≡ close → x ≡ y) → cond (eqb (kindOf c) 4) x 0 ≡ cond (eqb (kindOf c) 4) y 0
+pub close-only : (c : Call) (x y : ℕ) → (c ≡ close → x ≡ y) → cond (eqb (kindOf c) 4) x 0 ≡ cond (eqb (kindOf c) 4) y 0
 close-only (put s o v) x y h = refl
 close-only (get s o) x y h = refl
 close-only (deliver w t) x y h = refl

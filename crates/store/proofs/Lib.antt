@@ -1,4 +1,4 @@
--- What is proved of the store's rules. What users should know: StoreIsCausal, EveryClose, EveryCopy, CopiesTold, EveryOpening, ThirdDemand.
+-- What is proved of the store's rules. What users should know: StoreIsCausal, EveryClose, EveryCopy, CopiesTold, EveryOpening, ThirdDemand, and with keeps and returns Remaining, RemainingTold, CallsAlone, ItemsDemand.
 pub mod UpdateLaws
 pub mod Invariant
 pub mod DeliverKeeps
@@ -13,10 +13,18 @@ pub mod SameRecord
 pub mod Sizes
 pub mod StoreIsCausal
 pub mod CellsAgree
-pub mod EveryClose
 pub mod WholeList
+pub mod EveryClose
 pub mod EveryCopy
 pub mod EveryOpening
 pub mod CopiesTold
 pub mod OpeningTerms
 pub mod ThirdDemand
+pub mod NamedLaws
+pub mod Remaining
+pub mod KeptStores
+pub mod SinceLaws
+pub mod RemainingTold
+pub mod CallsAlone
+pub mod ItemsDemand
+pub mod NamedExamples

@@ -117,7 +117,7 @@ pub record Stays (st later : Store) : Type 0 where
   pub count : st .count ≤ later .count
   pub event : (e : ℕ) → e < st .count → later .event e ≡ st .event e
 
-stays-here : (st : Store) → Stays st st
+pub stays-here : (st : Store) → Stays st st
 stays-here st = record { count = le-refl _; event = λ e l. refl }
 
 effect-stays : (n : ℕ) (st : Store) (c : Call) → Stays st (effect n st c)

@@ -5,8 +5,8 @@ use mathlib.Core.List.{List, [], _∷_, _++_, append-assoc, append-nil}
 use Prim.Native.Nat.{ℕ, zero, suc, _+_, _*_, _/_, _≤_, _<_}
 use native.Mathlib.Omega.{arith}
 use lib.Dec.{eqb}
-use lib.ListN.{length, getD, length-append, replicate, length-replicate, List·getD-append}
-use lib.Seq.{getD-append-add}
+use lib.ListN.{length, getD, take, drop, length-append, replicate, length-replicate}
+use lib.Seq.{getD-take, getD-drop, take-at, drop-at}
 use Rattle.rows.specs.Count.{sum}
 use Rattle.rows.proofs.CountLaws.{sum-none, sum-more}
 use Rattle.record.specs.Terms.{Terms}
@@ -14,7 +14,7 @@ use Rattle.record.proofs.NumberBytes.{length-little}
 use Rattle.store.specs.Store.{Store, fresh}
 use Rattle.store.specs.Calls.{Call, put, get, deliver, close, malformed, callAt, callsFrom, callsOf}
 use Rattle.store.specs.Rules.{refusal, afterCall, run, total, doneAnswer, answer, answers}
-use Rattle.store.specs.Rehearsal.{termsOf, storeAfter}
+use Rattle.store.specs.Rehearsal.{termsOf, storeAfter, storeBefore, callCount, callIn, answerIn}
 use Rattle.store.proofs.UpdateLaws.{lt-suc-elim}
 use Rattle.store.proofs.Invariant.{StoreInv}
 use Rattle.store.proofs.RunKeeps.{every-run}
@@ -170,17 +170,42 @@ answers-up-to-length (suc k) n T s =
     length-append (answersUpTo k n T s) (answer n (storeUpTo k n T s) (callAt s (8 * k)))
     ∙ omega (arith, answer-length n (storeUpTo k n T s) (callAt s (8 * k)), answers-up-to-length k n T s)
 
--- byte j of the answer of call k, whatever stands behind the answers
+-- the answer of call k, whatever stands behind the answers
+answer-in : (m n : ℕ) (T : Terms) (s rest : List ℕ) (k : ℕ) → k < m
+    → answerIn (answersUpTo m n T s ++ rest) k ≡ answer n (storeUpTo k n T s) (callIn s k)
+unfolding answersUpTo
+answer-in zero n T s rest k l = absurd (omega arith)
+answer-in (suc m) n T s rest k l =
+    let a : List ℕ = answer n (storeUpTo m n T s) (callIn s m) in
+    ap (λ (x : List ℕ). answerIn x k) (append-assoc (answersUpTo m n T s) a rest)
+    ∙ lt-suc-elim k m l
+    (λ q. answer-in m n T s (a ++ rest) k q)
+    (λ q. rw q
+    (ap (take 8) (drop-at (answersUpTo m n T s) (a ++ rest) (8 * m) (answers-up-to-length m n T s))
+    ∙ take-at a rest 8 (answer-length n (storeUpTo m n T s) (callIn s m))))
+
+-- and byte j of it
 pub answer-at : (m n : ℕ) (T : Terms) (s rest : List ℕ) (k : ℕ) → k < m → (j : ℕ) → j < 8
     → getD (answersUpTo m n T s ++ rest) (8 * k + j) 0 ≡ getD (answer n (storeUpTo k n T s) (callAt s (8 * k))) j 0
-unfolding answersUpTo
-answer-at zero n T s rest k l j h = absurd (omega arith)
-answer-at (suc m) n T s rest k l j h =
-    let a : List ℕ = answer n (storeUpTo m n T s) (callAt s (8 * m)) in
-    ap (λ (x : List ℕ). getD x (8 * k + j) 0) (append-assoc (answersUpTo m n T s) a rest)
-    ∙ lt-suc-elim k m l
-    (λ q. answer-at m n T s (a ++ rest) k q j h)
-    (λ q. rw q
-    (ap (λ (i : ℕ). getD (answersUpTo m n T s ++ (a ++ rest)) (i + j) 0) (sym (answers-up-to-length m n T s))
-    ∙ getD-append-add (answersUpTo m n T s) (a ++ rest) j 0
-    ∙ List·getD-append a rest 0 j (omega (arith, answer-length n (storeUpTo m n T s) (callAt s (8 * m))))))
+answer-at m n T s rest k l j h =
+    let all : List ℕ = answersUpTo m n T s ++ rest in
+    sym (getD-take 8 (drop (8 * k) all) j 0 h ∙ getD-drop (8 * k) all j 0)
+    ∙ ap (λ (a : List ℕ). getD a j 0) (answer-in m n T s rest k l)
+
+-- ---- a script's answers, and what stands behind them
+
+module _ (n : ℕ) (openings s rest : List ℕ) where
+  abbrev told : List ℕ
+  told = answers n (fresh (termsOf openings)) (callsOf s)
+
+  pub each-answer : (k : ℕ) → k < callCount s → answerIn (told ++ rest) k ≡ answer n (storeBefore n openings s k) (callIn s k)
+  unfolding storeBefore
+  each-answer k l =
+      ap (λ (a : List ℕ). answerIn (a ++ rest) k) (sym (answers-whole n (termsOf openings) s))
+      ∙ answer-in (callCount s) n (termsOf openings) s rest k l
+      ∙ ap (λ (st : Store). answer n st (callIn s k)) (store-up-to k n (termsOf openings) s)
+
+  pub beyond-answers : drop (8 * callCount s) (told ++ rest) ≡ rest
+  beyond-answers =
+      drop-at told rest (8 * callCount s)
+      (ap length (sym (answers-whole n (termsOf openings) s)) ∙ answers-up-to-length (callCount s) n (termsOf openings) s)

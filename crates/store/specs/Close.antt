@@ -16,10 +16,14 @@ pub record AllAgree (n : ℕ) (st : Store) : Type 0 where
   pub cells : (s t o : ℕ) → s < n → t < n → st .site s .cell o ≡ st .site t .cell o
   pub gets : (s t o : ℕ) → s < n → t < n → answer n st (get s o) ≡ answer n st (get t o)
 
+-- a close's answer: 0, 1, two zeros, and in four bytes the number of pairs that were lacking
+abbrev pub closeAnswer : ℕ → Store → List ℕ
+closeAnswer n st = 0 ∷ 1 ∷ (replicate 2 0 ++ littleBytes 4 (outstanding n st))
+
 -- a close at n sites of the store st: what it leaves; its answer, which has the number of pairs that were lacking, so few that four
 -- bytes hold it; and that none of its deliveries meets an unmet need (36)
 pub record Closes (n : ℕ) (st : Store) : Type 0 where
   pub leaves : AllAgree n (afterCall n st close)
-  pub answered : answer n st close ≡ 0 ∷ 1 ∷ (replicate 2 0 ++ littleBytes 4 (outstanding n st))
+  pub answered : answer n st close ≡ closeAnswer n st
   pub few : outstanding n st ≤ 2048
   pub needs-met : (front rest : List Copy) (c : Copy) → closeCopies n st ≡ front ++ (c ∷ rest) → copyRefusal n (afterCopies n st front) c ≡ 36 → ⊥

@@ -1,13 +1,13 @@
 -- A rehearsal: 20 to 23 and 40, then the whole list of calls from fresh sites; its number, record, answers and copies outstanding.
 use mathlib.Core.Bool.{cond, _&&_}
 use mathlib.Core.List.{List, _++_}
-use Prim.Native.Nat.{ℕ, _%_}
+use Prim.Native.Nat.{ℕ, _*_, _/_, _%_}
 use lib.Dec.{eqb, leb}
-use lib.ListN.{length, drop}
-use Rattle.record.specs.Layout.{gcr2}
+use lib.ListN.{length, take, drop}
+use Rattle.record.specs.Layout.{gcr2, longestRecord}
 use Rattle.record.specs.Terms.{Terms, openingIn, openingsRight}
 use Rattle.store.specs.Store.{Store, fresh}
-use Rattle.store.specs.Calls.{callsOf}
+use Rattle.store.specs.Calls.{Call, callAt, callsFrom, callsOf}
 use Rattle.record.specs.Questions.{ask}
 use Rattle.store.specs.Rules.{run, answers}
 use Rattle.store.specs.Recorded.{storeRecord}
@@ -18,7 +18,7 @@ unfoldable pub rehearsalRefusal : ℕ → List ℕ → List ℕ → List ℕ →
 rehearsalRefusal n openings script rec ans =
     ask (leb 1 n && leb n 8) 20
     (ask (eqb (length script % 8) 0 && leb (length script) 32768) 21
-    (ask (leb (gcr2 .longest) (length rec)) 22
+    (ask (leb longestRecord (length rec)) 22
     (ask (leb (length script) (length ans)) 23
     (ask (eqb (length openings) 132 && openingsRight openings 0) 40 0))))
 
@@ -29,6 +29,20 @@ termsOf openings = record { difference = 0; opening = openingIn openings 0 }
 -- the store after a script, at n fresh sites
 unfoldable pub storeAfter : ℕ → List ℕ → List ℕ → Store
 storeAfter n openings script = run n (fresh (termsOf openings)) (callsOf script)
+
+-- the store that call k finds: after the calls before it
+unfoldable pub storeBefore : ℕ → List ℕ → List ℕ → ℕ → Store
+storeBefore n openings script k = run n (fresh (termsOf openings)) (callsFrom k script 0)
+
+-- the calls of a script, call k of it, and the eight bytes of its answer
+abbrev pub callCount : List ℕ → ℕ
+callCount script = length script / 8
+
+abbrev pub callIn : List ℕ → ℕ → Call
+callIn script k = callAt script (8 * k)
+
+abbrev pub answerIn : List ℕ → ℕ → List ℕ
+answerIn ans k = take 8 (drop (8 * k) ans)
 
 -- its record is a `GCR2`, with the openings in block 0
 unfoldable pub recordOf : ℕ → List ℕ → List ℕ → List ℕ

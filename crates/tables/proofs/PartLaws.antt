@@ -1,15 +1,15 @@
 -- Laws of tables that stand one after the other in one slice, and of rows that are changed there. Assumes nothing.
-use mathlib.Core.Path.{_≡_, sym, ap, ap₂, _∙_}
+use mathlib.Core.Path.{_≡_, sym, ap, _∙_}
 use mathlib.Core.Logic.{_≢_}
 use mathlib.Core.List.{List, _++_}
 use Prim.Native.Nat.{ℕ, _+_, _-_, _*_, _≤_, _<_}
-use native.Mathlib.Nat.{mul-le-mul-right, add-sub-cancel-left, add-mul, mul-assoc}
+use native.Mathlib.Nat.{mul-le-mul-right, add-mul, mul-assoc}
 use native.Mathlib.Omega.{arith}
 use native.Mathlib.Decide.{decLt}
 use lib.ListN.{length, getD, take, drop, length-append, length-take, length-drop}
 use lib.Seq.{length-take-le, drop-at, drop-drop, getD-take, getD-drop, ext-getD, take-append-le, drop-append-le}
 use Rattle.rows.specs.Row.{rowAt, RowPut}
-use Rattle.rows.proofs.TableLaws.{row-room, length-row-le, getD-row, putRow, length-put, row-put-same, row-put-other}
+use Rattle.rows.proofs.TableLaws.{row-room, length-row-le, getD-row}
 use Rattle.tables.specs.Tables.{part}
 
 -- ---- table k of tables of n rows
@@ -79,6 +79,12 @@ places-apart n k j b c p q ne e = elim (decLt k j) [
 
 -- ---- a row that is changed where it stands
 
--- it is changed once more
-pub put-again : (w c : ℕ) (m m' g g' g'' : List ℕ) → RowPut w c m g g' → RowPut w c m' g' g'' → RowPut w c m' g g''
+-- the rows of a table in which row c became m
+pub record RowChanged (w c : ℕ) (m old new : List ℕ) : Type 0 where
+  pub size : length new ≡ length old
+  pub same : rowAt new w c ≡ m
+  pub other : (d : ℕ) → (d ≡ c → ⊥) → rowAt new w d ≡ rowAt old w d
+
+-- it was changed twice
+pub put-again : (w c : ℕ) (m m' g g' g'' : List ℕ) → RowPut w c m g g' → RowPut w c m' g' g'' → RowChanged w c m' g g''
 put-again w c m m' g g' g'' p q = record { size = q .size ∙ p .size; same = q .same; other = λ d ne. q .other d ne ∙ p .other d ne }

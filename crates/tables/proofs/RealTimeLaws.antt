@@ -1,19 +1,19 @@
 -- Laws of rb's table: to each row are joined those that returned before the event's start less the difference. Assumes nothing.
-use mathlib.Core.Path.{_≡_, refl, sym, ap, _∙_, subst}
-use mathlib.Core.Bool.{Bool, true, false, _&&_, _||_}
+use mathlib.Core.Path.{_≡_, refl, sym, ap, ap₂, _∙_, subst}
+use mathlib.Core.Bool.{Bool, true, false, _&&_, _||_, or-comm, or-false}
 use mathlib.Core.List.{List, _++_}
 use Prim.Native.Nat.{ℕ, _+_, _-_, _*_, _≤_, _<_}
 use native.Mathlib.Nat.{add-mul}
 use native.Mathlib.Omega.{arith}
 use native.Mathlib.Decide.{ℕ-discrete, decLt}
 use borrow.Author.Tests.{eq-eqb, ne-eqb, le-ltb}
-use lib.Dec.{eqb}
+use lib.Dec.{eqb, ltb}
 use lib.ListN.{length, getD, take, drop, replicate, length-replicate, length-append, length-take, length-drop}
 use lib.Seq.{length-take-le, take-at, drop-at, drop-drop}
 use Rattle.rows.specs.Row.{has, orRow, rowAt, Row, RowPut}
 use Rattle.rows.specs.Relation.{Rel, Table}
 use Rattle.rows.proofs.LowestLaws.{some-of}
-use Rattle.rows.proofs.RowLaws.{has-past, row-empty, row-or, row-same}
+use Rattle.rows.proofs.RowLaws.{has-past, has-or, row-empty, row-same}
 use Rattle.rows.proofs.TableLaws.{row-room, length-row, length-row-le, has-row}
 use Rattle.record.specs.Terms.{Terms}
 use Rattle.record.specs.History.{History, under, vis}
@@ -21,7 +21,7 @@ use Rattle.record.specs.Words.{startIn, historyFrom}
 use Rattle.consistency.specs.Relations.{ob, rb, so, step, read, both, through}
 use Rattle.consistency.proofs.ClockLaws.{rb-even, rb-far}
 use Rattle.tables.specs.Tables.{part}
-use Rattle.tables.specs.Sweep.{InOrder, taken, ReturnedBefore, returnedIn, OneClock, Sweeps}
+use Rattle.tables.specs.Sweep.{InOrder, taken, ReturnedBefore, returnedIn, FarJoined, OneClock, Sweeps}
 use Rattle.tables.proofs.PartLaws.{front-given, same-later}
 use Rattle.tables.proofs.SweepLaws.{clock-front}
 use Rattle.tables.proofs.TakenLaws.{Marks, marks-none, marks-more, taken-none, taken-more, taken-returned}
@@ -44,7 +44,7 @@ module _ (l : List ℕ) (n w d : ℕ) (starts returns : List ℕ) where
     pub held : Row n (taken returns k) far
     pub wide : length far ≡ 8
     pub size : length t ≡ length t₀
-    pub rows : (q : Rel) → Table n w q t₀ → (b : ℕ) → b < n → Row n (λ a. (taken starts i b && farBefore a b) || q a b) (rowAt t w b)
+    pub rows : (b : ℕ) → b < n → (x : ℕ) → has (rowAt t w b) x ≡ has (rowAt t₀ w b) x || (taken starts i b && (ltb x n && farBefore x b))
 
   module _ (by-start : InOrder l n false starts (length starts)) (by-return : InOrder l n true returns (length returns)) (t₀ : List ℕ) where
     pub joining-none : Joining t₀ 0 0 (replicate 8 0) t₀
@@ -53,8 +53,7 @@ module _ (l : List ℕ) (n w d : ℕ) (starts returns : List ℕ) where
       held = row-same n (λ x. false) (replicate 8 0) (row-empty n 8) (taken returns 0) (λ x h. sym (taken-none returns x));
       wide = length-replicate {A = ℕ} 8 0;
       size = refl;
-      rows = λ q g b h. row-same n (λ a. q a b) (rowAt t₀ w b) (g b h) (λ a. (taken starts 0 b && farBefore a b) || q a b)
-          (λ a i. ap (λ (t : Bool). (t && farBefore a b) || q a b) (sym (taken-none starts b)));
+      rows = λ b h x. sym (ap (λ (t : Bool). has (rowAt t₀ w b) x || (t && (ltb x n && farBefore x b))) (taken-none starts b) ∙ or-false (has (rowAt t₀ w b) x));
     }
 
     module _ (k i : ℕ) (far t : List ℕ) (s : Joining t₀ k i far t) where
@@ -88,35 +87,43 @@ module _ (l : List ℕ) (n w d : ℕ) (starts returns : List ℕ) where
           there-taken : (y : ℕ) → (y ≡ c → ⊥) → taken starts (i + 1) y ≡ taken starts i y
           there-taken y ne = sym (taken-more starts i y) ∙ ap (λ (r : Bool). r || taken starts i y) (ne-eqb c y (λ p. ne (sym p)))
 
-          absorbed : (p f q : Bool) → ((p && f) || q) || f ≡ (true && f) || q
-          absorbed true true q = refl
-          absorbed true false true = refl
-          absorbed true false false = refl
+          absorbed : (z p f : Bool) → (z || (p && f)) || f ≡ z || (true && f)
+          absorbed true p f = refl
           absorbed false true true = refl
           absorbed false true false = refl
-          absorbed false false true = refl
-          absorbed false false false = refl
+          absorbed false false f = refl
 
-          rows : (q : Rel) → Table n w q t₀ → (y : ℕ) → y < n → Row n (λ a. (taken starts (i + 1) y && farBefore a y) || q a y) (rowAt t′ w y)
-          rows q g y v = elim (ℕ-discrete y c) [
-            | yes p ↦ subst (λ (z : ℕ). Row n (λ a. (taken starts (i + 1) z && farBefore a z) || q a z) (rowAt t′ w z)) (sym p)
-                (subst (Row n (λ a. (taken starts (i + 1) c && farBefore a c) || q a c)) (sym (put .same))
-                (row-same n (λ a. ((taken starts i c && farBefore a c) || q a c) || farBefore a c) (orRow (rowAt t w c) (rowAt far′ w 0))
-                (row-or n (λ a. (taken starts i c && farBefore a c) || q a c) (rowAt t w c) (s .rows q g c low) (λ a. farBefore a c) (rowAt far′ w 0) joined
-                (omega (arith, length-row-le far′ w 0, length-row t w c (row-room n w c (length t) low (omega (arith, s .size))))))
-                (λ a. (taken starts (i + 1) c && farBefore a c) || q a c)
-                (λ a j. absorbed (taken starts i c) (farBefore a c) (q a c) ∙ ap (λ (r : Bool). (r && farBefore a c) || q a c) (sym here-taken))))
-            | no ne ↦ subst (Row n (λ a. (taken starts (i + 1) y && farBefore a y) || q a y)) (sym (put .other y ne))
-                (row-same n (λ a. (taken starts i y && farBefore a y) || q a y) (rowAt t w y) (s .rows q g y v)
-                (λ a. (taken starts (i + 1) y && farBefore a y) || q a y)
-                (λ a j. ap (λ (r : Bool). (r && farBefore a y) || q a y) (sym (there-taken y ne))))
+          rows : (y : ℕ) → y < n → (u : ℕ) → has (rowAt t′ w y) u ≡ has (rowAt t₀ w y) u || (taken starts (i + 1) y && (ltb u n && farBefore u y))
+          rows y v u = elim (ℕ-discrete y c) [
+            | yes p ↦ subst (λ (z : ℕ). has (rowAt t′ w z) u ≡ has (rowAt t₀ w z) u || (taken starts (i + 1) z && (ltb u n && farBefore u z))) (sym p)
+                (ap (λ (r : List ℕ). has r u) (put .same)
+                ∙ has-or (rowAt t w c) (rowAt far′ w 0) u (omega (arith, length-row-le far′ w 0, length-row t w c (row-room n w c (length t) low (omega (arith, s .size)))))
+                ∙ ap₂ _||_ (s .rows c low u) (joined u)
+                ∙ absorbed (has (rowAt t₀ w c) u) (taken starts i c) (ltb u n && farBefore u c)
+                ∙ ap (λ (r : Bool). has (rowAt t₀ w c) u || (r && (ltb u n && farBefore u c))) (sym here-taken))
+            | no ne ↦ ap (λ (r : List ℕ). has r u) (put .other y ne) ∙ s .rows y v u
+                ∙ ap (λ (r : Bool). has (rowAt t₀ w y) u || (r && (ltb u n && farBefore u y))) (sym (there-taken y ne))
           ]
 
-      pub joining-all : length starts ≤ i → (q : Rel) → Table n w q t₀ → Table n w (λ a b. returnedIn l a (startIn l b - d) || q a b) t
-      joining-all h q g b low =
-          let e = by-start .each b low refl in
-          row-same n (λ a. (taken starts i b && farBefore a b) || q a b) (rowAt t w b) (s .rows q g b low) (λ a. farBefore a b || q a b)
-          (λ a j. ap (λ (r : Bool). (r && farBefore a b) || q a b) (some-of i (λ j. eqb (getD starts j 0) b) (e .0) (omega (arith, e .1)) (eq-eqb (getD starts (e .0) 0) b (e .2))))
+      pub joining-all : length starts ≤ i → FarJoined n w d l t₀ t
+      joining-all h = record {
+        size = s .size;
+        rows = λ b low x.
+            let e = by-start .each b low refl in
+            s .rows b low x
+            ∙ ap (λ (r : Bool). has (rowAt t₀ w b) x || (r && (ltb x n && farBefore x b)))
+            (some-of i (λ j. eqb (getD starts j 0) b) (e .0) (omega (arith, e .1)) (eq-eqb (getD starts (e .0) 0) b (e .2)));
+      }
+
+-- where the table held a relation, it holds that or who returned before
+pub far-table : (n w d : ℕ) (l old new : List ℕ) → FarJoined n w d l old new → (q : Rel) → Table n w q old → Table n w (λ a b. returnedIn l a (startIn l b - d) || q a b) new
+far-table n w d l old new far q table b low x =
+    far .rows b low x ∙ ap (λ (t : Bool). t || (ltb x n && returnedIn l x (startIn l b - d))) (table b low x)
+    ∙ turned (ltb x n) (q x b) (returnedIn l x (startIn l b - d))
+  where
+    turned : (t u v : Bool) → (t && u) || (t && v) ≡ t && (v || u)
+    turned true u v = or-comm u v
+    turned false u v = refl
 
 -- ---- the first table joined, before the others
 

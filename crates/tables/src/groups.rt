@@ -6,7 +6,7 @@ ghost use lib.Dec.{eqb};
 ghost use lib.ListN.{length, take, drop};
 ghost use Rattle.rows.specs.Row.{rowAt, Row, RowPut};
 ghost use Rattle.record.specs.Words.{objectIn, isWriteIn};
-ghost use Rattle.events.specs.Given.{Groups};
+ghost use Rattle.events.specs.Given.{groupRows, Groups};
 
 // Row o of g, of w words, comes to have the events on object o.
 fn fill_objects(l: &[u64], n: usize, w: usize, g: &mut [u64])
@@ -69,12 +69,12 @@ fn fill_kinds(l: &[u64], n: usize, w: usize, g: &mut [u64])
 // The events of each object at rows 0 to 255, then the writes, the reads and all events.
 pub fn fill(l: &[u64], n: usize, w: usize, g: &mut [u64])
     requires { ⌜ (4 * n ≤ length (now l)) × (n ≤ 64 * w) × (w ≤ 8) × (64 * length (now g) < 2 ^ 64) ⌝ }
-    requires { ⌜ 259 * w ≤ length (now g) ⌝ }
+    requires { ⌜ groupRows * w ≤ length (now g) ⌝ }
     ensures { λ _. ⌜ Groups n w (now (l .entry)) (now (g .exit)) ⌝ }
-    ensures { λ _. ⌜ (length (now (g .exit)) ≡ length (now (g .entry))) × (drop (259 * w) (now (g .exit)) ≡ drop (259 * w) (now (g .entry))) ⌝ }
+    ensures { λ _. ⌜ (length (now (g .exit)) ≡ length (now (g .entry))) × (drop (groupRows * w) (now (g .exit)) ≡ drop (groupRows * w) (now (g .entry))) ⌝ }
 {
-    let objects = 256 * w;
-    let end = 259 * w;
+    let objects = events::WRITES * w;
+    let end = events::GROUPS * w;
     fill_objects(l, n, w, &mut g[..objects]);
     fill_kinds(l, n, w, &mut g[objects..end]);
 }

@@ -1,14 +1,13 @@
 // The table of rb where clocks differ: so, which goes by one site's own, and who returned by more than the difference before an event starts.
 use rows::table_rows;
 ghost use mathlib.Core.Path.{_≡_};
-ghost use mathlib.Core.Bool.{true, false, _||_};
+ghost use mathlib.Core.Bool.{true, false};
 ghost use Prim.Native.Nat.{ℕ, _+_, _-_, _*_, _<_, _≤_};
 ghost use mathlib.Core.List.{_++_};
 ghost use lib.ListN.{length, getD, take, drop};
 ghost use Rattle.rows.specs.Row.{Row};
-ghost use Rattle.rows.specs.Relation.{Rel, Table};
-ghost use Rattle.record.specs.Words.{startIn, returnIn};
-ghost use Rattle.tables.specs.Sweep.{InOrder, taken, ReturnedBefore, returnedIn};
+ghost use Rattle.record.specs.Words.{returnIn};
+ghost use Rattle.tables.specs.Sweep.{InOrder, taken, ReturnedBefore, FarJoined};
 
 // The first `size` words become those behind them.
 pub fn put_again(t: &mut [u64], size: usize)
@@ -61,8 +60,7 @@ pub fn join_far(
 )
     requires { ⌜ (4 * n ≤ length (now l)) × (n ≤ 64 * w) × (w ≤ 8) × (length (now t) ≡ n * w) ⌝ }
     requires { ⌜ InOrder (now l) n false (now starts) (length (now starts)) × InOrder (now l) n true (now returns) (length (now returns)) ⌝ }
-    ensures { λ _. ⌜ ((q : Rel) → Table n w q (now (t .entry)) → Table n w (λ a b. returnedIn (now (l .entry)) a (startIn (now (l .entry)) b - difference) || q a b) (now (t .exit))) ⌝ }
-    ensures { λ _. ⌜ length (now (t .exit)) ≡ length (now (t .entry)) ⌝ }
+    ensures { λ _. ⌜ FarJoined n w difference (now (l .entry)) (now (t .entry)) (now (t .exit)) ⌝ }
 {
     let mut far = [0u64; 8];
     let mut k: usize = 0;

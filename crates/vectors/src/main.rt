@@ -1,6 +1,7 @@
 // Reads each file that an argument names, over work slices of 1,023, 1,024 and 1,030 words, and writes the reading and
 // what the slice holds afterwards.
 use libc::STDOUT_FILENO;
+use record::layout;
 
 // What stands in a work slice before it is lent.
 fn noise(i: usize) -> u64 {
@@ -39,7 +40,7 @@ fn report(s: &[u8], work: &mut [u64]) {
     io::write_all(STDOUT_FILENO, b": ");
     lines::reading(reading);
     let kept = is_kept(work, 0);
-    let rest = is_kept(work, 1024);
+    let rest = is_kept(work, layout::WORK);
     io::write_all(STDOUT_FILENO, b"    digest ");
     io::print_hex(STDOUT_FILENO, digest(work), 16);
     if kept {
@@ -59,12 +60,12 @@ fn vector(path: &[u8]) {
         os::fail(path);
         return;
     }
-    let mut input = [0u8; 20480];
+    let mut input = [0u8; layout::LONGEST + 1024];
     let length = io::read_full(fd, &mut input);
     libc::close(fd);
-    let mut short = [0u64; 1023];
-    let mut exact = [0u64; 1024];
-    let mut long = [0u64; 1030];
+    let mut short = [0u64; layout::WORK - 1];
+    let mut exact = [0u64; layout::WORK];
+    let mut long = [0u64; layout::WORK + 6];
     report(&input[..length], &mut short);
     report(&input[..length], &mut exact);
     report(&input[..length], &mut long);

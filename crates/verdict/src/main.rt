@@ -2,6 +2,7 @@
 // or the line of the question that refused the record.
 use libc::STDIN_FILENO;
 use libc::STDOUT_FILENO;
+use record::layout;
 
 // The line of one predicate, from its judgment's number.
 fn write_judgment(predicate: usize, judgment: u64) {
@@ -25,9 +26,9 @@ fn write_judgments(judgments: [u64; 13]) {
 
 fn main() {
     // One byte more than the longest record, so that a longer input is refused and not cut.
-    let mut input = [0u8; 19457];
+    let mut input = [0u8; layout::LONGEST + 1];
     let length = io::read_full(STDIN_FILENO, &mut input);
-    let mut work = [0u64; 1024];
+    let mut work = [0u64; layout::WORK];
     let all = judge::judge_all(&input[..length], &mut work);
     let reading = all.reading;
     if record::number(reading) != 0 {

@@ -1,12 +1,13 @@
 -- `chains::shortest` meets its contract: the first i entries of the chain are written, and the walk stands at e, from which the others lead on. Assumes nothing.
 use mathlib.Core.Path.{_≡_, refl, sym, _∙_}
 use mathlib.Core.List.{List}
-use Prim.Native.Nat.{ℕ, _+_, _-_, _≤_, _<_}
+use Prim.Native.Nat.{ℕ, _+_, _*_, _-_, _≤_, _<_}
 use native.Mathlib.Omega.{arith}
 use borrow.Author.Needs.{needs}
 use lib.ListN.{length, set, take, replicate, length-set, length-replicate}
 use Rattle.rows.specs.Relation.{related}
 use Rattle.rows.specs.Shortest.{distance}
+use Rattle.record.specs.Layout.{mostEvents, rowWords}
 use Rattle.chains.specs.Near.{Near}
 use Rattle.rows.proofs.TableLaws.{length-cut}
 use Rattle.chains.proofs.RoomLaws.{near-room}
@@ -56,8 +57,8 @@ near c = c .fill-near .last .1 .1 .1 .1 .0
 near-rows : (c : tie.After-fill-near Inv-loop μ-loop) → let a = start c .args in Near (a .table .now) (a .n) (a .w) (a .b) (c .fill-near .result) (near c)
 near-rows c = rw (cut (start c)) at (c .fill-near .ensures .1 .0)
 
-near-long : (c : tie.After-fill-near Inv-loop μ-loop) → length (near c) ≡ 1028
-near-long c = c .fill-near .ensures .1 .1 ∙ length-replicate {A = ℕ} 1028 0
+near-long : (c : tie.After-fill-near Inv-loop μ-loop) → length (near c) ≡ (mostEvents + 1) * rowWords
+near-long c = c .fill-near .ensures .1 .1 ∙ length-replicate {A = ℕ} ((mostEvents + 1) * rowWords) 0
 
 -- there is room for every entry
 room : (c : tie.At-loop Inv-loop μ-loop) → filled c .fill-near .result < length (entry c .args .out .now)
@@ -121,7 +122,7 @@ next-event-requires c κs =
     let h = c .before .loop-test .taken in
     let k = f .fill-near .result - 1 - l .loop .i in
     let below : k < s .args .n = omega (arith, h, found-below f) in
-    let long = near-room (s .args .n) (s .args .w) k 1028 below (s .pre .0 .2) in (
+    let long = near-room (s .args .n) (s .args .w) k ((mostEvents + 1) * rowWords) below (s .pre .0 .2) in (
       (s .pre .0 .0, s .pre .0 .1),
       ((below, l .loop .inv .here, omega (arith, near-long f, long)), row-below (s .pre .0 .0) (s .pre .1 .0 .1) (near f) (near-rows f) k (omega (arith, h))),
     )

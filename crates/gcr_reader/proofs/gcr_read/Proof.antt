@@ -1,9 +1,10 @@
 -- `gcr_reader::gcr_read` meets its contract: an answer's number and place are small enough to be packed. Assumes nothing.
 use mathlib.Core.Path.{_≡_, sym, ap, ap₂, _∙_}
-use Prim.Native.Nat.{_+_, _*_, _≤_}
+use Prim.Native.Nat.{_≤_}
 use native.Mathlib.Omega.{arith}
 use borrow.Author.Needs.{needs}
 use lib.ListN.{length}
+use Rattle.packed.specs.Packed.{packedRefusal}
 use Rattle.record.specs.declared.Reading.{Reading}
 use Rattle.record.specs.Layout.{editionOf}
 use Rattle.record.specs.Questions.{numberOf, placeOf, reading}
@@ -51,17 +52,11 @@ returns c =
     let r = done (c .before) in
     (sym (packed-passed (read (start r)) (sym (number-is (c .before)) ∙ c .if1 .taken)), work r)
 
-mul-result : tie.Need-mul-result
-mul-result c = omega (arith, few (c .before))
-
-add-result : tie.Need-add-result
-add-result c = omega (arith, few (c .before))
-
 place-requires : tie.Need-place-requires
 place-requires c κs = search needs
 
-add-result-2 : tie.Need-add-result-2
-add-result-2 c =
+refusal-requires : tie.Need-refusal-requires
+refusal-requires c κs =
     let a = start (done (c .before .before)) .args in
     omega (arith, few (c .before .before), place-is c, place-small (length (a .work .now)) (a .s .now))
 
@@ -70,9 +65,10 @@ same-length-2 c = search needs
 
 returns-2 : tie.Need-returns-2
 returns-2 c =
-    let n = c .before .before in
+    let p = c .before in
+    let n = p .before .before in
     let r = done n in
-    (ap₂ (λ k p. 2097152 + 1024 * k + p) (number-is n) (place-is c) ∙ sym (packed-refused (read (start r)) (λ z. c .before .if1 .left (number-is n ∙ z))), work r)
+    (c .refusal .ensures ∙ ap₂ packedRefusal (number-is n) (place-is p) ∙ sym (packed-refused (read (start r)) (λ z. p .before .if1 .left (number-is n ∙ z))), work r)
 
 pub gcr-read-spec : {M : Type 1} → statement M
 gcr-read-spec =
@@ -82,9 +78,7 @@ gcr-read-spec =
     number-requires
     same-length
     returns
-    mul-result
-    add-result
     place-requires
-    add-result-2
+    refusal-requires
     same-length-2
     returns-2)

@@ -2,14 +2,11 @@
 use mathlib.Core.Path.{_≡_, sym, _∙_}
 use mathlib.Core.List.{List}
 use Prim.Native.Nat.{ℕ}
-use borrow.Author.Needs.{needs}
-use Rattle.record.specs.Layout.{editionOf}
-use Rattle.record.specs.Questions.{numberOf, questions}
-use Rattle.record.specs.declared.Reading.the-variants.{Passed}
+use Rattle.record.specs.Questions.{numberOf}
 use Rattle.judge.specs.Lists.{upToZero}
-use Rattle.record.proofs.QuestionsAnswered.{number-passed}
-use Rattle.judge.proofs.RecordLaws.{work-visible}
+use Rattle.judge.proofs.RecordLaws.{read-into}
 use Rattle.judge.proofs.JudgmentLaws.{list-refused, list-judged}
+use borrow.Author.Needs.{needs}
 use Rattle.judge.proofs.judge_list.Statement.{statement}
 use Rattle.judge.proofs.judge_list.Tie as tie
 
@@ -27,9 +24,6 @@ bytes c = start c .args .s .now
 none : (c : tie.Else1) → numberOf (asked (c .before) .ask .result) ≡ 0
 none c = sym (c .before .number .ensures) ∙ c .if1 .left
 
-passed : (c : tie.Else1) → questions (editionOf (bytes (c .before))) (bytes (c .before)) ≡ Passed
-passed c = let a = asked (c .before) in sym (a .ask .ensures .0) ∙ number-passed (a .ask .result) (none c)
-
 ask-requires : tie.Need-ask-requires
 ask-requires c κs = search needs
 
@@ -45,12 +39,12 @@ returns c =
     let a = asked n in
     (list-refused (bytes n) (upToZero (start n .args .list)) (a .ask .result) (a .ask .ensures .0) (λ z. c .if1 .taken (n .number .ensures ∙ z)), a .ask .ensures .1)
 
-outcome-of-requires : tie.Need-outcome-of-requires
-outcome-of-requires c κs =
+first-broken-requires : tie.Need-first-broken-requires
+first-broken-requires c κs =
     let e = c .before in
     let n = e .before in
     let a = asked n in
-    (passed e, (work-visible (bytes n) (passed e) (numberOf (a .ask .result)) (start n .args .work .now) (a .ask .last .1 .0) (none e) (a .ask .ensures .1), start n .pre .1))
+    (read-into (bytes n) (a .ask .result) (none e) (start n .args .work .now) (a .ask .last .1 .0) (a .ask .ensures .1) (a .ask .ensures .0), start n .pre .1)
 
 same-length-2 : tie.Need-same-length-2
 same-length-2 c = search needs
@@ -60,7 +54,7 @@ returns-2 c =
     let e = c .before .before in
     let n = e .before in
     let a = asked n in
-    (list-judged (bytes n) (upToZero (start n .args .list)) (a .ask .result) (a .ask .ensures .0) (none e) (c .outcome-of .result) (c .outcome-of .ensures), rw (none e) at (a .ask .ensures .1))
+    (list-judged (bytes n) (upToZero (start n .args .list)) (a .ask .result) (a .ask .ensures .0) (none e) (c .first-broken .result) (c .first-broken .ensures), rw (none e) at (a .ask .ensures .1))
 
 pub judge-list-spec : {M : Type 1} → statement M
 judge-list-spec =
@@ -70,6 +64,6 @@ judge-list-spec =
     number-requires
     same-length
     returns
-    outcome-of-requires
+    first-broken-requires
     same-length-2
     returns-2)

@@ -5,7 +5,7 @@ use Prim.Native.Nat.{ℕ, _≤_}
 use native.Mathlib.Omega.{arith}
 use borrow.Author.Needs.{needs}
 use lib.ListN.{drop}
-use Rattle.record.specs.Layout.{editionOf, countIn}
+use Rattle.record.specs.Layout.{editionOf, countIn, workWords}
 use Rattle.record.specs.History.{historyOf, vis}
 use Rattle.record.specs.Questions.{numberOf, setQuestions}
 use Rattle.record.proofs.WorkLaws.{zero-first, work-refused}
@@ -63,8 +63,8 @@ returns c =
     let z = c .before .before .clear .last .0 in
     let no : numberOf (a .ask-bytes .result) ≡ 0 → ⊥ = λ e. t .if1 .taken (n .number .ensures ∙ e) in (
       questions-refused (editionOf (bytes a)) (bytes a) (a .ask-bytes .result) (a .ask-bytes .ensures) no,
-      work-refused (editionOf (bytes a)) (numberOf (a .ask-bytes .result)) (bytes a) work (z ++ drop 1024 work) (bytes-late (editionOf (bytes a)) (bytes a) (a .ask-bytes .result) (a .ask-bytes .ensures) no)
-          (zero-first 1024 work work z (start a .pre) refl (c .before .before .clear .ensures)),
+      work-refused (editionOf (bytes a)) (numberOf (a .ask-bytes .result)) (bytes a) work (z ++ drop workWords work) (bytes-late (editionOf (bytes a)) (bytes a) (a .ask-bytes .result) (a .ask-bytes .ensures) no)
+          (zero-first workWords work work z (start a .pre) refl (c .before .before .clear .ensures)),
     )
 
 count-requires : tie.Need-count-requires

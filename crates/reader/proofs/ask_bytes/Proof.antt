@@ -9,7 +9,7 @@ use lib.ListN.{length}
 use Rattle.rows.specs.Lowest.{lowest}
 use Rattle.rows.proofs.Tests.{told-true, told-false}
 use Rattle.record.specs.declared.Reading.the-variants.{Passed, WrongLength, WrongCheck, WrongHeader, WrongBlocks, WrongSlot, WrongPosition}
-use Rattle.record.specs.Layout.{editionOf, countIn}
+use Rattle.record.specs.Layout.{editionOf, countIn, longestRecord}
 use Rattle.record.specs.Blocks.{blockRight}
 use Rattle.record.specs.History.{historyOf}
 use Rattle.record.specs.Slots.{slotRight}
@@ -36,14 +36,14 @@ abbrev bytes5 : tie.Else5 → List ℕ
 bytes5 c = bytes4 (c .before .before)
 
 -- what is known after each yes, and the questions that are left
-length-yes : (c : tie.Else1) → lengthRight (editionOf (bytes1 c)) (bytes1 c) ≡ true
+length-yes : (c : tie.Else1) → lengthRight (bytes1 c) ≡ true
 length-yes c = told-true (c .before .length-holds .ensures) (c .if1 .left)
 
-long : (c : tie.Else1) → (512 ≤ length (bytes1 c)) × (length (bytes1 c) ≤ 19456) × (length (bytes1 c) % 512 ≡ 0)
+long : (c : tie.Else1) → (512 ≤ length (bytes1 c)) × (length (bytes1 c) ≤ longestRecord) × (length (bytes1 c) % 512 ≡ 0)
 long c = length-says (editionOf (bytes1 c)) (bytes1 c) (length-yes c)
 
 to-checks : (c : tie.Else1) → byteQuestions (editionOf (bytes1 c)) (bytes1 c) ≡ fromChecks (editionOf (bytes1 c)) (bytes1 c) Passed
-to-checks c = bytes-asked (editionOf (bytes1 c)) (bytes1 c) ∙ ask-yes (lengthRight (editionOf (bytes1 c)) (bytes1 c)) WrongLength (fromChecks (editionOf (bytes1 c)) (bytes1 c) Passed) (length-yes c)
+to-checks c = bytes-asked (editionOf (bytes1 c)) (bytes1 c) ∙ ask-yes (lengthRight (bytes1 c)) WrongLength (fromChecks (editionOf (bytes1 c)) (bytes1 c) Passed) (length-yes c)
 
 to-header : (c : tie.Else2) → byteQuestions (editionOf (bytes2 c)) (bytes2 c) ≡ fromHeader (editionOf (bytes2 c)) (bytes2 c) Passed
 to-header c =
@@ -85,7 +85,7 @@ length-holds-requires c κs = search needs
 returns : tie.Need-returns
 returns c =
     let s = c .before .before .before .args .s .now in
-    sym (bytes-asked (editionOf s) s ∙ ask-no (lengthRight (editionOf s) s) WrongLength (fromChecks (editionOf s) s Passed) (told-false (c .before .length-holds .ensures) (c .if1 .taken)))
+    sym (bytes-asked (editionOf s) s ∙ ask-no (lengthRight s) WrongLength (fromChecks (editionOf s) s Passed) (told-false (c .before .length-holds .ensures) (c .if1 .taken)))
 
 wrong-block-requires : tie.Need-wrong-block-requires
 wrong-block-requires c κs = omega (arith, long c)

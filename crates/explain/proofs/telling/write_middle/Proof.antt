@@ -7,11 +7,13 @@ use native.Mathlib.Omega.{arith}
 use borrow.Author.Needs.{needs}
 use lib.ListN.{length, drop}
 use Rattle.rows.specs.Lowest.{lowest}
+use Rattle.events.specs.Given.{writesRow}
 use Rattle.rows.specs.Row.{onlyFirst, rowAt}
 use Rattle.rows.specs.Relation.{related}
 use Rattle.rows.proofs.LowestLaws.{lowest-low}
 use Rattle.rows.proofs.TableLaws.{length-row}
 use Rattle.rows.proofs.SliceLaws.{sliceAt, length-slice}
+use Rattle.record.specs.Layout.{rowWords}
 use Rattle.tables.specs.Tables.{part}
 use Rattle.explain.proofs.ToldLaws.{set-two, so-row}
 use Rattle.explain.proofs.telling.write_middle.Statement.{statement}
@@ -22,17 +24,17 @@ start c = c .before .before .before .before .before .before
 
 -- row b of so's table as it is lent
 abbrev lent : tie.Start → List ℕ
-lent s = sliceAt (s .args .t .now) 4 (1 * s .args .n + s .args .b)
+lent s = sliceAt (s .args .t .now) rowWords (1 * s .args .n + s .args .b)
 
-wide : (s : tie.Start) → length (lent s) ≡ 4
-wide s = length-slice (s .args .t .now) 4 (1 * s .args .n + s .args .b) (omega (arith, s .pre .0 .2, s .pre .1 .2))
+wide : (s : tie.Start) → length (lent s) ≡ rowWords
+wide s = length-slice (s .args .t .now) rowWords (1 * s .args .n + s .args .b) (omega (arith, s .pre .0 .2, s .pre .1 .2))
 
-is-row : (s : tie.Start) → lent s ≡ rowAt (part (s .args .n) 4 1 (s .args .t .now)) 4 (s .args .b)
+is-row : (s : tie.Start) → lent s ≡ rowAt (part (s .args .n) rowWords 1 (s .args .t .now)) rowWords (s .args .b)
 is-row s = so-row (s .args .n) (s .args .b) (s .args .t .now) (s .pre .1 .2)
 
 -- m is a middle event
 abbrev between : tie.Start → ℕ → Bool
-between s m = onlyFirst (rowAt (part (s .args .n) 4 1 (s .args .t .now)) 4 (s .args .b)) (rowAt (s .args .groups .now) 4 256) m && related (s .args .v .now) 4 (s .args .a) m
+between s m = onlyFirst (rowAt (part (s .args .n) rowWords 1 (s .args .t .now)) rowWords (s .args .b)) (rowAt (s .args .groups .now) rowWords writesRow) m && related (s .args .v .now) rowWords (s .args .a) m
 
 found : (c : tie.After-lowest-after) → c .lowest-after .result ≡ lowest (start (c .before) .args .n) (between (start (c .before)))
 found c = let s = start (c .before) in rw (wide s, is-row s) at (c .lowest-after .ensures)
@@ -83,7 +85,7 @@ lowest-after-requires : tie.Need-lowest-after-requires
 lowest-after-requires c κs =
     let s = start c in
     let w = wide s in
-    ((rw w (s .pre .0 .0), omega (arith, w)), ((length-row (s .args .groups .now) 4 256 (omega (arith, s .pre .1 .0)) ∙ sym w, s .pre .1 .1), λ x e. s .pre .0 .1 .inside (s .args .b) x (s .pre .1 .2) (rw (is-row s) at e)))
+    ((rw w (s .pre .0 .0), omega (arith, w)), ((length-row (s .args .groups .now) rowWords writesRow (omega (arith, s .pre .1 .0)) ∙ sym w, s .pre .1 .1), λ x e. s .pre .0 .1 .inside (s .args .b) x (s .pre .1 .2) (rw (is-row s) at e)))
 
 cast-out : tie.Need-cast-out
 cast-out c =

@@ -1,7 +1,7 @@
 -- `gcr::explaining::gcr_explain` meets its contract: the number of what is told fits. Assumes nothing.
 use mathlib.Core.Path.{ap, _∙_}
 use borrow.Author.Needs.{needs}
-use Rattle.record.specs.Layout.{editionOf}
+use Rattle.record.specs.Layout.{editionOf, workWords}
 use Rattle.judge.proofs.JudgmentLaws.{predicate-fits}
 use Rattle.explain.specs.Explanations.{refusalNumber, entriesAfter, packedExplanation}
 use Rattle.explain.specs.declared.Explanation.{Explanation}
@@ -19,7 +19,7 @@ explain-requires : tie.Need-explain-requires
 explain-requires c κs = search needs
 
 pack-requires : tie.Need-pack-requires
-pack-requires c κs = let e = c .before .before .before in let a = start e .args in why-small (e .explain .ensures .1 .1 .1) (predicate-fits (a .s .now) 1024 (a .predicate))
+pack-requires c κs = let e = c .before .before .before in let a = start e .args in why-small (e .explain .ensures .1 .1 .1) (predicate-fits (a .s .now) workWords (a .predicate))
 
 same-length : tie.Need-same-length
 same-length c = search needs

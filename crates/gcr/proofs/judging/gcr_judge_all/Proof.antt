@@ -4,13 +4,15 @@ use mathlib.Core.Logic.{_≢_}
 use mathlib.Core.List.{List}
 use Prim.Native.Nat.{ℕ, _<_}
 use borrow.Author.Needs.{needs}
-use Rattle.record.specs.Layout.{editionOf}
+use Rattle.record.specs.Layout.{editionOf, workWords}
 use Rattle.record.specs.Questions.{numberOf, placeOf, reading}
 use Rattle.record.specs.declared.Reading.{Reading}
 use Rattle.record.proofs.QuestionsAnswered.{place-small, packed-passed, packed-refused}
 use Rattle.judge.specs.Judgments.{packedJudgment, packedJudgments, laidOver}
+use Rattle.judge.specs.Hosts.{ExactThirteen}
 use Rattle.judge.specs.declared.Judgment.the-variants.{Refused}
 use Rattle.judge.proofs.JudgmentLaws.{fitting-small}
+use Rattle.judge.proofs.HostsExact.{laid-hosts}
 use Rattle.gcr.proofs.judging.gcr_judge_all.Statement.{statement}
 use Rattle.gcr.proofs.judging.gcr_judge_all.Tie as tie
 
@@ -19,13 +21,16 @@ start c = c .before .before .before .before .before .before .before .before .bef
 
 -- the reading that the contract speaks of
 abbrev read : tie.Start → Reading
-read s = reading (editionOf (s .args .s .now)) 1024 (s .args .s .now)
+read s = reading (editionOf (s .args .s .now)) workWords (s .args .s .now)
 
 same : (c : tie.After-number) → c .before .before .before .before .before .before .before .before .judge-all .result .reading ≡ read (start c)
 same c = c .before .before .before .before .before .before .before .before .judge-all .ensures .0
 
-put : (c : tie.After-number) → c .before .before .before .put-over .last .1 .0 ≡ laidOver (packedJudgments (editionOf (start c .args .s .now)) 1024 13 (start c .args .s .now)) (start c .args .out .now)
+put : (c : tie.After-number) → c .before .before .before .put-over .last .1 .0 ≡ laidOver (packedJudgments (editionOf (start c .args .s .now)) workWords 13 (start c .args .s .now)) (start c .args .out .now)
 put c = c .before .before .before .put-over .ensures ∙ ap (λ (v : List ℕ). laidOver v (start c .args .out .now)) (c .before .before .before .before .before .before .before .before .judge-all .ensures .1 .0)
+
+exact : (c : tie.After-number) → ExactThirteen 1024 (start c .args .s .now) (c .before .before .before .put-over .last .1 .0)
+exact c = laid-hosts 1024 (start c .args .s .now) (start c .args .out .now) (put c)
 
 -- src/judging.rt:45:35
 slice-aggregate-judge-all : tie.Need-slice-aggregate-judge-all
@@ -55,13 +60,13 @@ same-length c = search needs
 returns : tie.Need-returns
 returns c =
     let n = c .before in
-    (sym (packed-passed (read (start n)) (sym (ap numberOf (same n)) ∙ sym (n .number .ensures) ∙ c .if1 .taken)), put n)
+    (sym (packed-passed (read (start n)) (sym (ap numberOf (same n)) ∙ sym (n .number .ensures) ∙ c .if1 .taken)), (put n, exact n))
 
 -- src/judging.rt:52:5
 pack-requires : tie.Need-pack-requires
 pack-requires c κs =
     let n = c .before in
-    fitting-small (Refused (n .before .before .before .before .before .before .before .before .judge-all .result .reading)) (subst (λ (r : Reading). placeOf r < 1024) (sym (same n)) (place-small 1024 (start n .args .s .now)))
+    fitting-small (Refused (n .before .before .before .before .before .before .before .before .judge-all .result .reading)) (subst (λ (r : Reading). placeOf r < 1024) (sym (same n)) (place-small workWords (start n .args .s .now)))
 
 -- src/judging.rt:39:1
 same-length-2 : tie.Need-same-length-2
@@ -73,7 +78,7 @@ returns-2 c =
     let e = c .before in
     let n = e .before in
     let refused : numberOf (read (start n)) ≢ 0 = λ z. e .if1 .left (n .number .ensures ∙ ap numberOf (same n) ∙ z) in
-    (c .pack .ensures ∙ ap (λ (r : Reading). packedJudgment (Refused r)) (same n) ∙ sym (packed-refused (read (start n)) refused), put n)
+    (c .pack .ensures ∙ ap (λ (r : Reading). packedJudgment (Refused r)) (same n) ∙ sym (packed-refused (read (start n)) refused), (put n, exact n))
 
 pub gcr-judge-all-spec : {M : Type 1} → statement M
 gcr-judge-all-spec =

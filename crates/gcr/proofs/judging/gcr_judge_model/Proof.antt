@@ -1,9 +1,10 @@
--- `gcr::judging::gcr_judge_model` meets its contract: the parts of a judgment fit into a host's number. Assumes nothing.
+-- `gcr::judging::gcr_judge_model` meets its contract: the parts of a judgment fit into a host's number, and are read back. Assumes nothing.
 use mathlib.Core.Path.{ap, _∙_}
 use borrow.Author.Needs.{needs}
-use Rattle.record.specs.Layout.{editionOf}
+use Rattle.record.specs.Layout.{editionOf, workWords}
 use Rattle.judge.specs.Judgments.{modelJudgment, packedJudgment}
 use Rattle.judge.proofs.JudgmentLaws.{model-fits, fitting-small}
+use Rattle.judge.proofs.HostsExact.{model-host}
 use Rattle.judge.proofs.CoversHosts.{tells-hosts}
 use Rattle.gcr.proofs.judging.gcr_judge_model.Statement.{statement}
 use Rattle.gcr.proofs.judging.gcr_judge_model.Tie as tie
@@ -17,13 +18,13 @@ judge-model-requires c κs = search needs
 pack-requires : tie.Need-pack-requires
 pack-requires c κs =
     let a = c .before .before .before .before .args in
-    rw (c .before .judge-model .ensures .0) (fitting-small (modelJudgment (editionOf (a .s .now)) 1024 (a .model) (a .s .now)) (model-fits (a .s .now) 1024 (a .model)))
+    rw (c .before .judge-model .ensures .0) (fitting-small (modelJudgment (editionOf (a .s .now)) workWords (a .model) (a .s .now)) (model-fits (a .s .now) workWords (a .model)))
 
 returns : tie.Need-returns
 returns c =
     let q = c .pack .ensures ∙ ap packedJudgment (c .before .before .judge-model .ensures .0) in
     let a = c .before .before .before .before .before .args in
-    (q, tells-hosts (a .model) (a .s .now) q)
+    (q, (model-host 1024 (a .s .now) (a .model) q, tells-hosts (a .model) (a .s .now) q))
 
 pub gcr-judge-model-spec : {M : Type 1} → statement M
 gcr-judge-model-spec =

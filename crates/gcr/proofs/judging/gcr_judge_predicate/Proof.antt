@@ -1,9 +1,10 @@
 -- `gcr::judging::gcr_judge_predicate` meets its contract, as `gcr_judge_model` does. Assumes nothing.
 use mathlib.Core.Path.{ap, _∙_}
 use borrow.Author.Needs.{needs}
-use Rattle.record.specs.Layout.{editionOf}
+use Rattle.record.specs.Layout.{editionOf, workWords}
 use Rattle.judge.specs.Judgments.{predicateJudgment, packedJudgment}
 use Rattle.judge.proofs.JudgmentLaws.{predicate-fits, fitting-small}
+use Rattle.judge.proofs.HostsExact.{predicate-host}
 use Rattle.gcr.proofs.judging.gcr_judge_predicate.Statement.{statement}
 use Rattle.gcr.proofs.judging.gcr_judge_predicate.Tie as tie
 
@@ -16,10 +17,13 @@ judge-predicate-requires c κs = search needs
 pack-requires : tie.Need-pack-requires
 pack-requires c κs =
     let a = c .before .before .before .before .args in
-    rw (c .before .judge-predicate .ensures .0) (fitting-small (predicateJudgment (editionOf (a .s .now)) 1024 (a .predicate) (a .s .now)) (predicate-fits (a .s .now) 1024 (a .predicate)))
+    rw (c .before .judge-predicate .ensures .0) (fitting-small (predicateJudgment (editionOf (a .s .now)) workWords (a .predicate) (a .s .now)) (predicate-fits (a .s .now) workWords (a .predicate)))
 
 returns : tie.Need-returns
-returns c = c .pack .ensures ∙ ap packedJudgment (c .before .before .judge-predicate .ensures .0)
+returns c =
+    let q = c .pack .ensures ∙ ap packedJudgment (c .before .before .judge-predicate .ensures .0) in
+    let a = c .before .before .before .before .before .args in
+    (q, predicate-host 1024 (a .s .now) (a .predicate) q)
 
 pub gcr-judge-predicate-spec : {M : Type 1} → statement M
 gcr-judge-predicate-spec =

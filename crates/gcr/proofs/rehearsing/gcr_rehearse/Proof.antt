@@ -38,7 +38,7 @@ returns : tie.Need-returns
 unfolding packedRehearsal
 returns c =
     let r = c .before .before .before .before in
-    rw (reads-back (r .rehearse .result) (omega (arith, small r .number)) (omega (arith, small r .length))) (r .rehearse .ensures .0)
+    rw (reads-back (r .rehearse .result) (omega (arith, small r .number)) (omega (arith, small r .length))) (r .rehearse .ensures)
 
 pub gcr-rehearse-spec : {M : Type 1} → statement M
 gcr-rehearse-spec =

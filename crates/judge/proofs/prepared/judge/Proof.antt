@@ -5,6 +5,7 @@ use Prim.Native.Nat.{ℕ, _*_, _≤_}
 use native.Mathlib.Omega.{arith}
 use lib.ListN.{length}
 use Rattle.rows.specs.Row.{rowAt}
+use Rattle.record.specs.Layout.{mostEvents, rowWords}
 use Rattle.record.specs.Terms.{Terms}
 use Rattle.record.specs.History.{History, under, vis}
 use Rattle.record.specs.Words.{historyFrom, isWriteIn, termsFrom}
@@ -22,7 +23,7 @@ use Rattle.judge.proofs.prepared.judge.Statement.{statement}
 use Rattle.judge.proofs.prepared.judge.Tie as tie
 
 abbrev history : tie.Start → History
-history s = historyFrom (s .args .n) 4 (s .args .l .now) (s .args .v .now)
+history s = historyFrom (s .args .n) rowWords (s .args .l .now) (s .args .v .now)
 
 -- the history that is judged
 abbrev judged : tie.Start → History
@@ -48,11 +49,11 @@ reads s = λ e. not (isWriteIn (s .args .l .now) e)
 abbrev every : tie.Start → ℕ → Bool
 every s = λ e. true
 
-whole : (s : tie.Start) → Whole true (s .args .n) (rowAt (s .args .groups .now) 4 258)
-whole s = every-whole (s .args .n) 4 (s .args .l .now) (s .args .groups .now) (s .pre .0 .1)
+whole : (s : tie.Start) → Whole true (s .args .n) (rowAt (s .args .groups .now) rowWords 258)
+whole s = every-whole (s .args .n) rowWords (s .args .l .now) (s .args .groups .now) (s .pre .0 .1)
 
 -- there is room for the tables and for the groups
-sized : (s : tie.Start) → (s .args .n ≤ 256) × (6 * (s .args .n * 4) ≤ length (s .args .t .now)) × (s .args .n * 4 ≤ length (s .args .v .now)) × (1036 ≤ length (s .args .groups .now))
+sized : (s : tie.Start) → (s .args .n ≤ mostEvents) × (6 * (s .args .n * rowWords) ≤ length (s .args .t .now)) × (s .args .n * rowWords ≤ length (s .args .v .now)) × (259 * rowWords ≤ length (s .args .groups .now))
 sized s = (s .pre .0 .0 .rows .wide, s .pre .1 .size, s .pre .0 .0 .rows .size, s .pre .0 .1 .size)
 
 mul-size : tie.Need-mul-size

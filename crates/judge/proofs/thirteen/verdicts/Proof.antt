@@ -1,31 +1,45 @@
 -- `judge::thirteen::verdicts` meets its contract. The invariant: the answers up to k are the numbers of the first k verdicts. Assumes nothing.
+use borrow.Author.Needs.{needs}
 use mathlib.Core.Path.{_≡_, refl, _∙_}
-use Prim.Native.Nat.{_-_, _≤_}
+use mathlib.Core.List.{List}
+use Prim.Native.Nat.{ℕ, _-_, _≤_}
 use native.Mathlib.Omega.{arith}
 use lib.ListN.{length, take, length-set}
-use Rattle.record.specs.History.{History, under}
-use Rattle.record.specs.Words.{historyFrom, termsFrom}
+use Rattle.record.specs.History.{historyOf}
+use Rattle.record.proofs.QuestionsAnswered.{passed-count}
+use Rattle.consistency.specs.Predicates.{verdict}
+use Rattle.judge.specs.Judgments.{saidBy}
 use Rattle.judge.specs.Lists.{packedVerdicts}
+use Rattle.judge.proofs.RecordLaws.{ready-verdict}
 use Rattle.judge.proofs.ThirteenLaws.{packed-small, packed-more, packed-all}
-use borrow.Author.Needs.{needs}
 use Rattle.judge.proofs.thirteen.verdicts.Statement.{statement}
 use Rattle.judge.proofs.thirteen.verdicts.Tie as tie
 
 abbrev Inv-loop : tie.InvT-loop
-Inv-loop l v terms n groups t answers₀ k₀ answers k =
-    (k ≤ 13) × (length answers ≡ 13) × (take k answers ≡ packedVerdicts k (under (termsFrom terms) (historyFrom n 4 l v)))
+Inv-loop s v l terms groups t n answers₀ k₀ answers k = (k ≤ 13) × (length answers ≡ 13) × (take k answers ≡ packedVerdicts k (saidBy s))
 
 abbrev μ-loop : tie.MeasureT-loop
-μ-loop l v terms n groups t answers₀ k₀ answers k = 13 - k
+μ-loop s v l terms groups t n answers₀ k₀ answers k = 13 - k
 
-abbrev history : tie.Start Inv-loop μ-loop → History
-history s = under (termsFrom (s .args .terms .now)) (historyFrom (s .args .n) 4 (s .args .l .now) (s .args .v .now))
+-- the places on the way, by name
+abbrev start : tie.After-prepare Inv-loop μ-loop → tie.Start Inv-loop μ-loop
+start c = c .before .before .before .before .before .before .before
 
-slice-aggregate-fill : tie.Need-slice-aggregate-fill Inv-loop μ-loop
-slice-aggregate-fill c = search needs
+abbrev prepared : tie.At-loop Inv-loop μ-loop → tie.After-prepare Inv-loop μ-loop
+prepared c = c .before .before .before .before .before
 
-fill-requires : tie.Need-fill-requires Inv-loop μ-loop
-fill-requires c κs = let g = c .before .before .before .before .pre .0 in ((g .heads, g .rows .wide, omega arith, omega arith), omega arith)
+abbrev turn : tie.After-judge Inv-loop μ-loop → tie.After-by-number Inv-loop μ-loop
+turn c = c .before .before .before .before .before
+
+abbrev at-loop : tie.After-judge Inv-loop μ-loop → tie.At-loop Inv-loop μ-loop
+at-loop c = turn c .before .before
+
+abbrev bytes : tie.At-loop Inv-loop μ-loop → List ℕ
+bytes c = start (prepared c) .args .s .now
+
+-- the verdict on the words is that on the record
+found : (c : tie.After-judge Inv-loop μ-loop) → c .judge .result ≡ verdict (turn c .by-number .result) (saidBy (bytes (at-loop c)))
+found c = ready-verdict _ _ _ _ _ _ _ (prepared (at-loop c) .prepare .ensures .0) _ _ (c .judge .ensures)
 
 slice-aggregate-prepare : tie.Need-slice-aggregate-prepare Inv-loop μ-loop
 slice-aggregate-prepare c = search needs
@@ -33,8 +47,14 @@ slice-aggregate-prepare c = search needs
 slice-aggregate-prepare-2 : tie.Need-slice-aggregate-prepare-2 Inv-loop μ-loop
 slice-aggregate-prepare-2 c = search needs
 
+slice-aggregate-prepare-3 : tie.Need-slice-aggregate-prepare-3 Inv-loop μ-loop
+slice-aggregate-prepare-3 c = search needs
+
+slice-aggregate-prepare-4 : tie.Need-slice-aggregate-prepare-4 Inv-loop μ-loop
+slice-aggregate-prepare-4 c = search needs
+
 prepare-requires : tie.Need-prepare-requires Inv-loop μ-loop
-prepare-requires c κs = let p = c .before .before .before .before .before .before .before .before .pre in (p .0, c .before .before .before .fill .ensures .0, p .1, omega (arith, p .0 .rows .wide))
+prepare-requires c κs = let s = c .before .before .before .before .before .before in (s .pre, search needs)
 
 loop-holds : tie.Need-loop-holds Inv-loop μ-loop
 unfolding packedVerdicts
@@ -55,14 +75,18 @@ slice-aggregate-judge c = search needs
 slice-aggregate-judge-2 : tie.Need-slice-aggregate-judge-2 Inv-loop μ-loop
 slice-aggregate-judge-2 c = search needs
 
+slice-aggregate-judge-3 : tie.Need-slice-aggregate-judge-3 Inv-loop μ-loop
+slice-aggregate-judge-3 c = search needs
+
+slice-aggregate-judge-4 : tie.Need-slice-aggregate-judge-4 Inv-loop μ-loop
+slice-aggregate-judge-4 c = search needs
+
 judge-requires : tie.Need-judge-requires Inv-loop μ-loop
-judge-requires c κs =
-    let p = c .before .before .before .before .before .before .before .before .before .before .before .before .before .before .before .pre in
-    ((p .0, c .before .before .before .before .before .before .before .before .before .before .fill .ensures .0, p .1), c .before .before .before .before .before .before .prepare .ensures .0)
+judge-requires c κs = let r = prepared (c .before .before .before .before .before .before) .prepare .ensures .0 in ((r .given, r .grouped, r .terms), r .tables)
 
 pack-requires : tie.Need-pack-requires Inv-loop μ-loop
-unfolding historyFrom
-pack-requires c κs = let s = c .before .before .before .before .before .before .before .before .before .before .before .before .before .before .before .before in packed-small (c .before .before .before .by-number .result) (history s) (c .judge .result) (s .pre .0 .rows .wide) (c .judge .ensures)
+unfolding historyOf
+pack-requires c κs = let k = at-loop c in packed-small (turn c .by-number .result) (saidBy (bytes k)) (c .judge .result) (passed-count (bytes k) (start (prepared k) .pre .passed)) (found c)
 
 mul-answers : tie.Need-mul-answers Inv-loop μ-loop
 mul-answers c = search needs
@@ -78,15 +102,15 @@ loop-less c = search needs
 
 loop-again : tie.Need-loop-again Inv-loop μ-loop
 loop-again c =
-    let s = c .before .before .before .before .before .before .before .before .before .before .before .before .before .before .before .before .before in
-    let l = c .before .before .before .before .before .before .loop in
-    let b = c .before .before .before .before .by-number in
-    let j = c .before .judge in
-    let h = c .before .before .before .before .before .loop-test .taken in
-    (omega (arith, h), length-set (l .answers) (l .k) (c .pack .result) ∙ l .inv .1, packed-more (history s) (l .answers) (l .k) (l .inv .2) (b .result) (j .result) (c .pack .result) (omega (arith, h, l .inv .1)) (b .ensures) (j .ensures) (c .pack .ensures))
+    let j = c .before in
+    let b = turn j in
+    let k = at-loop j in
+    let l = k .loop in
+    let h = b .before .loop-test .taken in
+    (omega (arith, h), length-set (l .answers) (l .k) (c .pack .result) ∙ l .inv .1, packed-more (saidBy (bytes k)) (l .answers) (l .k) (l .inv .2) (b .by-number .result) (j .judge .result) (c .pack .result) (omega (arith, h, l .inv .1)) (b .by-number .ensures) (found j) (c .pack .ensures))
 
 returns : tie.Need-returns Inv-loop μ-loop
-returns c = let l = c .before .loop in packed-all (history (c .before .before .before .before .before .before .before .before .before .before .before .before)) (l .answers) (l .k) (l .inv .2) (omega arith) (l .inv .1)
+returns c = let k = c .before in let l = k .loop in packed-all (saidBy (bytes k)) (l .answers) (l .k) (l .inv .2) (omega arith) (l .inv .1)
 
 pub verdicts-spec : {M : Type 1} → statement M
 verdicts-spec =
@@ -94,10 +118,10 @@ verdicts-spec =
     (tie.spec
     Inv-loop
     μ-loop
-    slice-aggregate-fill
-    fill-requires
     slice-aggregate-prepare
     slice-aggregate-prepare-2
+    slice-aggregate-prepare-3
+    slice-aggregate-prepare-4
     prepare-requires
     loop-holds
     cast-by-number
@@ -105,6 +129,8 @@ verdicts-spec =
     by-number-requires
     slice-aggregate-judge
     slice-aggregate-judge-2
+    slice-aggregate-judge-3
+    slice-aggregate-judge-4
     judge-requires
     pack-requires
     mul-answers

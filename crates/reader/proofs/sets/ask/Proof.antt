@@ -10,13 +10,14 @@ use lib.ListN.{length, take, drop, replicate}
 use Rattle.rows.specs.Lowest.{lowest}
 use Rattle.rows.specs.Relation.{Rel}
 use Rattle.record.specs.declared.Reading.the-variants.{Passed, WrongSet, OnRing}
-use Rattle.record.specs.Layout.{editionOf}
+use Rattle.record.specs.Layout.{editionOf, rowWords, workWords}
 use Rattle.record.specs.History.{historyOf, vis}
 use Rattle.record.specs.Questions.{wrongSet, onRing, askEach, setQuestions}
-use Rattle.record.specs.Words.{slotWords, workAfter}
+use Rattle.record.specs.Words.{setRows, workAfter}
 use Rattle.record.proofs.StoresLaws.{Bytes}
 use Rattle.record.proofs.AskLaws.{each-yes, each-found, each-past, none-past}
-use Rattle.record.proofs.SlotWords.{length-slot-words}
+use Rattle.record.proofs.SlotWords.{length-set-rows}
+use Rattle.record.proofs.SoundLayout.{sound-of}
 use Rattle.record.proofs.SetLaws.{loaded-graph, loaded-ring}
 use Rattle.record.proofs.WorkLaws.{zero-first, loaded-past, visible-cleared, work-refused, work-passed}
 use Rattle.reader.proofs.sets.ask.Statement.{statement}
@@ -39,43 +40,43 @@ range c i = c .before .before .before .shared-slice-known .given i .fits
 abbrev table : tie.After-load-sets → List ℕ
 table c = c .load-sets .last .1 .1 .0
 
-long : (c : tie.After-load-sets) → 1024 ≤ length (table c)
+long : (c : tie.After-load-sets) → workWords ≤ length (table c)
 long c = search needs
 
-past : (c : tie.After-load-sets) → drop 1024 (table c) ≡ drop 1024 (start c .args .table .now)
+past : (c : tie.After-load-sets) → drop workWords (table c) ≡ drop workWords (start c .args .table .now)
 past c =
     let k : ℕ = min (start c .args .n) (c .load-sets .result + 1) in
-    loaded-past (slotWords (editionOf (bytes c)) 32 4 (bytes c) k) (start c .args .table .now) (table c) (k * 4) 1024 (c .load-sets .ensures .1)
-    (length-slot-words (editionOf (bytes c)) 32 4 (bytes c) k) (omega arith)
+    loaded-past (setRows (editionOf (bytes c)) (bytes c) k) (start c .args .table .now) (table c) (k * rowWords) workWords (c .load-sets .ensures .1)
+    (length-set-rows (editionOf (bytes c)) (bytes c) (sound-of (bytes c) .narrow) k) (omega arith)
 
 -- a no: all words cleared
-cleared : (c : tie.After-load-sets) (number : ℕ) (z : List ℕ) → 3 ≤ number → z ≡ replicate (length (take 1024 (table c))) 0
-    → z ++ drop 1024 (table c) ≡ workAfter (editionOf (bytes c)) number (bytes c) (start c .args .table .now)
+cleared : (c : tie.After-load-sets) (number : ℕ) (z : List ℕ) → 3 ≤ number → z ≡ replicate (length (take workWords (table c))) 0
+    → z ++ drop workWords (table c) ≡ workAfter (editionOf (bytes c)) number (bytes c) (start c .args .table .now)
 cleared c number z h q =
     let t = start c .args .table .now in
-    work-refused (editionOf (bytes c)) number (bytes c) t (z ++ drop 1024 (table c)) h (zero-first 1024 t (table c) z (long c) (past c) q)
+    work-refused (editionOf (bytes c)) number (bytes c) t (z ++ drop workWords (table c)) h (zero-first workWords t (table c) z (long c) (past c) q)
 
 -- question 9 got a yes
 abbrev loaded : tie.Else1 → tie.After-load-sets
 loaded c = c .before .before .before
 
-all : (c : tie.Else1) → table (loaded c) ≡ slotWords (editionOf (bytes (loaded c))) 32 4 (bytes (loaded c)) (start (loaded c) .args .n) ++ drop (start (loaded c) .args .n * 4) (start (loaded c) .args .table .now)
+all : (c : tie.Else1) → table (loaded c) ≡ setRows (editionOf (bytes (loaded c))) (bytes (loaded c)) (start (loaded c) .args .n) ++ drop (start (loaded c) .args .n * rowWords) (start (loaded c) .args .table .now)
 all c =
     let l = loaded c in
     let n = start l .args .n in
     let m : min n (l .load-sets .result + 1) ≡ n = omega arith in
     rw m at (l .load-sets .ensures .1)
 
-right : (c : tie.Else1) → (e : ℕ) → e < start (loaded c) .args .n → wrongSet 4 (start (loaded c) .args .n) (sees (loaded c)) e ≡ false
+right : (c : tie.Else1) → (e : ℕ) → e < start (loaded c) .args .n → wrongSet (editionOf (bytes (loaded c)) .row) (start (loaded c) .args .n) (sees (loaded c)) e ≡ false
 right c =
     let l = loaded c in
-    none-past (start l .args .n) (wrongSet 4 (start l .args .n) (sees l)) (l .load-sets .result) (l .load-sets .ensures .0) (c .if1 .left)
+    none-past (start l .args .n) (wrongSet (editionOf (bytes l) .row) (start l .args .n) (sees l)) (l .load-sets .result) (l .load-sets .ensures .0) (c .if1 .left)
 
 to-rings : (c : tie.Else1)
     → let n = start (loaded c) .args .n in
     setQuestions (editionOf (bytes (loaded c))) n (sees (loaded c)) ≡ askEach n (onRing n (sees (loaded c))) OnRing Passed
 unfolding setQuestions
-to-rings c = let n = start (loaded c) .args .n in each-yes n (wrongSet 4 n (sees (loaded c))) WrongSet _ (right c)
+to-rings c = let n = start (loaded c) .args .n in each-yes n (wrongSet (editionOf (bytes (loaded c)) .row) n (sees (loaded c))) WrongSet _ (right c)
 
 ring : (c : tie.After-lowest-on-ring)
     → let l = loaded (c .before .before) in
@@ -83,7 +84,7 @@ ring : (c : tie.After-lowest-on-ring)
 ring c =
     let e = c .before .before in
     let l = loaded e in
-    c .lowest-on-ring .ensures ∙ loaded-ring (editionOf (bytes l)) (bytes l) (range l) (start l .args .n) _ (table l) (all e) (search needs) (right e)
+    c .lowest-on-ring .ensures ∙ loaded-ring (editionOf (bytes l)) (bytes l) (sound-of (bytes l) .narrow) (range l) (start l .args .n) _ (table l) (all e) (search needs) (right e)
 
 load-sets-requires : tie.Need-load-sets-requires
 load-sets-requires c κs = search needs
@@ -109,13 +110,13 @@ returns c =
     let t = c .before .before .before .before in
     let l = t .before .before .before in
     let n = start l .args .n in
-    (sym (each-found n (wrongSet 4 n (sees l)) WrongSet _ (l .load-sets .result) (l .load-sets .ensures .0) (t .if1 .taken)), cleared l 9 _ (omega arith) (c .before .before .clear .ensures))
+    (sym (each-found n (wrongSet (editionOf (bytes l) .row) n (sees l)) WrongSet _ (l .load-sets .result) (l .load-sets .ensures .0) (t .if1 .taken)), cleared l 9 _ (omega arith) (c .before .before .clear .ensures))
 
 lowest-on-ring-requires : tie.Need-lowest-on-ring-requires
 lowest-on-ring-requires c κs =
     let e = c .before in
     let l = loaded e in
-    (loaded-graph (editionOf (bytes l)) (bytes l) (range l) (start l .args .n) _ (table l) (all e) (omega arith) (right e) (omega arith), omega arith)
+    (loaded-graph (editionOf (bytes l)) (bytes l) (sound-of (bytes l) .narrow) (range l) (start l .args .n) _ (table l) (all e) (omega arith) (right e), omega arith)
 
 sub-clear-2 : tie.Need-sub-clear-2
 sub-clear-2 c = search needs
@@ -172,7 +173,7 @@ returns-3 c =
     let n = a .n in (
       sym (to-rings e ∙ each-past n (onRing n (sees l)) OnRing Passed (r .lowest-on-ring .result) (ring r) (k .if2 .left)),
       work-passed (editionOf (bytes l)) 0 (bytes l) (a .table .now) _ refl
-          (visible-cleared (editionOf (bytes l)) (bytes l) (omega arith) n (a .table .now) (table l) _ (start l .pre .0 .0) (all e) (long l) (c .before .before .clear3 .ensures)),
+          (visible-cleared (editionOf (bytes l)) (bytes l) (sound-of (bytes l) .narrow) (omega arith) n (a .table .now) (table l) _ (start l .pre .0 .0) (all e) (long l) (c .before .before .clear3 .ensures)),
     )
 
 pub ask-spec : {M : Type 1} → statement M

@@ -1,54 +1,54 @@
 -- `reader::sets::load_sets` meets its contract: the sets of the events passed are loaded and right, and slot e starts at `slot`. Assumes nothing.
-use mathlib.Core.Path.{_≡_, refl, sym, ap₂, _∙_}
+use mathlib.Core.Path.{_≡_, refl, sym, _∙_}
 use mathlib.Core.List.{List, _++_}
 use Prim.Native.Nat.{ℕ, _+_, _*_, _-_, min}
 use native.Mathlib.Nat.{add-sub-cancel-left}
 use native.Mathlib.Omega.{arith}
 use borrow.Author.Needs.{needs}
 use lib.ListN.{length, take, drop}
-use Rattle.rows.specs.Octets.{words}
 use Rattle.rows.proofs.Tests.{told-true, told-false}
 use Rattle.rows.proofs.LowestLaws.{Searched, searched-start, searched-more, searched-hit, searched-end}
 use Rattle.rows.proofs.TableLaws.{length-row}
-use Rattle.record.specs.Layout.{editionOf, slotAt}
+use Rattle.record.specs.Layout.{editionOf, slotAt, rowWords}
 use Rattle.record.specs.History.{historyOf, vis}
 use Rattle.record.specs.Questions.{wrongSet}
-use Rattle.record.specs.Words.{slotWords}
+use Rattle.record.specs.Words.{setRows}
 use Rattle.record.proofs.SoundLayout.{sound-of, slot-step}
-use Rattle.record.proofs.SlotWords.{slot-words-none, slot-words-put}
+use Rattle.record.proofs.SlotWords.{set-row-loaded, set-rows-none, set-rows-put}
 use Rattle.record.proofs.SetLaws.{byte-itself, loaded-outside, loaded-right}
 use Rattle.reader.proofs.sets.load_sets.Statement.{statement}
 use Rattle.reader.proofs.sets.load_sets.Tie as tie
 
 abbrev Inv-loop : tie.InvT-loop
-Inv-loop s n table₀ below slot₀ e₀ table slot e = Searched n (wrongSet 4 n (vis (historyOf (editionOf s) s))) e × (length table ≡ length table₀) × (table ≡ slotWords (editionOf s) 32 4 s e ++ drop (e * 4) table₀) × (slot ≡ slotAt (editionOf s) e)
+Inv-loop s n table₀ below slot₀ e₀ table slot e = Searched n (wrongSet (editionOf s .row) n (vis (historyOf (editionOf s) s))) e × (length table ≡ length table₀) × (table ≡ setRows (editionOf s) s e ++ drop (e * rowWords) table₀) × (slot ≡ slotAt (editionOf s) e)
 
 abbrev μ-loop : tie.MeasureT-loop
 μ-loop s n table₀ below slot₀ e₀ table slot e = n - e
 
 -- the places on the way, by name
-abbrev at-loop : tie.After-load Inv-loop μ-loop → tie.At-loop Inv-loop μ-loop
+abbrev at-loop : tie.After-load-row Inv-loop μ-loop → tie.At-loop Inv-loop μ-loop
 at-loop c = c .before .before .before
 
-abbrev entry : tie.After-load Inv-loop μ-loop → tie.After-shared-slice-known Inv-loop μ-loop
+abbrev entry : tie.After-load-row Inv-loop μ-loop → tie.After-shared-slice-known Inv-loop μ-loop
 entry c = at-loop c .before .before .before .before .before
 
-abbrev loaded : tie.After-is-subset Inv-loop μ-loop → tie.After-load Inv-loop μ-loop
+abbrev loaded : tie.After-is-subset Inv-loop μ-loop → tie.After-load-row Inv-loop μ-loop
 loaded c = c .before .before .before .before .before .before
 
 -- the table with the set of event e
-abbrev table : tie.After-load Inv-loop μ-loop → List ℕ
-table c = let l = at-loop c .loop in take (l .e * 4) (l .table) ++ (c .load .last .0 ++ drop 4 (drop (l .e * 4) (l .table)))
+abbrev table : tie.After-load-row Inv-loop μ-loop → List ℕ
+table c = let l = at-loop c .loop in take (l .e * rowWords) (l .table) ++ (c .load-row .last .0 ++ drop rowWords (drop (l .e * rowWords) (l .table)))
 
-put : (c : tie.After-load Inv-loop μ-loop)
+put : (c : tie.After-load-row Inv-loop μ-loop)
     → let a = entry c .before .args in
     let e = at-loop c .loop .e in
-    table c ≡ slotWords (editionOf (a .s .now)) 32 4 (a .s .now) (e + 1) ++ drop ((e + 1) * 4) (a .table .now)
+    table c ≡ setRows (editionOf (a .s .now)) (a .s .now) (e + 1) ++ drop ((e + 1) * rowWords) (a .table .now)
 put c =
     let a = entry c .before .args in
     let l = at-loop c .loop in
-    slot-words-put (editionOf (a .s .now)) 32 4 (a .s .now) (l .e) (a .table .now) (l .table) (c .load .last .0) (l .inv .2)
-    (c .load .ensures ∙ ap₂ (λ k p. words k (a .s .now) (p + 32)) (rw add-sub-cancel-left (length-row (l .table) 4 (l .e) (search needs))) (l .inv .3))
+    set-rows-put (editionOf (a .s .now)) (a .s .now) (sound-of (a .s .now) .narrow) (l .e) (a .table .now) (l .table) (c .load-row .last .0) (l .inv .2)
+    (set-row-loaded (editionOf (a .s .now)) (a .s .now) (l .e) (l .slot) (length (take (l .e * rowWords + rowWords - l .e * rowWords) (drop (l .e * rowWords) (l .table)))) (c .load-row .last .0)
+    (c .load-row .ensures) (rw add-sub-cancel-left (length-row (l .table) rowWords (l .e) (search needs))) (l .inv .3))
 
 slice-aggregate-fill-below : tie.Need-slice-aggregate-fill-below Inv-loop μ-loop
 slice-aggregate-fill-below c = search needs
@@ -57,7 +57,7 @@ fill-below-requires : tie.Need-fill-below-requires Inv-loop μ-loop
 fill-below-requires c κs = search needs
 
 loop-holds : tie.Need-loop-holds Inv-loop μ-loop
-loop-holds c = (searched-start _ _, refl, slot-words-none _ _ _ _ _, refl)
+loop-holds c = (searched-start _ _, refl, set-rows-none _ _ _, refl)
 
 mul-at : tie.Need-mul-at Inv-loop μ-loop
 mul-at c = search needs
@@ -65,23 +65,23 @@ mul-at c = search needs
 add-end : tie.Need-add-end Inv-loop μ-loop
 add-end c = search needs
 
-mul-load : tie.Need-mul-load Inv-loop μ-loop
-mul-load c = search needs
+mul-load-row : tie.Need-mul-load-row Inv-loop μ-loop
+mul-load-row c = search needs
 
-sub-load : tie.Need-sub-load Inv-loop μ-loop
-sub-load c = search needs
+sub-load-row : tie.Need-sub-load-row Inv-loop μ-loop
+sub-load-row c = search needs
 
-part-load-start : tie.Need-part-load-start Inv-loop μ-loop
-part-load-start c = search needs
+part-load-row-start : tie.Need-part-load-row-start Inv-loop μ-loop
+part-load-row-start c = search needs
 
-part-load-end : tie.Need-part-load-end Inv-loop μ-loop
-part-load-end c = search needs
+part-load-row-end : tie.Need-part-load-row-end Inv-loop μ-loop
+part-load-row-end c = search needs
 
-add-load : tie.Need-add-load Inv-loop μ-loop
-add-load c = search needs
+add-load-row : tie.Need-add-load-row Inv-loop μ-loop
+add-load-row c = search needs
 
-load-requires : tie.Need-load-requires Inv-loop μ-loop
-load-requires c κs = search needs
+load-row-requires : tie.Need-load-row-requires Inv-loop μ-loop
+load-row-requires c κs = search needs
 
 mul-is-subset : tie.Need-mul-is-subset Inv-loop μ-loop
 mul-is-subset c = search needs
@@ -113,7 +113,7 @@ returns c =
     let e = l .loop .e in
     let m : min (a .n) (e + 1) ≡ e + 1 = omega arith in (
       searched-hit (l .loop .inv .0) (d .before .before .loop-test .taken)
-          (loaded-outside (editionOf (a .s .now)) (a .s .now) (λ b. entry d .shared-slice-known .given b .fits) (e + 1) _ (table d) (put d) (a .n) e
+          (loaded-outside (editionOf (a .s .now)) (a .s .now) (sound-of (a .s .now) .narrow) (λ b. entry d .shared-slice-known .given b .fits) (e + 1) _ (table d) (put d) (a .n) e
           (f .fill-below .last .0) (f .fill-below .ensures .0) (omega arith)
           (rw add-sub-cancel-left at (told-false (c .before .is-subset .ensures) (c .if1 .taken)))),
       rw (add-sub-cancel-left, m) (put d),
@@ -158,7 +158,7 @@ loop-again c =
     let a = entry d .before .args in
     let e = l .loop .e in (
       searched-more (l .loop .inv .0) (d .before .before .loop-test .taken)
-          (loaded-right (editionOf (a .s .now)) (a .s .now) (λ b. entry d .shared-slice-known .given b .fits) (e + 1) _ (table d) (put d) (a .n) e
+          (loaded-right (editionOf (a .s .now)) (a .s .now) (sound-of (a .s .now) .narrow) (λ b. entry d .shared-slice-known .given b .fits) (e + 1) _ (table d) (put d) (a .n) e
           (f .fill-below .last .0) (f .fill-below .ensures .0) (omega arith)
           (rw add-sub-cancel-left at (told-true (k .before .is-subset .ensures) (k .if1 .left))) (omega arith)
           (rw (l .loop .inv .3) at (sym (c .before .before .test .ensures) ∙ c .before .if2 .left))),
@@ -188,12 +188,12 @@ load-sets-spec =
     loop-holds
     mul-at
     add-end
-    mul-load
-    sub-load
-    part-load-start
-    part-load-end
-    add-load
-    load-requires
+    mul-load-row
+    sub-load-row
+    part-load-row-start
+    part-load-row-end
+    add-load-row
+    load-row-requires
     mul-is-subset
     sub-is-subset
     part-is-subset-start

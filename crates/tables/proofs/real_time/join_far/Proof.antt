@@ -109,10 +109,8 @@ returns c =
     let k = c .before in
     let l = k .loop in
     let s = start k in
-    let a = s .args in (
-      joining-all (a .l .now) (a .n) (a .w) (a .difference) (a .starts .now) (a .returns .now) (s .pre .1 .0) (s .pre .1 .1) (a .t .now) (l .k) (l .i) (l .far) (l .t) (l .inv) (omega arith),
-      l .inv .size,
-    )
+    let a = s .args in
+    joining-all (a .l .now) (a .n) (a .w) (a .difference) (a .starts .now) (a .returns .now) (s .pre .1 .0) (s .pre .1 .1) (a .t .now) (l .k) (l .i) (l .far) (l .t) (l .inv) (omega arith)
 
 pub join-far-spec : {M : Type 1} → statement M
 join-far-spec =

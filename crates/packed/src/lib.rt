@@ -1,0 +1,20 @@
+// The numbers that hosts are given for a break and for a refusal. What a call counts, it answers as it is.
+ghost use mathlib.Core.Path.{_≡_};
+ghost use Prim.Native.Nat.{_^_, _<_};
+ghost use Rattle.packed.specs.Packed.{packedBreak, packedRefusal};
+
+// A break at the pair (a, b).
+pub fn broken(a: usize, b: usize) -> u64
+    requires { ⌜ packedBreak a b < 2 ^ 32 ⌝ }
+    ensures { λ r. ⌜ r ≡ packedBreak a b ⌝ }
+{
+    1048576 + 1024 * a as u64 + b as u64
+}
+
+// A refusal by a question's number, at a place.
+pub fn refusal(number: usize, place: usize) -> u64
+    requires { ⌜ packedRefusal number place < 2 ^ 32 ⌝ }
+    ensures { λ r. ⌜ r ≡ packedRefusal number place ⌝ }
+{
+    2097152 + 1024 * number as u64 + place as u64
+}
