@@ -57,7 +57,7 @@ uint64_t gcr_judge_all(const uint8_t *record, size_t len, uint64_t *out, size_t 
  *   10, 11  a chain of steps from a to b. A step leads from an event to one of its site that started after its return
  *           (site order), or to one that sees it. No chain from a to b has fewer steps; of those with as many, the
  *           event after a is the lowest possible, then the one after that, and so on. Where a is b, the chain is a
- *           ring: one step or more, and a last
+ *           ring: two steps or more, the last to a itself
  *   5, 8    the lowest middle event, then b. It is a read of b's site that sees a and returned before b started
  *   others  b alone
  * Answer: how many entries were written, 1 to 256; 2,097,152 + 1,024 * number + place refused. The questions are 2,

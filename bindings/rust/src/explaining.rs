@@ -12,7 +12,7 @@ pub const EXPLAIN_ENTRIES: usize = 256;
 /// - [`CausalVisibility`](Predicate::CausalVisibility) and [`CausalArbitration`](Predicate::CausalArbitration): a chain
 ///   of steps from a to b. A step leads from an event to one of its site that started after its return, or to one that
 ///   sees it. No chain from a to b has fewer steps; of those with as many, the event after a is the lowest possible,
-///   then the one after that, and so on. Where a is b, the chain is a ring: one step or more, and a last.
+///   then the one after that, and so on. Where a is b, the chain is a ring: two steps or more, the last to a itself.
 /// - [`MonotonicReads`](Predicate::MonotonicReads) and [`WritesFollowReads`](Predicate::WritesFollowReads): the lowest
 ///   middle event, then b. It is a read of b's site that sees a and returned before b started.
 /// - All others: b alone.
