@@ -32,13 +32,13 @@ extern "C" {
 
 /* Judges a model, 1 to 13, of a record.
  * Answer: 0 met; 1,048,576 + 1,024 * a + b broken, (a, b) being the pair of the first broken predicate in the model's
- * list: of the pairs of events that break it the one with the lowest a, and for that the lowest b (README.md, 'The pair
- * of a break', says which event is which); 2,097,152 + 1,024 * number + place refused.
+ * list: of the pairs of events that break it the one with the lowest a, and for that the lowest b (docs/JUDGED.md,
+ * 'The pair of a break', says which event is which); 2,097,152 + 1,024 * number + place refused.
  * Predicates 3 and 4, and so models 1, 2 and 5, go by the record's gcr_difference. A pending event returned before
  * nothing. One that returned did so before an event of its own site started where return < start, and before one of
  * another site where return + difference < start; the sum does not wrap. No other predicate goes by the difference.
  * Where a model is met, so is every model that it covers, and where it is broken, so is every model that covers it:
- * README.md, 'Which model covers which', has the 43 pairs. */
+ * docs/JUDGED.md, 'Which model covers which', has the 43 pairs. */
 uint64_t gcr_judge_model(uint32_t model, const uint8_t *record, size_t len);
 
 /* The same of one predicate, 1 to 13. */

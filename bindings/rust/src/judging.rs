@@ -31,7 +31,7 @@ impl fmt::Display for Verdict {
 /// Judges a model. A break is the pair of the first broken predicate in the model's list.
 ///
 /// Where a model is met, so is every model that it covers, and where it is broken, so is every model that covers it:
-/// the 43 pairs are in README.md, 'Which model covers which'.
+/// the 43 pairs are in docs/JUDGED.md, 'Which model covers which'.
 ///
 /// # Errors
 ///
