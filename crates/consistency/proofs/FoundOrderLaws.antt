@@ -14,6 +14,7 @@ use Rattle.rows.proofs.LowestLaws.{some-at, some-of, some-none, none-some}
 use Rattle.rows.proofs.PlacingLaws.{ringless-placed, placed-orders, orders-ringless, first-order, first-only}
 use Rattle.record.specs.Terms.{value, valueOr0}
 use Rattle.record.specs.History.{History, vis}
+use Rattle.record.specs.Positioned.{positioned}
 use Rattle.consistency.specs.Relations.{ss, ob, rb, so, ar, step, hb, write, read}
 use Rattle.consistency.specs.Reads.{candidate, held, sameHeld}
 use Rattle.consistency.specs.Predicates.{rule, verdict, numbered}
@@ -21,7 +22,7 @@ use Rattle.consistency.specs.Holds.{Within, RightRead, sees-none, sees-l
 use Rattle.consistency.specs.Breaks.{AllHold}
 use Rattle.consistency.specs.Models.{listOf}
 use Rattle.consistency.specs.Lattice.{causal}
-use Rattle.consistency.specs.FoundOrder.{placedBy, sameWritten, repeats, returnedRead, holdsOf, readable, unreadable, valuePuts, puts, met, hasOrder, foundPositions, Unambiguous, Readable, opening-held, write-held, Readables, Orderable, MakesCausal, FirstCausal}
+use Rattle.consistency.specs.FoundOrder.{sameWritten, repeats, returnedRead, holdsOf, readable, unreadable, valuePuts, puts, met, hasOrder, foundPositions, Unambiguous, Readable, opening-held, write-held, Readables, Orderable, MakesCausal, FirstCausal}
 use Rattle.consistency.specs.declared.Verdict.{Verdict}
 use Rattle.consistency.specs.declared.Verdict.the-variants.{Met, Broken}
 use Rattle.consistency.specs.declared.Predicate.the-variants.{CausalVisibility}
@@ -62,19 +63,19 @@ module _ (h : History) (once : some (h .count) (repeats h) ≡ false) where
 -- ---- what does not go by positions
 
 module _ (p : ℕ → ℕ) (h : History) where
-  pub hb-placed : hb (placedBy p h) ≡ hb h
+  pub hb-placed : hb (positioned p h) ≡ hb h
   unfolding hb step so rb ss vis
   hb-placed = refl
 
-  pub visibility-placed : Holds CausalVisibility (placedBy p h) ≡ Holds CausalVisibility h
+  pub visibility-placed : Holds CausalVisibility (positioned p h) ≡ Holds CausalVisibility h
   unfolding Holds Obeys rule hb step so rb ss vis
   visibility-placed = refl
 
-  pub value-placed : valuePuts (placedBy p h) ≡ valuePuts h
+  pub value-placed : valuePuts (positioned p h) ≡ valuePuts h
   unfolding valuePuts candidate vis ob
   value-placed = refl
 
-  pub unreadable-placed : unreadable (placedBy p h) ≡ unreadable h
+  pub unreadable-placed : unreadable (positioned p h) ≡ unreadable h
   unfolding unreadable readable candidate vis ob
   unreadable-placed = refl
 
@@ -245,31 +246,30 @@ module _ (h : History) {p : ℕ → ℕ} where
   pub orders-causal : Holds CausalVisibility h → Readables h → Orders (h .count) (puts h) p → MakesCausal h p
   unfolding puts ar Holds Obeys rule numbered
   orders-causal seen reads o = record {
-    below = o .below;
-    distinct = o .distinct;
+    arbitration = record { below = o .below; distinct = o .distinct };
     holds = (rw (visibility-placed p h) seen, (after, (values, tt)));
   }
     where
-      after : Within (h .count) (hb (placedBy p h)) (ar (placedBy p h))
+      after : Within (h .count) (hb (positioned p h)) (ar (positioned p h))
       after a b i j t = lt-ltb (p a) (p b) (o .keeps a b i j (or-left (hb h a b) (valuePuts h a b) (rw (hb-placed p h) at t)))
 
-      within : Within (h .count) (valuePuts (placedBy p h)) (ar (placedBy p h))
+      within : Within (h .count) (valuePuts (positioned p h)) (ar (positioned p h))
       within a b i j t = lt-ltb (p a) (p b) (o .keeps a b i j (or-right (hb h a b) (valuePuts h a b) (rw (value-placed p h) at t)))
 
-      values : RightReads (placedBy p h)
-      values = puts-right (placedBy p h) (all-readable (placedBy p h) (rw (unreadable-placed p h) (readable-all h reads))) within
+      values : RightReads (positioned p h)
+      values = puts-right (positioned p h) (all-readable (positioned p h) (rw (unreadable-placed p h) (readable-all h reads))) within
 
   pub causal-orders : Unambiguous h → MakesCausal h p → Orders (h .count) (puts h) p
   unfolding puts ar Holds Obeys rule numbered
   causal-orders u m = go (m .holds)
     where
-      go : AllHold (listOf causal) (placedBy p h) → Orders (h .count) (puts h) p
+      go : AllHold (listOf causal) (positioned p h) → Orders (h .count) (puts h) p
       go (seen, (after, (values, end))) = record {
-        below = m .below;
-        distinct = m .distinct;
+        below = m .arbitration .below;
+        distinct = m .arbitration .distinct;
         keeps = λ a b i j t. ltb-true (p a) (p b) (or-elim (hb h a b) (valuePuts h a b) t
             (λ e. after a b i j (rw (hb-placed p h) e))
-            (λ e. right-puts (placedBy p h) u (m .distinct) values a b i j (rw (value-placed p h) e)));
+            (λ e. right-puts (positioned p h) u (m .arbitration .distinct) values a b i j (rw (value-placed p h) e)));
       }
 
 -- ---- what is found
@@ -286,7 +286,7 @@ module _ (h : History) where
     unfolding Holds Obeys rule numbered
     causal-orderable {p} m = record {
       visibility = rw (visibility-placed p h) at (m .holds .0);
-      reads = all-readable h (rw (unreadable-placed p h) at (readable-all (placedBy p h) (right-readable (placedBy p h) (m .holds .1 .1 .0))));
+      reads = all-readable h (rw (unreadable-placed p h) at (readable-all (positioned p h) (right-readable (positioned p h) (m .holds .1 .1 .0))));
       ringless = orders-ringless (h .count) (puts h) (causal-orders h u m);
     }
 

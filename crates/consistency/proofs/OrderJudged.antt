@@ -13,12 +13,13 @@ use Rattle.rows.proofs.LowestLaws.{lowest-low, some-at, some-of}
 use Rattle.rows.proofs.ReachLaws.{reaches-step}
 use Rattle.rows.proofs.PlacingLaws.{ringless-placed, placed-orders, placed-same, positions-same}
 use Rattle.record.specs.History.{History, vis}
+use Rattle.record.specs.Positioned.{positioned}
 use Rattle.consistency.specs.Relations.{so, step, hb}
 use Rattle.consistency.specs.Predicates.{rule}
 use Rattle.consistency.specs.Holds.{Obeys, Holds}
 use Rattle.consistency.specs.Models.{listOf, firstBroken}
 use Rattle.consistency.specs.Lattice.{causal}
-use Rattle.consistency.specs.FoundOrder.{placedBy, holdsOf, valuePuts, puts, seenPuts, hasOrder, foundPositions, Unambiguous, MakesCausal}
+use Rattle.consistency.specs.FoundOrder.{holdsOf, valuePuts, puts, seenPuts, hasOrder, foundPositions, Unambiguous, MakesCausal}
 use Rattle.consistency.specs.declared.Outcome.{Outcome}
 use Rattle.consistency.specs.declared.Outcome.the-variants.{AllMet}
 use Rattle.consistency.specs.declared.Predicate.the-variants.{CausalVisibility}
@@ -54,7 +55,7 @@ module _ (h : History) where
   seenPositions = positions (h .count) (seenPuts h)
 
   abbrev pub judged : Outcome
-  judged = firstBroken (listOf causal) (placedBy seenPositions h)
+  judged = firstBroken (listOf causal) (positioned seenPositions h)
 
   -- where there is an order, all are placed by what is seen too, at the same positions
   pub found-placed : hasOrder h ≡ true → allPlaced (h .count) (seenPuts h) ≡ true
@@ -69,13 +70,13 @@ module _ (h : History) where
   causal-judged : hasOrder h ≡ true → judged ≡ AllMet
   causal-judged t =
       let m : MakesCausal h seenPositions = rw (found-seen t) at (found-causal h t) in
-      list-met-iff (placedBy seenPositions h) (m .distinct) (listOf causal) .1 (m .holds)
+      list-met-iff (positioned seenPositions h) (m .arbitration .distinct) (listOf causal) .1 (m .holds)
 
   module _ (u : Unambiguous h) where
     judged-causal : allPlaced (h .count) (seenPuts h) ≡ true → judged ≡ AllMet → MakesCausal h seenPositions
     judged-causal t e =
         let o = placed-orders (h .count) (seenPuts h) t in
-        record { below = o .below; distinct = o .distinct; holds = list-met-iff (placedBy seenPositions h) (o .distinct) (listOf causal) .0 e }
+        record { arbitration = record { below = o .below; distinct = o .distinct }; holds = list-met-iff (positioned seenPositions h) (o .distinct) (listOf causal) .0 e }
 
     -- there is an order exactly if all are placed, and the record judged with their positions is causal
     pub has-iff-judged : (hasOrder h ≡ true) ↔ ((allPlaced (h .count) (seenPuts h) ≡ true) × (judged ≡ AllMet))

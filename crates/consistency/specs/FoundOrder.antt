@@ -9,33 +9,17 @@ use Rattle.rows.specs.Shortest.{NotLater}
 use Rattle.rows.specs.Placing.{allPlaced, positions, Ringless, inOrder}
 use Rattle.record.specs.Terms.{value}
 use Rattle.record.specs.History.{History, vis}
+use Rattle.record.specs.Positioned.{Arbitration, positioned}
 use Rattle.consistency.specs.Relations.{ob, hb, write, read}
 use Rattle.consistency.specs.Reads.{candidate, held, sameHeld}
 use Rattle.consistency.specs.Predicates.{verdict}
-use Rattle.consistency.specs.Holds.{DistinctPositions, Holds}
+use Rattle.consistency.specs.Holds.{Holds}
 use Rattle.consistency.specs.Breaks.{AllHold}
 use Rattle.consistency.specs.Models.{listOf}
 use Rattle.consistency.specs.Lattice.{causal}
 use Rattle.consistency.specs.declared.Verdict.{Verdict}
 use Rattle.consistency.specs.declared.Verdict.the-variants.{Met, Broken}
 use Rattle.consistency.specs.declared.Predicate.the-variants.{CausalVisibility}
-
--- the events of h, by other positions
-abbrev pub placedBy : (ℕ → ℕ) → History → History
-placedBy p h = record {
-  count = h .count;
-  isWrite = h .isWrite;
-  site = h .site;
-  object = h .object;
-  isPending = h .isPending;
-  isPresent = h .isPresent;
-  value = h .value;
-  position = p;
-  start = h .start;
-  return = h .return;
-  sees = h .sees;
-  terms = h .terms;
-}
 
 -- ---- 47: values that do not tell writes apart
 
@@ -113,11 +97,10 @@ pub record Orderable (h : History) : Type 0 where
   pub reads : Readables h
   pub ringless : Ringless (h .count) (puts h)
 
--- with the positions p, distinct and below the count, h is causal: 10, 11 and 1 hold
+-- p is an arbitration with which h is causal: 10, 11 and 1 hold
 pub record MakesCausal (h : History) (p : ℕ → ℕ) : Type 0 where
-  pub below : (e : ℕ) → e < h .count → p e < h .count
-  pub distinct : DistinctPositions (placedBy p h)
-  pub holds : AllHold (listOf causal) (placedBy p h)
+  pub arbitration : Arbitration (h .count) p
+  pub holds : AllHold (listOf causal) (positioned p h)
 
 -- the first of all arbitrations that do: the one with the lower event where it first differs from another
 pub record FirstCausal (h : History) (p : ℕ → ℕ) : Type 0 where

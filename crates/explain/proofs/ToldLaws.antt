@@ -5,15 +5,15 @@ use mathlib.Core.List.{List, [], _∷_, _++_}
 use Prim.Native.Nat.{ℕ, _+_, _*_, _<_, _≤_}
 use native.Mathlib.Omega.{arith}
 use native.Mathlib.Decide.{decLt}
-use lib.ListN.{length, set, take, drop, take-append-drop, length-append, length-take, length-drop}
+use lib.ListN.{length, set, take, drop, take-append-drop, length-take, length-drop}
 use Rattle.rows.specs.Lowest.{lowest}
-use Rattle.rows.specs.Row.{has, orRow, onlyFirst, rowAt}
+use Rattle.rows.specs.Row.{has, orRow, orPart, onlyFirst, rowAt}
 use Rattle.rows.specs.Relation.{related, reaches, Table, Graph}
 use Rattle.rows.specs.Shortest.{shortestChain}
 use Rattle.rows.proofs.Tests.{or-elim}
 use Rattle.rows.proofs.RowLaws.{has-past, has-or, length-or, row-has}
 use Rattle.rows.proofs.LowestLaws.{same-lowest}
-use Rattle.rows.proofs.TableLaws.{row-room, row-front, length-row-le, has-row}
+use Rattle.rows.proofs.TableLaws.{row-room, row-front, length-row, length-row-le, has-row, row-or-same}
 use Rattle.rows.proofs.SliceLaws.{sliceAt, slice-row}
 use Rattle.rows.proofs.ReachLaws.{reaches-same, table-related, table-graph}
 use Rattle.rows.proofs.ShortestLaws.{chain-same}
@@ -96,41 +96,47 @@ module _ (n : ℕ) (l v g t : List ℕ) (q : Terms) (given : Given n rowWords l 
       ap₂ _&&_ (ap₂ (λ (x y : Bool). x && not y) (table-related n rowWords (so h) sos (ready .timed .sos) m b i right) (row-has n (isWriteIn l) (rowAt g rowWords writesRow) (w .writes) m i)) (table-related n rowWords (vis h) v seen a m left i)
       ∙ and-comm (so h m b && read h m) (vis h a m) ∙ ap (λ (x : Bool). vis h a m && x) (and-comm (so h m b) (read h m))))
 
--- ---- the steps of hb, so joined with vis over the front of a slice
+-- ---- the steps of hb: so's table, which the visible sets joined
 
-module _ (n : ℕ) (v t steps rest : List ℕ) (seen : Graph v n rowWords) (sos : Graph (part n rowWords 1 t) n rowWords)
-    (filled : steps ≡ orRow (part n rowWords 1 t ++ rest) (take (n * rowWords) v)) where
+module _ (n : ℕ) (v t t' : List ℕ) (seen : Graph v n rowWords) (sos : Graph (part n rowWords 1 t) n rowWords) (size : 6 * (n * rowWords) ≤ length t)
+    (joined : t' ≡ orPart t (1 * (n * rowWords)) (take (n * rowWords) v)) where
+  abbrev steps : List ℕ
+  steps = part n rowWords 1 t'
+
   abbrev first : List ℕ
   first = part n rowWords 1 t
 
   abbrev second : List ℕ
   second = take (n * rowWords) v
 
-  first-row : (y : ℕ) → y < n → rowAt (first ++ rest) rowWords y ≡ rowAt first rowWords y
-  first-row y h = row-front first rest rowWords y (row-room n rowWords y (length first) h (sos .size))
+  second-long : length second ≡ n * rowWords
+  second-long = omega (arith, seen .size, length-take (n * rowWords) v)
+
+  filled : steps ≡ orRow first second
+  filled = ap (part n rowWords 1) joined ∙ row-or-same t (n * rowWords) 1 second second-long (omega arith)
+
+  first-long : length first ≡ n * rowWords
+  first-long = length-row t (n * rowWords) 1 (omega arith)
 
   second-row : (y : ℕ) → y < n → rowAt second rowWords y ≡ rowAt v rowWords y
   second-row y h =
-      sym (row-front second (drop (n * rowWords) v) rowWords y (row-room n rowWords y (length second) h (omega (arith, seen .size, length-take (n * rowWords) v))))
+      sym (row-front second (drop (n * rowWords) v) rowWords y (row-room n rowWords y (length second) h (omega (arith, second-long))))
       ∙ ap (λ (g : List ℕ). rowAt g rowWords y) (take-append-drop (n * rowWords) v)
 
-  shorter : length second ≤ length (first ++ rest)
-  shorter = omega (arith, length-take (n * rowWords) v, length-append first rest, sos .size)
-
-  pub steps-related : (x y : ℕ) → y < n → related steps rowWords x y ≡ stepIn n t v x y
+  pub steps-related : (x y : ℕ) → y < n → related (part n rowWords 1 t') rowWords x y ≡ stepIn n t v x y
   steps-related x y h = elim (decLt x (64 * rowWords)) [
     | yes i ↦ has-row steps rowWords y x i ∙ ap (λ (g : List ℕ). has g (64 * (y * rowWords) + x)) filled
-        ∙ has-or (first ++ rest) second (64 * (y * rowWords) + x) shorter
-        ∙ ap₂ _||_ (sym (has-row (first ++ rest) rowWords y x i) ∙ ap (λ (r : List ℕ). has r x) (first-row y h)) (sym (has-row second rowWords y x i) ∙ ap (λ (r : List ℕ). has r x) (second-row y h))
+        ∙ has-or first second (64 * (y * rowWords) + x) (omega (arith, first-long, second-long))
+        ∙ ap₂ _||_ (sym (has-row first rowWords y x i)) (sym (has-row second rowWords y x i) ∙ ap (λ (r : List ℕ). has r x) (second-row y h))
     | no i ↦ let far : 64 * rowWords ≤ x = omega arith in past steps far ∙ sym (ap₂ _||_ (past first far) (past v far))
   ]
     where
       past : (g : List ℕ) → 64 * rowWords ≤ x → has (rowAt g rowWords y) x ≡ false
       past g far = has-past (rowAt g rowWords y) x (omega (arith, length-row-le g rowWords y))
 
-  pub steps-graph : Graph steps n rowWords
+  pub steps-graph : Graph (part n rowWords 1 t') n rowWords
   steps-graph = record {
-    size = omega (arith, ap length filled, length-or (first ++ rest) second, length-append first rest, sos .size);
+    size = omega (arith, ap length filled, length-or first second, first-long);
     wide = sos .wide;
     fits = sos .fits;
     inside = λ b x h e. or-elim (related first rowWords x b) (related v rowWords x b) (sym (steps-related x b h) ∙ e) (sos .inside b x h) (seen .inside b x h);

@@ -11,7 +11,7 @@ ghost use mathlib.Core.List.{_∷_, _++_};
 ghost use Prim.Native.Nat.{_*_, _<_, _≤_};
 ghost use lib.ListN.{length, take, drop};
 ghost use Rattle.rows.specs.Lowest.{lowest};
-ghost use Rattle.rows.specs.Row.{rowAt, orRow, onlyFirst};
+ghost use Rattle.rows.specs.Row.{rowAt, orPart, onlyFirst};
 ghost use Rattle.rows.specs.Relation.{reaches, related, Graph};
 ghost use Rattle.rows.specs.Shortest.{shortestChain};
 ghost use Rattle.record.specs.Layout.{mostEvents, rowWords};
@@ -64,28 +64,20 @@ fn write_middle(v: &[u64], n: usize, t: &[u64], groups: &[u64], a: usize, b: usi
     out[1] = b as u16;
 }
 
-// The steps of hb, each so or vis: of a table's rows, those of so joined with the visible sets.
-fn fill_steps(v: &[u64], n: usize, t: &[u64], steps: &mut [u64])
-    requires { ⌜ (n * rowWords ≤ length (now v)) × (6 * (n * rowWords) ≤ length (now t)) × (n * rowWords ≤ length (now steps)) ⌝ }
-    ensures { λ _. ⌜ now (steps .exit) ≡ orRow (part n rowWords 1 (now (t .entry)) ++ drop (n * rowWords) (now (steps .entry))) (take (n * rowWords) (now (v .entry))) ⌝ }
-{
-    let size = n * layout::ROW;
-    let at = prepared::SO * size;
-    rows::copy(steps, &t[at..at + size]);
-    rows::union(steps, &v[..size]);
-}
-
-// A shortest chain from a to b, and how many events it has.
-fn write_chain(v: &[u64], n: usize, t: &[u64], a: usize, b: usize, out: &mut [u16]) -> usize
+// A shortest chain from a to b, and how many events it has. Each step is so or vis: the visible sets join so's table, which becomes that of the steps.
+fn write_chain(v: &[u64], n: usize, t: &mut [u64], a: usize, b: usize, out: &mut [u16]) -> usize
     requires { ⌜ Graph (now v) n rowWords × Graph (part n rowWords 1 (now t)) n rowWords × (6 * (n * rowWords) ≤ length (now t)) × (n ≤ mostEvents) ⌝ }
     requires { ⌜ (a < n) × (b < n) × (n ≤ length (now out)) ⌝ }
     requires { ⌜ reaches n (stepIn n (now t) (now v)) a b ≡ true ⌝ }
     ensures { λ r. ⌜ r ≡ length (shortestChain n (stepIn n (now (t .entry)) (now (v .entry))) a b) ⌝ }
     ensures { λ r. ⌜ now (out .exit) ≡ shortestChain n (stepIn n (now (t .entry)) (now (v .entry))) a b ++ drop r (now (out .entry)) ⌝ }
+    ensures { λ _. ⌜ now (t .exit) ≡ orPart (now (t .entry)) (1 * (n * rowWords)) (take (n * rowWords) (now (v .entry))) ⌝ }
 {
-    let mut steps = [0u64; layout::WORK];
-    fill_steps(v, n, t, &mut steps);
-    chains::shortest(&steps, n, layout::ROW, a, b, out)
+    let size = n * layout::ROW;
+    let at = prepared::SO * size;
+    let end = at + size;
+    rows::union_into(t, at, &v[..size]);
+    chains::shortest(&t[at..end], n, layout::ROW, a, b, out)
 }
 
 // Judges a predicate of a record that passed, and tells of its break; v begins with its visible sets.
@@ -103,7 +95,7 @@ pub fn tell(p: Predicate, s: &[u8], v: &[u64], out: &mut [u16]) -> Explanation
     if let Verdict::Broken(a, b) = found {
         match way(p) {
             Telling::ByChain => {
-                return Explanation::Told(write_chain(v, n, &t, a, b, out));
+                return Explanation::Told(write_chain(v, n, &mut t, a, b, out));
             }
             Telling::ByMiddle => {
                 write_middle(v, n, &t, &groups, a, b, out);

@@ -11,7 +11,8 @@ use Rattle.rows.proofs.Tests.{split}
 use Rattle.record.specs.Layout.{editionOf}
 use Rattle.consistency.specs.Models.{listOf}
 use Rattle.judge.specs.Judgments.{judged, predicateJudgment, modelJudgment, packedJudgment, packedJudgments, laidOver}
-use Rattle.judge.specs.Hosts.{unpacked, ExactHost, ExactThirteen}
+use Rattle.packed.specs.Packed.{unpacked}
+use Rattle.judge.specs.Hosts.{ExactHost, ExactThirteen}
 use Rattle.judge.specs.declared.Judgment.{Judgment}
 use Rattle.judge.proofs.MeansLaws.{judged-exact}
 use Rattle.judge.proofs.ReadsBack.{reads-back}

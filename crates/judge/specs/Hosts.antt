@@ -1,8 +1,9 @@
 -- The second demand, of the hosts' numbers: each reads back as what a judgment tells, and that judgment is given exactly if what it says is so.
 use mathlib.Core.Path.{_≡_}
 use mathlib.Core.List.{List, [], _∷_}
-use Prim.Native.Nat.{ℕ, zero, suc, _-_, _/_, _%_, _≤_}
+use Prim.Native.Nat.{ℕ, _-_, _≤_}
 use lib.ListN.{length, getD}
+use Rattle.packed.specs.Packed.{Told, met, broken, refused, unpacked}
 use Rattle.record.specs.Questions.{numberOf, placeOf}
 use Rattle.consistency.specs.declared.Outcome.the-variants.{AllMet, BrokenAt}
 use Rattle.judge.specs.Judgments.{packedJudgment}
@@ -10,27 +11,12 @@ use Rattle.judge.specs.Means.{ExactOf}
 use Rattle.judge.specs.declared.Judgment.{Judgment}
 use Rattle.judge.specs.declared.Judgment.the-variants.{Judged, NoSuchNumber, Refused}
 
--- what a host is told: met; broken, at a pair; or refused, by a question's number and at a place
-pub data Told : Type 0 where
-  met : Told
-  broken : (a b : ℕ) → Told
-  refused : (number place : ℕ) → Told
-
 -- what a judgment tells
 abbrev pub told : Judgment → Told
 told (Judged AllMet) = met
 told (Judged (BrokenAt p a b)) = broken a b
 told NoSuchNumber = refused 2 0
 told (Refused r) = refused (numberOf r) (placeOf r)
-
--- what a host reads in a number, by its kind and two parts
-abbrev pub byKind : ℕ → ℕ → ℕ → Told
-byKind zero x y = met
-byKind (suc zero) x y = broken x y
-byKind (suc (suc k)) x y = refused x y
-
-abbrev pub unpacked : ℕ → Told
-unpacked n = byKind (n / 1048576) (n / 1024 % 1024) (n % 1024)
 
 -- a host's number that is exact, for a list ps of predicates and a record s
 pub record ExactHost (words number : ℕ) (ps s : List ℕ) (answer : ℕ) : Type 0 where

@@ -16,7 +16,7 @@ ghost use mathlib.Core.Path.{_≡_};
 ghost use mathlib.Core.Bool.{true};
 ghost use mathlib.Core.List.{_++_};
 ghost use Prim.Native.Nat.{_*_, _≤_};
-ghost use lib.ListN.{length, drop};
+ghost use lib.ListN.{length, drop, replicate};
 ghost use Rattle.rows.specs.Row.{rowAt};
 ghost use Rattle.rows.specs.Relation.{Graph};
 ghost use Rattle.record.specs.Layout.{editionOf, countIn, mostEvents, rowWords, workWords, termsLength};
@@ -66,8 +66,8 @@ fn fill_tables(l: &[u64], v: &[u64], terms: &[u64], n: usize, groups: &[u64], t:
     finish(l, n, t);
 }
 
-// The words, groups and tables of a record that passed, into slices that are as long as those of any record; v begins with its visible sets. The answer is n,
-// the event count.
+// The words, groups and tables of a record that passed, into slices that are as long as those of any record, that of groups empty; v begins with its visible
+// sets. The answer is n, the event count.
 pub fn prepare(
     s: &[u8],
     v: &[u64],
@@ -77,7 +77,7 @@ pub fn prepare(
     t: &mut [u64],
 ) -> usize
     requires { ⌜ ReadInto (now s) (now v) ⌝ }
-    requires { ⌜ (length (now l) ≡ 4 * mostEvents) × (length (now terms) ≡ termsLength) × (length (now groups) ≡ groupRows * rowWords) × (length (now t) ≡ 6 * workWords) ⌝ }
+    requires { ⌜ (length (now l) ≡ 4 * mostEvents) × (length (now terms) ≡ termsLength) × (now groups ≡ replicate (groupRows * rowWords) 0) × (length (now t) ≡ 6 * workWords) ⌝ }
     ensures { λ n. ⌜ Ready (now (s .entry)) n (now (l .exit)) (now (v .entry)) (now (terms .exit)) (now (groups .exit)) (now (t .exit)) ⌝ }
     ensures { λ n. ⌜ n ≡ countIn (now (s .entry)) ⌝ }
     ensures { λ n. ⌜ now (l .exit) ≡ headWords (editionOf (now (s .entry))) (now (s .entry)) ++ drop (n * 4) (now (l .entry)) ⌝ }

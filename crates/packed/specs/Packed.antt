@@ -1,5 +1,5 @@
--- The numbers that hosts are given for a break and for a refusal.
-use Prim.Native.Nat.{ℕ, _+_, _*_}
+-- The numbers that hosts are given, and what a host reads in one.
+use Prim.Native.Nat.{ℕ, zero, suc, _+_, _*_, _/_, _%_}
 
 -- broken at the pair (a, b)
 abbrev pub packedBreak : ℕ → ℕ → ℕ
@@ -8,3 +8,18 @@ packedBreak a b = 1048576 + 1024 * a + b
 -- refused by a question's number, at a place
 abbrev pub packedRefusal : ℕ → ℕ → ℕ
 packedRefusal number place = 2097152 + 1024 * number + place
+
+-- what a host is told: met; broken, at a pair; or refused, by a question's number and at a place
+pub data Told : Type 0 where
+  met : Told
+  broken : (a b : ℕ) → Told
+  refused : (number place : ℕ) → Told
+
+-- what a host reads in a number, by its kind and two parts
+abbrev pub byKind : ℕ → ℕ → ℕ → Told
+byKind zero x y = met
+byKind (suc zero) x y = broken x y
+byKind (suc (suc k)) x y = refused x y
+
+abbrev pub unpacked : ℕ → Told
+unpacked n = byKind (n / 1048576) (n / 1024 % 1024) (n % 1024)

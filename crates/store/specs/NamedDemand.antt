@@ -1,5 +1,4 @@
--- The third demand with keeps and returns in the script: what an accepted rehearsal then promises. A proposal: `storeAfter` and `answersAfter` become
--- these, and `Rehearses` gets these fields in place of its own.
+-- The third demand with keeps and returns in the script: what an accepted rehearsal of its items comes to. A script without them is `Rehearses`'s own.
 use mathlib.Core.Path.{_≡_}
 use mathlib.Core.List.{List, _++_}
 use Prim.Native.Nat.{ℕ, _*_, _/_, _<_}
@@ -21,8 +20,8 @@ abbrev pub remainingUpTo : ℕ → ℕ → List ℕ → List ℕ → List Call
 remainingUpTo k n openings script = remaining n (termsOf openings) (itemsFrom k script 0)
 
 -- the store that item k finds
-abbrev pub storeBefore : ℕ → ℕ → List ℕ → List ℕ → Store
-storeBefore k n openings script = run n (fresh (termsOf openings)) (remainingUpTo k n openings script)
+abbrev pub storeAtItem : ℕ → ℕ → List ℕ → List ℕ → Store
+storeAtItem k n openings script = run n (fresh (termsOf openings)) (remainingUpTo k n openings script)
 
 -- the store of the calls that remain, and its record
 unfoldable pub itemsStore : ℕ → List ℕ → List ℕ → Store
@@ -37,7 +36,7 @@ pub record RehearsesItems (n : ℕ) (openings script rec ans rec′ ans′ : Lis
   pub answered : ans′ ≡ itemAnswers n (termsOf openings) (itemsOf script) ++ drop (length script) ans
   pub copies : left ≡ outstanding n (itemsStore n openings script)
   pub causal : CausalRecord (itemsRecord n openings script)
-  pub closes : (k : ℕ) → k < length script / 8 → itemAt script (8 * k) ≡ call close → Closes n (storeBefore k n openings script)
+  pub closes : (k : ℕ) → k < length script / 8 → itemAt script (8 * k) ≡ call close → Closes n (storeAtItem k n openings script)
   pub adds-up : AddsUp n (termsOf openings) (remaining n (termsOf openings) (itemsOf script)) left
   -- of a script of the calls that remain alone, as the answers tell them, the store is the same, and so are the count and the record
   pub alone : itemsStore n openings (scriptOf script (toldRemaining script ans′)) ≡ itemsStore n openings script

@@ -8,7 +8,7 @@ use native.Mathlib.Omega.{arith}
 use native.Mathlib.Decide.{ℕ-discrete}
 use borrow.Author.Tests.{eq-eqb, ne-eqb, le-ltb}
 use lib.Dec.{eqb, ltb}
-use lib.ListN.{length, take, drop, replicate, length-take, length-drop, length-append}
+use lib.ListN.{length, take, drop, replicate, length-replicate, replicate-append-replicate, length-take, length-drop, length-append}
 use lib.Seq.{length-take-le, take-at, drop-at, drop-drop}
 use Rattle.rows.specs.Row.{has, insert, rowAt, Row, RowPut}
 use Rattle.rows.proofs.RowLaws.{length-insert, has-cleared, row-of, row-none, row-has, row-in, row-set, row-skip}
@@ -91,6 +91,13 @@ kinds-of n w f writes reads every h r s t p q u = (
 
 -- ---- the groups, in two parts that are filled one after the other
 
+-- of empty rows for all groups, those for objects
+pub empty-front : (w : ℕ) → take {A = ℕ} (256 * w) (replicate (259 * w) 0) ≡ replicate (256 * w) 0
+empty-front w =
+    let all : 259 * w ≡ 256 * w + 3 * w = omega arith in
+    ap (λ (k : ℕ). take {A = ℕ} (256 * w) (replicate k 0)) all ∙ ap (take {A = ℕ} (256 * w)) (sym (replicate-append-replicate (256 * w) (3 * w) 0))
+    ∙ take-at (replicate (256 * w) 0) (replicate (3 * w) 0) (256 * w) (length-replicate (256 * w) 0)
+
 module _ (n w : ℕ) (l g m k : List ℕ) (room : 259 * w ≤ length g) (fits : length m ≡ length (take (256 * w) g))
     (fits-next : length k ≡ length (take (259 * w - 256 * w) (drop (256 * w) (m ++ drop (256 * w) g)))) where
   abbrev first : List ℕ
@@ -110,12 +117,10 @@ module _ (n w : ℕ) (l g m k : List ℕ) (room : 259 * w ≤ length g) (fits : 
       let past : 256 * w + (259 * w - 256 * w) ≡ 259 * w = omega arith in
       rw (take-at m (drop (256 * w) g) (256 * w) size, drop-at m (drop (256 * w) g) (256 * w) size, drop-drop (259 * w - 256 * w) (256 * w) g, past)
 
-  kept : (length second ≡ length g) × (drop (259 * w) second ≡ drop (259 * w) g)
+  kept : length second ≡ length g
   kept =
       let t : List ℕ = drop (259 * w) g in
-      let whole : length (m ++ k) ≡ 259 * w = omega (arith, length-append m k, size, size-next) in
-      let e : second ≡ (m ++ k) ++ t = parts ∙ sym (append-assoc m k t) in
-      (omega (arith, ap length e, length-append (m ++ k) t, length-drop (259 * w) g), ap (drop (259 * w)) e ∙ drop-at (m ++ k) t (259 * w) whole)
+      omega (arith, ap length (parts ∙ sym (append-assoc m k t)), length-append (m ++ k) t, length-append m k, size, size-next, length-drop (259 * w) g)
 
   row-second : (b : ℕ) → b < 3 → rowAt second w (256 + b) ≡ rowAt k w b
   row-second b h =
@@ -124,10 +129,10 @@ module _ (n w : ℕ) (l g m k : List ℕ) (room : 259 * w ≤ length g) (fits : 
       ∙ row-front k (drop (259 * w) g) w b (row-room 3 w b (length k) h (omega (arith, size-next)))
 
   pub groups-of : KeyRows n w (objectIn l) m → Row n (isWriteIn l) (rowAt k w 0) → Row n (λ e. not (isWriteIn l e)) (rowAt k w 1) → Row n (λ e. true) (rowAt k w 2)
-      → Groups n w l second × ((length second ≡ length g) × (drop (259 * w) second ≡ drop (259 * w) g))
+      → Groups n w l second × (length second ≡ length g)
   groups-of o r s t = (
     record {
-      size = omega (arith, kept .0);
+      size = omega (arith, kept);
       objects = λ b h. rw (parts, row-front m (k ++ drop (259 * w) g) w b (row-room 256 w b (length m) h (omega (arith, size)))) (o b h);
       writes = rw (row-second 0 (omega arith)) r;
       reads = rw (row-second 1 (omega arith)) s;

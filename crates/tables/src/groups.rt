@@ -3,19 +3,18 @@ ghost use mathlib.Core.Path.{_≡_};
 ghost use mathlib.Core.Bool.{true, not};
 ghost use Prim.Native.Nat.{ℕ, _+_, _*_, _^_, _<_, _≤_};
 ghost use lib.Dec.{eqb};
-ghost use lib.ListN.{length, take, drop};
+ghost use lib.ListN.{length, take, replicate};
 ghost use Rattle.rows.specs.Row.{rowAt, Row, RowPut};
 ghost use Rattle.record.specs.Words.{objectIn, isWriteIn};
 ghost use Rattle.events.specs.Given.{groupRows, Groups};
 
-// Row o of g, of w words, comes to have the events on object o.
+// Row o of g, of w words and empty, comes to have the events on object o.
 fn fill_objects(l: &[u64], n: usize, w: usize, g: &mut [u64])
     requires { ⌜ (4 * n ≤ length (now l)) × (n ≤ 64 * w) × (64 * length (now g) < 2 ^ 64) ⌝ }
-    requires { ⌜ length (now g) ≡ 256 * w ⌝ }
+    requires { ⌜ now g ≡ replicate (256 * w) 0 ⌝ }
     ensures { λ _. ⌜ ((o : ℕ) → o < 256 → Row n (λ e. eqb (objectIn (now (l .entry)) e) o) (rowAt (now (g .exit)) w o)) ⌝ }
     ensures { λ _. ⌜ length (now (g .exit)) ≡ length (now (g .entry)) ⌝ }
 {
-    rows::clear(g);
     for e in 0..n {
         let o = events::object(l, e) as usize;
         rows::set(g, 64 * (o * w) + e);
@@ -66,12 +65,12 @@ fn fill_kinds(l: &[u64], n: usize, w: usize, g: &mut [u64])
     put(&every, w, 2, g);
 }
 
-// The events of each object at rows 0 to 255, then the writes, the reads and all events.
+// The events of each object at rows 0 to 255, then the writes, the reads and all events, into rows that are empty.
 pub fn fill(l: &[u64], n: usize, w: usize, g: &mut [u64])
     requires { ⌜ (4 * n ≤ length (now l)) × (n ≤ 64 * w) × (w ≤ 8) × (64 * length (now g) < 2 ^ 64) ⌝ }
-    requires { ⌜ groupRows * w ≤ length (now g) ⌝ }
+    requires { ⌜ now g ≡ replicate (groupRows * w) 0 ⌝ }
     ensures { λ _. ⌜ Groups n w (now (l .entry)) (now (g .exit)) ⌝ }
-    ensures { λ _. ⌜ (length (now (g .exit)) ≡ length (now (g .entry))) × (drop (groupRows * w) (now (g .exit)) ≡ drop (groupRows * w) (now (g .entry))) ⌝ }
+    ensures { λ _. ⌜ length (now (g .exit)) ≡ length (now (g .entry)) ⌝ }
 {
     let objects = events::WRITES * w;
     let end = events::GROUPS * w;

@@ -153,7 +153,7 @@ same-length c = search needs
 
 returns : tie.Need-returns
 returns c =
-    let k = c .before .before in
+    let k = c .before .before .before in
     let e = k .before .before .before in
     let w = e .before .before in
     let m = made w in
@@ -161,7 +161,7 @@ returns c =
     let s = start m in
     both-alike (s .args .p) (saidBy (s .args .s .now)) (history m) (r .agree) (s .args .out .now)
     (told-as (s .args .p) (history m) (first w) (second w) (broken w) ByChain (by-chain e) _ (chain-told (count m) (heads m) (sets m) (tables m) (terms m) (r .given) (r .tables) (first w) (second w) (left w) (right w) (has-chain e))
-    (k .write-chain .result) (k .write-chain .ensures .0) (s .args .out .now) _ (k .write-chain .ensures .1))
+    (k .write-chain .result) (k .write-chain .ensures .0) (s .args .out .now) _ (k .write-chain .ensures .1 .0))
 
 enum-told-2 : tie.Need-enum-told-2
 enum-told-2 c = search needs

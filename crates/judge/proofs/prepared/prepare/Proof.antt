@@ -1,13 +1,14 @@
 -- `judge::prepared::prepare` meets its contract: the words have the events of the record's bytes, and groups and tables are filled from them. Assumes nothing.
 use mathlib.Core.Path.{ap}
 use mathlib.Core.List.{List}
-use Prim.Native.Nat.{ℕ, _≤_}
+use Prim.Native.Nat.{ℕ, _*_, _≤_}
 use native.Mathlib.Omega.{arith}
-use lib.ListN.{length}
+use lib.ListN.{length, length-replicate}
 use Rattle.rows.proofs.ByteLaws.{length-words}
-use Rattle.record.specs.Layout.{mostEvents, termsLength}
+use Rattle.record.specs.Layout.{mostEvents, rowWords, termsLength}
 use Rattle.record.specs.Words.{termsWords}
 use Rattle.record.proofs.StoresLaws.{Bytes}
+use Rattle.events.specs.Given.{groupRows}
 use Rattle.judge.proofs.RecordLaws.{Told, passed-long, count-small, blocks-long, heads, words-told}
 use borrow.Author.Needs.{needs}
 use Rattle.judge.proofs.prepared.prepare.Statement.{statement}
@@ -72,9 +73,9 @@ load-terms-requires c κs =
 fill-requires : tie.Need-fill-requires
 fill-requires c κs =
     let q = c .before .before .before .before in
-    let k = counted (loaded q) in
+    let p = start (counted (loaded q)) .pre .1 .2 in
     let g = told q .given in
-    ((g .heads, g .rows .wide, omega arith, omega (arith, start k .pre .1 .2)), omega (arith, start k .pre .1 .2))
+    ((g .heads, g .rows .wide, omega arith, omega (arith, ap length p, length-replicate {A = ℕ} (groupRows * rowWords) 0)), p)
 
 fill-tables-requires : tie.Need-fill-tables-requires
 fill-tables-requires c κs =

@@ -1,8 +1,8 @@
 -- `tables::groups::fill_objects` meets its contract: the rows have the events passed. Assumes nothing.
 use Prim.Native.Nat.{_+_, _-_, _*_, _^_, _<_, _≤_}
-use mathlib.Core.Path.{_≡_, refl, _∙_}
+use mathlib.Core.Path.{_≡_, refl, ap, _∙_}
 use native.Mathlib.Omega.{arith}
-use lib.ListN.{length}
+use lib.ListN.{length, length-replicate}
 use Rattle.record.specs.Words.{objectIn}
 use Rattle.rows.proofs.TableLaws.{row-room}
 use Rattle.tables.proofs.GroupLaws.{KeyRows, keys-none, keys-more, keys-all}
@@ -16,32 +16,31 @@ Inv-loop l n w g₀ e₀ g e = (e ≤ n) × (length g ≡ length g₀) × KeyRow
 abbrev μ-loop : tie.MeasureT-loop
 μ-loop l n w g₀ e₀ g e = n - e
 
-sized : (c : tie.At-loop Inv-loop μ-loop) → length (c .loop .g) ≡ length (c .before .before .before .before .before .before .before .args .g .now)
+full : (s : tie.Start Inv-loop μ-loop) → length (s .args .g .now) ≡ 256 * s .args .w
+full s = ap length (s .pre .1) ∙ length-replicate (256 * s .args .w) 0
+
+sized : (c : tie.At-loop Inv-loop μ-loop) → length (c .loop .g) ≡ length (c .before .before .before .args .g .now)
 sized c = search needs
 
 small : (c : tie.After-object Inv-loop μ-loop) → c .object .result < 256
 small c = omega (arith, c .object .ensures)
 
-place : (c : tie.After-object Inv-loop μ-loop) → c .object .result * c .before .before .before .before .before .before .before .before .before .args .w + c .before .before .before .before .before .before .before .before .before .args .w ≤ length (c .before .before .loop .g)
+place : (c : tie.After-object Inv-loop μ-loop) → c .object .result * c .before .before .before .before .before .args .w + c .before .before .before .before .before .args .w ≤ length (c .before .before .loop .g)
 place c =
-    let s = c .before .before .before .before .before .before .before .before .before in
-    row-room 256 (s .args .w) (c .object .result) (length (c .before .before .loop .g)) (small c) (omega (arith, s .pre .1, sized (c .before .before)))
+    let s = c .before .before .before .before .before in
+    row-room 256 (s .args .w) (c .object .result) (length (c .before .before .loop .g)) (small c) (omega (arith, full s, sized (c .before .before)))
 
 -- the words that hold the rows, and so the place in bits, fit
 short : (c : tie.After-object Inv-loop μ-loop) → 64 * length (c .before .before .loop .g) < 2 ^ 64
-short c = omega (arith, c .before .before .before .before .before .before .before .before .before .pre .0, sized (c .before .before))
+short c = omega (arith, c .before .before .before .before .before .pre .0, sized (c .before .before))
 
-inside : (c : tie.After-object Inv-loop μ-loop) → c .before .before .loop .e < 64 * c .before .before .before .before .before .before .before .before .before .args .w
-inside c = omega (arith, c .before .loop-test .taken, c .before .before .before .before .before .before .before .before .before .pre .0)
-
-clear-requires : tie.Need-clear-requires Inv-loop μ-loop
-clear-requires c κs = search needs
+inside : (c : tie.After-object Inv-loop μ-loop) → c .before .before .loop .e < 64 * c .before .before .before .before .before .args .w
+inside c = omega (arith, c .before .loop-test .taken, c .before .before .before .before .before .pre .0)
 
 loop-holds : tie.Need-loop-holds Inv-loop μ-loop
 loop-holds c =
-    let s = c .before .before .before .before .before .before in
-    let e = c .before .before .clear in
-    (omega arith, refl, keys-none (s .args .w) (objectIn (s .args .l .now)) (length (s .args .g .now)) (e .last .0) (e .ensures))
+    let s = c .before .before in
+    (omega arith, refl, keys-none (s .args .w) (objectIn (s .args .l .now)) (256 * s .args .w) (s .args .g .now) (s .pre .1))
 
 object-requires : tie.Need-object-requires Inv-loop μ-loop
 object-requires c κs = search needs
@@ -66,18 +65,18 @@ loop-less c = search needs
 
 loop-again : tie.Need-loop-again Inv-loop μ-loop
 loop-again c =
-    let s = c .before .before .before .before .before .before .before .before .before .before .before .before .before in
+    let s = c .before .before .before .before .before .before .before .before .before in
     let l = c .before .before .before .before .before .before .loop in
     let k = c .before .before .before .before in
     let t = c .before .before .set in
-    (omega arith, c .before .g2 .given ∙ l .inv .1, keys-more (s .args .w) (objectIn (s .args .l .now)) (l .e) (l .g) (k .object .result) (t .last .0) (l .inv .2) (inside k) (omega (arith, s .pre .1, sized (k .before .before))) (k .object .ensures) (small k) (t .ensures))
+    (omega arith, c .before .g .given ∙ l .inv .1, keys-more (s .args .w) (objectIn (s .args .l .now)) (l .e) (l .g) (k .object .result) (t .last .0) (l .inv .2) (inside k) (omega (arith, full s, sized (k .before .before))) (k .object .ensures) (small k) (t .ensures))
 
 same-length : tie.Need-same-length Inv-loop μ-loop
 same-length c = sized (c .before)
 
 returns : tie.Need-returns Inv-loop μ-loop
 returns c =
-    let s = c .before .before .before .before .before .before .before .before in
+    let s = c .before .before .before .before in
     let l = c .before .loop in
     (keys-all (s .args .w) (objectIn (s .args .l .now)) (l .e) (s .args .n) (l .g) (omega arith) (l .inv .2), sized (c .before))
 
@@ -87,7 +86,6 @@ fill-objects-spec =
     (tie.spec
     Inv-loop
     μ-loop
-    clear-requires
     loop-holds
     object-requires
     mul-set

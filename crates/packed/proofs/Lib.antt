@@ -1,0 +1,2 @@
+-- What is proved of the hosts' numbers.
+pub mod ReadsBack
