@@ -8,29 +8,31 @@ use std::process::ExitCode;
 /// The exit status, the highest that applies.
 #[derive(Clone, Copy, Debug, PartialEq, Eq, PartialOrd, Ord)]
 pub enum Ending {
-    /// All is met, or what was asked for is done.
     Well = 0,
-    /// Something is broken.
     Broken = 1,
-    /// Something was refused: a record, a script, a call, or text that says neither.
     Refused = 2,
-    /// A file could not be read, or output not be written, or records are not those that were expected.
     Failed = 3,
-    /// The words of the command line are none that it knows; nothing was done.
     Unclear = 4,
 }
 
 impl Ending {
     pub const ALL: [Ending; 5] = [Ending::Well, Ending::Broken, Ending::Refused, Ending::Failed, Ending::Unclear];
 
-    /// As people are told of it.
+    /// As people are told of it, by help, manual and pages.
     pub fn meaning(self) -> &'static str {
         match self {
-            Ending::Well => "all met, or done",
+            Ending::Well => "all met, or what was asked for is done",
             Ending::Broken => "something is broken",
-            Ending::Refused => "something was refused",
-            Ending::Failed => "a file could not be read, output not be written, or records are not as expected",
-            Ending::Unclear => "the command line was not understood, and nothing was done",
+            Ending::Refused => {
+                "something was refused: a record, a script or one of its calls, or text that says neither"
+            }
+            Ending::Failed => {
+                "a file could not be read, output not be written, or records are not as --expect or --strict asks"
+            }
+            Ending::Unclear => {
+                "the command line was not understood or cannot be followed, or would replace a file of another kind; \
+                 nothing was done"
+            }
         }
     }
 }

@@ -17,6 +17,9 @@ pub enum Made {
 /// So many bytes of a file are looked at.
 const START: u64 = 8_192;
 
+/// A picture begins so, or has it behind what other programs write before it.
+const SVG: &[u8] = b"<svg";
+
 impl Made {
     /// What is in the place of this file and would be lost, as a message names it: nothing where it may be replaced,
     /// which is where it is empty or the same kind of thing. Devices and pipes are written to, and lose nothing.
@@ -33,7 +36,8 @@ impl Made {
 
     /// The paper's form of a script begins with 1 to 8, the number of sites, which no text does.
     fn of(start: &[u8]) -> Option<Made> {
-        let is_picture = |text: &[u8]| text.starts_with(b"<svg") || text.starts_with(b"<?xml");
+        let has_drawing = |text: &[u8]| text.windows(SVG.len()).any(|part| part == SVG);
+        let is_picture = |text: &[u8]| text.starts_with(SVG) || (text.starts_with(b"<?xml") && has_drawing(text));
         match start {
             [b'G', b'C', b'R', ..] => Some(Made::Record),
             [1..=8, ..] => Some(Made::Script),
@@ -70,11 +74,13 @@ mod tests {
 
     #[test]
     fn what_a_file_is_goes_by_how_it_begins() {
-        let due: [(&[u8], Option<Made>); 9] = [
+        let due: [(&[u8], Option<Made>); 11] = [
             (b"GCR2\x03\x00", Some(Made::Record)),
             (b"\x02\x00\x00", Some(Made::Script)),
             (b"<svg xmlns=\"\">", Some(Made::Picture)),
-            (b"\xef\xbb\xbf \n<?xml version=\"1.0\"?>", Some(Made::Picture)),
+            (b"\xef\xbb\xbf \n<?xml version=\"1.0\"?>\n<!-- --><svg>", Some(Made::Picture)),
+            (b"<?xml version=\"1.0\"?>\n<members/>", Some(Made::Text)),
+            (b"<members><svg/></members>", Some(Made::Text)),
             (b"edition GCR2\n", Some(Made::Text)),
             (b"\xef\xbb\xbfedition;GCR2\r\n", Some(Made::Text)),
             (b"caf\xe9\n", Some(Made::Text)),

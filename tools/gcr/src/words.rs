@@ -211,7 +211,8 @@ mod tests {
     #[test]
     fn fixed_words_are_asked_for_by_the_table() {
         assert_eq!(read(&["--color", "auto"]).unwrap().one("--color"), Some(OsStr::new("auto")));
-        assert_eq!(wrong(&["--color=alwyas"]), "there is no --color alwyas; the nearest is always");
+        let what = "--color is always, auto or never, and alwyas is none of them; the nearest is always";
+        assert_eq!(wrong(&["--color=alwyas"]), what);
         assert!(help::of(&PAINT).contains("--color WHEN  paints; WHEN is always, auto or never\n"));
     }
 

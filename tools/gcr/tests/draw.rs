@@ -76,7 +76,7 @@ fn what_was_drawn_is_said_beside_the_picture() {
 #[test]
 fn a_picture_goes_to_the_file_that_is_named() {
     let folder = Folder::new();
-    for there in ["", "<svg>", "\u{feff}\n <?xml version=\"1.0\"?>"] {
+    for there in ["", "<svg>", "\u{feff}\n <?xml version=\"1.0\"?>\n<svg/>"] {
         let path = folder.file("picture.svg", there);
         gcr(&["draw", "-o", &path, &record("listing.gcr")]).done();
         assert!(fs::read_to_string(&path).expect("it is there") == drawn("listing.gcr", CAUSAL, &Part::whole()));

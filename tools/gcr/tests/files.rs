@@ -74,6 +74,21 @@ fn what_is_empty_or_was_written_is_replaced() {
     }
 }
 
+/// What other programs draw begins as any XML does, and no other XML is a picture.
+#[test]
+fn a_picture_does_not_replace_other_xml() {
+    let folder = folder();
+    let drawn = |there: &str| gcr(&["draw", "-q", &folder.at("day.gcr"), "-o", &folder.file("there.xml", there)]);
+    let members = "<?xml version=\"1.0\"?>\n<members><member>43</member></members>\n";
+    let to = folder.at("there.xml");
+    let why = format!("-o names {to}, which is text, and a picture replaces only pictures");
+    let what = format!("{why}: name another file, or remove this one (gcr draw --help tells more)");
+    drawn(members).ended(4, &what);
+    assert_eq!(fs::read_to_string(&to).unwrap(), members);
+    drawn("<?xml version=\"1.0\"?>\n<!-- by hand -->\n<svg xmlns=\"http://www.w3.org/2000/svg\"/>\n").done();
+    assert!(fs::read_to_string(&to).unwrap().starts_with("<svg"));
+}
+
 /// A device has nothing to lose.
 #[test]
 fn devices_are_written_to() {

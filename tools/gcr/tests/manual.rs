@@ -40,6 +40,18 @@ fn it_has_the_statuses_and_the_version() {
     assert_eq!(told, ["0", "1", "2", "3", "4"]);
 }
 
+/// In one wording.
+#[test]
+fn the_page_of_the_command_has_the_same_statuses() {
+    let command = include_str!("../../../docs/COMMAND.md").replace('`', "");
+    let (_, table) = command.split_once("\n## Exit status\n").expect("a part of it");
+    let rows: Vec<&str> = table.lines().filter(|line| line.starts_with("| ")).skip(1).take(5).collect();
+    let manual = plain(&page());
+    let (_, statuses) = manual.split_once(".SH EXIT STATUS\n").expect("statuses");
+    let told = statuses.split(".TP\n").skip(1).map(|part| format!("| {} |", part.trim().replacen('\n', " | ", 1)));
+    assert_eq!(rows, told.collect::<Vec<_>>());
+}
+
 /// Lines that begin with a point are requests, and all are known ones.
 #[test]
 fn it_is_roff() {

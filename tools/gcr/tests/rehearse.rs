@@ -35,6 +35,24 @@ get 1 6      # event 3, found none
     assert_eq!(rehearsed(due).text(), due);
 }
 
+#[test]
+fn a_last_line_that_may_be_cut_is_told() {
+    let folder = Folder::new();
+    let whole = "sites 2\nput 0 5 350\n";
+    let path = folder.file("day.txt", &whole[..whole.len() - 3]);
+    let ran = gcr(&["rehearse", &path]);
+    let told = "the last line has no newline at its end, and may be cut";
+    assert_eq!((ran.status, ran.err.as_str()), (0, format!("gcr: {path}: line 2, column 10: {told}\n").as_str()));
+    assert_eq!(ran.out, rehearsed("sites 2\nput 0 5 3\n").out);
+    for end in ["", "# put 0 5 3", "  ", "\n# put 0 5 350"] {
+        assert_eq!(rehearsed(&format!("{whole}{end}")).err, "", "{end:?}");
+    }
+    assert_eq!(rehearsed(&whole.replace('\n', "\r")), rehearsed(whole));
+    let refused = "standard input: line 2, column 8: VALUE is missing: put SITE OBJECT VALUE";
+    rehearsed("sites 2\nput 0 5").ended(2, refused);
+    assert_eq!(piped(&["rehearse", "--bytes"], &bytes("records/closing.script")).err, "");
+}
+
 /// What the page shows under this name.
 fn block(name: &str) -> &'static str {
     let (_, rest) = PAGE.split_once(&format!("```text {name}\n")).expect(name);
@@ -53,6 +71,10 @@ fn the_page_shows_what_is_written() {
         let ran = shell_in(folder.path(), "gcr rehearse day.txt");
         assert!(ran.status == 2 && PAGE.contains(&format!("\n    {}", ran.err)), "{}", ran.err);
     }
+    let (cut, _) = block("day.txt").split_once("00     # event 3").expect("the last line");
+    folder.file("day.txt", cut);
+    let ran = shell_in(folder.path(), "gcr rehearse day.txt");
+    assert!(!ran.err.is_empty() && PAGE.contains(&format!("\n    {}", ran.err)), "{}", ran.err);
 }
 
 #[test]

@@ -85,7 +85,9 @@ fn run(words: &Words) -> Result<Ending, Failure> {
 
 fn of_text(source: &Source) -> Result<Script, Failure> {
     let text = text::read(source, &format!(" ({BYTES} reads the paper's form)"))?;
-    reading::read(&text).map_err(|bad| Failure::of_refusal(&source.name(), bad))
+    let script = reading::read(&text).map_err(|bad| Failure::of_refusal(&source.name(), bad))?;
+    reading::doubt(&text).iter().for_each(|doubt| output::remarked(&format!("{}: {doubt}", source.name())));
+    Ok(script)
 }
 
 /// Where no line tells of refused calls, a message does.

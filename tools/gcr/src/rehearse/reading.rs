@@ -3,7 +3,7 @@
 use super::calls::{read_raw, Form, FORMS, RAW, RAW_NAMES};
 use super::script::{Script, CALL};
 use crate::openings;
-use crate::text::{after, words, Bad, Word};
+use crate::text::{after, unended, words, Bad, Word};
 use gcr::Openings;
 
 /// The words that a line begins with beside those of calls.
@@ -17,6 +17,11 @@ pub fn read(text: &str) -> Result<Script, Bad> {
     }
     let sites = reader.sites.ok_or_else(|| after(text, "sites N is missing"))?;
     Ok(Script { sites, openings: *reader.openings.as_bytes(), calls: reader.calls })
+}
+
+/// What is told of a text that may be cut in its last line: of `put 0 5 350` it may have kept `put 0 5 3`.
+pub fn doubt(text: &str) -> Option<Bad> {
+    unended(text, |line| !words(line.line, line.text).is_empty())
 }
 
 /// What the lines so far have said.

@@ -36,7 +36,7 @@ comes from standard input.
 const NOTES: &str = "
 The text has a header, which ends with the number of events, then the columns: the event's number, site,
 kind, object, value, state, start, return, its position in the order of all events, and the events that it
-sees, in ranges: 0..5 7 is 0 to 5, and 7. gcr make makes the same record of it again.
+sees, in brackets and in ranges: [0..5 7] is 0 to 5, and 7. gcr make makes the same record of it again.
 ";
 
 fn run(words: &Words) -> Result<Ending, Failure> {

@@ -43,8 +43,16 @@ impl Column {
         Column::ALL.into_iter().map(Column::name).collect()
     }
 
+    /// As it is written above its cells: in brackets where these are.
+    pub fn heading(self) -> &'static str {
+        match self {
+            Column::Sees => "[sees]",
+            _ => self.name(),
+        }
+    }
+
     pub fn named(word: Word) -> Option<Column> {
-        Column::ALL.into_iter().find(|column| word.is(column.name()))
+        Column::ALL.into_iter().find(|column| word.is(column.name()) || word.is(column.heading()))
     }
 
     /// Rows count, and a return says the state.

@@ -1,5 +1,6 @@
 //! The row that names the columns.
 
+use super::brackets;
 use super::column::Column;
 use super::form::Form;
 use super::others::{self, Others};
@@ -25,6 +26,7 @@ impl<'a> Columns<'a> {
     }
 
     pub fn read(form: Form, others: Others, row: &Row<'a>) -> Result<Columns<'a>, Bad> {
+        row.has_no_gap()?;
         let mut columns = Columns { form, named: Vec::new() };
         for &cell in row.filled() {
             columns.name(others, cell)?;
@@ -84,8 +86,14 @@ impl<'a> Columns<'a> {
         self.place(column).map(|place| row.cell(place))
     }
 
+    /// The name of this column, if that is in brackets: then its cells are too.
+    pub fn in_brackets(&self, column: Column) -> Option<Word<'a>> {
+        self.named.iter().find(|named| named.column == Some(column) && named.is_in_brackets()).map(|named| named.name)
+    }
+
     /// Every column has its cell, in CSV an empty one too: a row with fewer was cut. No cell is without a column.
     pub fn fit(&self, row: &Row) -> Result<(), Bad> {
+        row.has_no_gap()?;
         let over = row.cells.iter().skip(self.count()).find(|cell| !cell.text.is_empty());
         match (over, self.named.get(row.cells.len())) {
             (Some(cell), _) => Err(cell.bad(format!("over {} no column is named", cell.shown()))),
@@ -96,9 +104,16 @@ impl<'a> Columns<'a> {
 }
 
 impl Named<'_> {
+    fn is_in_brackets(&self) -> bool {
+        brackets::within(self.name).is_some()
+    }
+
     /// Its name, and what a cell that is forgotten may have.
     fn told(&self) -> String {
-        let nothing = self.column.and_then(Column::nothing);
+        let nothing = match self.is_in_brackets() {
+            true => self.column.map(|_| brackets::NOTHING),
+            false => self.column.and_then(Column::nothing),
+        };
         let may_be = nothing.map_or(String::new(), |nothing| format!(", which may be {nothing}"));
         format!("{}{may_be}", self.name.shown())
     }

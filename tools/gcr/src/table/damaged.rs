@@ -7,7 +7,7 @@ use crate::text::letters;
 use gcr::Record;
 use second::generate::random::Random;
 
-const LETTERS: [&str; 24] = [
+const LETTERS: [&str; 26] = [
     "0",
     "1",
     "7",
@@ -32,6 +32,8 @@ const LETTERS: [&str; 24] = [
     "sites 2\n",
     "opening 3 1\n",
     "pending",
+    "[",
+    "]",
 ];
 
 /// A line, a byte or a letter is changed.

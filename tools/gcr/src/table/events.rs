@@ -1,5 +1,6 @@
 //! A row's event.
 
+use super::brackets;
 use super::column::Column;
 use super::columns::Columns;
 use super::names::{is_nothing, kind, state};
@@ -27,13 +28,23 @@ impl<'a> EventRow<'_, 'a> {
         event.start = self.number(Column::Start, u64::MAX)?;
         event.end = self.unless_nothing(Column::Return, u64::MAX)?;
         event.position = self.number(Column::Position, u16::MAX.into())? as u16;
-        event.visible = ranges::read(self.cell(Column::Sees))?;
+        event.visible = ranges::read(self.seen()?)?;
         self.agrees_in_state(&event)?;
         Ok(event)
     }
 
     pub fn cell(&self, column: Column) -> Word<'a> {
         self.columns.cell(column, self.row).unwrap_or(self.row.end)
+    }
+
+    /// What it sees, without brackets. A column whose name has them asks for them: a cell without was cut.
+    pub fn seen(&self) -> Result<Word<'a>, Bad> {
+        let cell = self.cell(Column::Sees);
+        match (brackets::within(cell), self.columns.in_brackets(Column::Sees)) {
+            (Some(inside), _) => Ok(inside),
+            (None, Some(name)) => Err(brackets::missing(name, cell)),
+            (None, None) => Ok(cell),
+        }
     }
 
     fn number(&self, column: Column, most: u64) -> Result<u64, Bad> {

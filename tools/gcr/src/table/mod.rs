@@ -1,5 +1,6 @@
 //! A record as a table: header rows, the row of columns, then a row for each event. `show` writes it, `make` reads it.
 
+mod brackets;
 mod column;
 mod columns;
 mod entries;

@@ -8,7 +8,7 @@ use super::form::Form;
 use super::header::Header;
 use super::others::{passed_over, Others};
 use super::rows::{Row, Rows};
-use super::whole::{are_not_too_many, doubt, is_whole};
+use super::whole::{are_not_too_many, is_whole};
 use crate::text::{Bad, Word};
 use gcr::Record;
 
@@ -30,9 +30,10 @@ impl<'a> Table<'a> {
         let columns = Columns::read(form, others, &named)?;
         let record = header.record(named.first())?;
         let events = event_rows(&mut rows, columns.count())?;
-        is_whole(&header, &events, rows.unended())?;
+        let doubt = rows.unended();
+        is_whole(&header, &events, doubt.as_ref())?;
         are_not_too_many(&events)?;
-        let mut table = Table { record, header, columns, rows: events, doubt: doubt(rows.unended()) };
+        let mut table = Table { record, header, columns, rows: events, doubt };
         table.fill()?;
         Ok(table)
     }

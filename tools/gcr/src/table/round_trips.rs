@@ -36,13 +36,13 @@ fn expected(number: usize, event: &second::Event) -> Vec<String> {
     ]
 }
 
-fn seen(ranges: &[&str]) -> Vec<usize> {
+fn seen(ranges: &str) -> Vec<usize> {
     let number = |word: &str| word.parse::<usize>().expect("a number");
-    let range = |range: &&str| match range.split_once("..") {
+    let range = |range: &str| match range.split_once("..") {
         Some((first, last)) => (number(first)..=number(last)).collect(),
         None => vec![number(range)],
     };
-    ranges.iter().filter(|range| **range != "-").flat_map(range).collect()
+    ranges.split_whitespace().flat_map(range).collect()
 }
 
 fn says_what_the_second_checker_reads((name, bytes): &Named) {
@@ -54,7 +54,9 @@ fn says_what_the_second_checker_reads((name, bytes): &Named) {
         let cells: Vec<&str> = row.split_whitespace().collect();
         assert_eq!(cells[..9], expected(number, event), "{name}");
         let visible: Vec<usize> = (0..second::MOST_EVENTS).filter(|&other| event.visible[other]).collect();
-        assert_eq!(seen(&cells[9..]), visible, "{name}, event {number}");
+        let ranges = cells[9..].join(" ");
+        let ranges = ranges.strip_prefix('[').and_then(|rest| rest.strip_suffix(']')).expect("brackets");
+        assert_eq!(seen(ranges), visible, "{name}, event {number}");
     }
 }
 

@@ -1,7 +1,7 @@
 //! The rows of a text, one by one.
 
 use super::form::Form;
-use crate::text::{Bad, Word};
+use crate::text::{unended, Bad, Word};
 use std::iter::Enumerate;
 use std::str::Lines;
 
@@ -10,6 +10,8 @@ pub struct Row<'a> {
     pub cells: Vec<Word<'a>>,
     /// Where its line ends.
     pub end: Word<'a>,
+    /// Where a cell is empty that cannot be: of a header row that makes no difference.
+    gap: Option<Bad>,
 }
 
 impl<'a> Row<'a> {
@@ -20,6 +22,11 @@ impl<'a> Row<'a> {
 
     pub fn first(&self) -> Word<'a> {
         self.cell(0)
+    }
+
+    /// Every cell stands under its column.
+    pub fn has_no_gap(&self) -> Result<(), Bad> {
+        self.gap.clone().map_or(Ok(()), Err)
     }
 
     /// Without empty cells at its end: spreadsheets make all rows as long as the longest.
@@ -36,13 +43,11 @@ pub struct Rows<'a> {
     lines: Enumerate<Lines<'a>>,
     /// How many lines were read.
     read: usize,
-    /// Where the last line ends of those that say something: all but remarks and white space.
-    last: Option<Word<'a>>,
 }
 
 impl<'a> Rows<'a> {
     pub fn of(form: Form, text: &'a str) -> Rows<'a> {
-        Rows { form, separator: form.separator(text), text, lines: text.lines().enumerate(), read: 0, last: None }
+        Rows { form, separator: form.separator(text), text, lines: text.lines().enumerate(), read: 0 }
     }
 
     /// The next row, in text of at most so many cells.
@@ -50,10 +55,8 @@ impl<'a> Rows<'a> {
         for (before, text) in self.lines.by_ref() {
             self.read = before + 1;
             let line = Word { line: self.read, column: 1, text };
-            let row = Row { cells: self.form.cells(line, self.separator, most)?, end: line.rest(text.len()) };
-            if !row.cells.is_empty() && !text.trim().is_empty() {
-                self.last = Some(row.end);
-            }
+            let cells = self.form.cells(line, self.separator, most)?;
+            let row = Row { cells, end: line.rest(text.len()), gap: self.form.gap(line) };
             if !row.filled().is_empty() {
                 return Ok(Some(row));
             }
@@ -66,8 +69,9 @@ impl<'a> Rows<'a> {
         Word { line: self.read + 1, column: 1, text: "" }
     }
 
-    /// Where the text ends, if that is within a line that says something: it may have been cut there. All were read.
-    pub fn unended(&self) -> Option<Word<'a>> {
-        self.last.filter(|last| last.line == self.read && !self.text.ends_with('\n'))
+    /// What is told of a text that may be cut in its last line: any but a remark and white space.
+    pub fn unended(&self) -> Option<Bad> {
+        let cells = |line| self.form.cells(line, self.separator, usize::MAX);
+        unended(self.text, |line| !line.text.trim().is_empty() && cells(line).is_ok_and(|cells| !cells.is_empty()))
     }
 }

@@ -1,5 +1,6 @@
 //! Writing a table.
 
+use super::brackets;
 use super::column::Column;
 use super::form::Form;
 use super::header;
@@ -8,7 +9,7 @@ use super::ranges;
 use gcr::{Event, Record};
 
 pub fn written(form: Form, record: &Record) -> String {
-    let columns = Column::names().into_iter().map(String::from).collect();
+    let columns = Column::ALL.map(|column| column.heading().to_string()).to_vec();
     let row = |(number, event): (u16, &Event)| Column::ALL.map(|column| cell(form, column, number, event)).to_vec();
     let table: Vec<_> = [columns].into_iter().chain(record.events().map(row)).collect();
     form.joined(&header::rows(record), &table)
@@ -26,8 +27,7 @@ fn cell(form: Form, column: Column, number: u16, event: &Event) -> String {
         Column::Start => event.start.to_string(),
         Column::Return => event.end.map_or_else(nothing, |end| end.to_string()),
         Column::Position => event.position.to_string(),
-        Column::Sees if event.visible.is_empty() => nothing(),
-        Column::Sees => ranges::written(&event.visible),
+        Column::Sees => brackets::around(&ranges::written(&event.visible)),
     }
 }
 

@@ -1,6 +1,6 @@
 //! Text from a file or from standard input.
 
-use super::letters;
+use super::{letters, with_line_feeds};
 use crate::ending::Failure;
 use crate::source::Source;
 
@@ -15,7 +15,7 @@ pub fn read(source: &Source, hint: &str) -> Result<String, Failure> {
         return Err(Failure::of_refusal(&source.name(), "the text is longer than 4,000,000 bytes"));
     }
     match letters(&bytes) {
-        Ok(text) => Ok(text.to_string()),
+        Ok(text) => Ok(with_line_feeds(text)),
         Err(bad) => Err(Failure::of_refusal(&source.name(), format!("{bad}{hint}"))),
     }
 }

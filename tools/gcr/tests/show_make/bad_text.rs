@@ -128,6 +128,25 @@ fn cells_of_events() {
     row_is_bad(" sites 2", "column 2: sites is said before the columns, and not after them");
 }
 
+/// Of the rows below each has one cell empty; what was swallowed would have made another record of the last of them.
+#[test]
+fn empty_cells_between_tabs() {
+    let between = "between this tab and the next is no cell: an empty one is written -";
+    let behind = "behind this tab is no cell: an empty one is written -, and behind the last cell is no tab";
+    row_is_bad("1\t0\tread\t5\t\treturned\t0\t1\t1\t-", &format!("column 11: {between}"));
+    row_is_bad("1\t0\tread\t5\t9\treturned\t0\t1\t1\t", &format!("column 28: {behind}"));
+    row_is_bad("1\t0\tread\t5\t9\treturned\t0\t1\t1\t0\t \t", &format!("column 30: {between}"));
+    row_is_bad("1\t0\tread\t5\t9\treturned\t0\t1\t1\t0\t ", &format!("column 30: {behind}"));
+    row_is_bad(
+        "\t0\tread\t5\t9\treturned\t0\t1\t1\t0 0",
+        "column 2: the event is 0, and this row is event 1: rows count from 0",
+    );
+    let named = HEAD.replace(' ', "\t").replace("\tvalue", "\t \tvalue");
+    is_bad(&["make"], named, &format!("line 2, column 23: {between}"));
+    let shifted = "sites 1\nsite\tkind\tobject\tvalue\tstart\treturn\tposition\tsees\n0\tread\t5\t\t0\t1\t0\t0 0\n";
+    is_bad(&["make"], shifted, &format!("line 3, column 9: {between}"));
+}
+
 #[test]
 fn cells_of_csv() {
     let head = "sites,2,,\nsite,kind,object,value,start,return,position,sees\n0,write,5,100,0,1,0,\n";

@@ -12,11 +12,11 @@ opening 5 300
 opening 31 0
 events 4
 
-event  site  kind   object  value       state     start  return                position  sees
-0      0     write  5       100         returned  0      1                     0         -
-1      1     write  31      4294967295  pending   2      -                     2         0
-2      1     read   5       none        returned  3      18446744073709551615  1         0..1
-3      0     read   255     none        pending   1000   -                     3         0 2
+event  site  kind   object  value       state     start  return                position  [sees]
+0      0     write  5       100         returned  0      1                     0         []
+1      1     write  31      4294967295  pending   2      -                     2         [0]
+2      1     read   5       none        returned  3      18446744073709551615  1         [0..1]
+3      0     read   255     none        pending   1000   -                     3         [0 2]
 ";
 
 const SHOWN_IN_CSV: &str = "\
@@ -26,11 +26,11 @@ clocks,40
 opening,5,300
 opening,31,0
 events,4
-event,site,kind,object,value,state,start,return,position,sees
-0,0,write,5,100,returned,0,1,0,
-1,1,write,31,4294967295,pending,2,,2,0
-2,1,read,5,,returned,3,18446744073709551615,1,0..1
-3,0,read,255,,pending,1000,,3,0 2
+event,site,kind,object,value,state,start,return,position,[sees]
+0,0,write,5,100,returned,0,1,0,[]
+1,1,write,31,4294967295,pending,2,,2,[0]
+2,1,read,5,,returned,3,18446744073709551615,1,[0..1]
+3,0,read,255,,pending,1000,,3,[0 2]
 ";
 
 /// The record that the texts above say.
@@ -54,10 +54,10 @@ fn a_record_is_shown_as_text_and_as_csv() {
 #[test]
 fn a_record_of_the_first_edition_has_no_clocks() {
     let text = "edition GCR1\nsites 2\nevents 3\n
-event  site  kind   object  value  state     start  return  position  sees
-0      0     write  0       7      returned  0      1       0         -
-1      1     read   0       7      returned  2      3       1         0
-2      1     read   0       none   returned  4      5       2         1
+event  site  kind   object  value  state     start  return  position  [sees]
+0      0     write  0       7      returned  0      1       0         []
+1      1     read   0       7      returned  2      3       1         [0]
+2      1     read   0       none   returned  4      5       2         [1]
 ";
     assert_eq!(gcr(&["show", "records/stale-read.gcr"]).done().text(), text);
     assert!(piped(&["make"], text.as_bytes()).done().out == bytes("records/stale-read.gcr"));
@@ -105,6 +105,26 @@ sees,event,site,kind,object,value,state,start,return,position,,\r
 2 0,3,0,read,255,-,pending,1000,-,3,,,,\r\n";
     makes_the_same(&["make", "--csv"], padded);
     makes_the_same(&["make", "--csv"], &padded.replace(',', ";").replace("log;", "log,"));
+}
+
+#[test]
+fn lines_may_end_as_any_system_ends_them() {
+    for end in ["\r\n", "\r"] {
+        makes_the_same(&["make"], &SHOWN.replace('\n', end));
+        makes_the_same(&["make", "--csv"], &SHOWN_IN_CSV.replace('\n', end));
+    }
+    let wrong = SHOWN_IN_CSV.replace("2,1,read", "2,1,raed").replace('\n', "\r");
+    let what = "line 10, column 5: there is no kind raed; the nearest is read; the kinds are read, write";
+    piped(&["make", "--csv"], wrong.as_bytes()).ended(2, &format!("standard input: {what}"));
+}
+
+/// A spreadsheet copies cells with tabs between them, and makes all rows as long as the longest.
+#[test]
+fn cells_may_be_copied_from_a_spreadsheet() {
+    let rows = SHOWN_IN_CSV.replace(",,", ",-,").replace(',', "\t");
+    makes_the_same(&["make"], &rows);
+    makes_the_same(&["make"], &rows.replace("sites\t2", "sites\t2\t\t\t").replace("events\t4", "\t\t\nevents\t4"));
+    makes_the_same(&["make"], &rows.replace("[0 2]", "[0 2]\t\t# the last"));
 }
 
 #[test]

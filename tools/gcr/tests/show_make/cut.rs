@@ -1,7 +1,7 @@
 //! Text that was cut on its way: it is refused, or what may be missing is told.
 
 use crate::support::folder::Folder;
-use crate::support::{gcr, piped};
+use crate::support::{bytes, gcr, piped, shell};
 
 const LOG: &str = "\
 sites,2
@@ -19,13 +19,81 @@ fn is_refused(text: &str, what: &str) {
 
 #[test]
 fn no_cut_of_what_show_writes_is_a_record() {
-    for form in [&[][..], &["--csv"]] {
+    for form in FORMS {
         let shown = gcr(&[&["show", "records/stale-read.gcr"], form].concat()).done();
         for cut in 0..shown.out.len() {
             let made = piped(&[&["make"], form].concat(), &shown.out[..cut]);
             assert_eq!((made.status, made.out.len()), (2, 0), "{}", &shown.text()[..cut]);
         }
     }
+}
+
+const FORMS: [&[&str]; 2] = [&[], &["--csv"]];
+
+/// What is made of this text is refused, or the record that it was made of.
+#[track_caller]
+fn is_refused_or(record: &str, form: &[&str], text: &str) {
+    let made = piped(&[&["make"], form].concat(), text.as_bytes());
+    let is_refused = (made.status, made.out.len()) == (2, 0) && !made.err.is_empty();
+    assert!(is_refused || (made.status == 0 && made.out == bytes(record)), "{record} is another after\n{text}");
+}
+
+#[test]
+fn a_newline_behind_a_cut_makes_no_other_record() {
+    let record = "records/never-returned.gcr";
+    for form in FORMS {
+        let shown = gcr(&[&["show", record], form].concat()).done();
+        for cut in 0..shown.out.len() {
+            is_refused_or(record, form, &format!("{}\n", &shown.text()[..cut]));
+        }
+    }
+}
+
+#[test]
+fn lines_that_are_all_cut_at_a_width_make_no_other_record() {
+    for (record, form) in FORMS.iter().flat_map(|form| [("records/clocks.gcr", form), ("records/busy-day.gcr", form)]) {
+        let shown = gcr(&[&["show", record], *form].concat()).done();
+        let widest = shown.lines().iter().map(|line| line.len()).max().expect("a line");
+        for width in 1..=widest {
+            let cut = |line: &str| format!("{}\n", &line[..width.min(line.len())]);
+            is_refused_or(record, form, &shown.text().lines().map(cut).collect::<String>());
+        }
+    }
+    let ran = shell("gcr show records/busy-day.gcr | cut -c1-132 | gcr make");
+    let found = "the cell of [sees] is [2..3 7..8 11..15 19 23..26 36 3…, and may be cut";
+    let whole = "a whole one is in brackets, as [0..5 7], and [] where nothing is seen";
+    ran.ended(2, &format!("standard input: line 103, column 71: {found}: {whole}"));
+}
+
+#[test]
+fn under_a_name_in_brackets_cells_are_in_brackets() {
+    let log = LOG.replace("sees", "[Sees]").replace("1,0,\n", "1,0,[]\n").replace("3,1,0\n", "3,1,[0]\n");
+    let whole = piped(&["make", "--csv"], LOG.as_bytes()).done();
+    assert_eq!(piped(&["make", "--csv"], log.as_bytes()).done(), whole);
+    for same in ["[ 0..0 0 ]", "\"[0]\"", " [0] "] {
+        assert_eq!(piped(&["make", "--csv"], log.replace("[0]", same).as_bytes()).done(), whole, "{same}");
+    }
+    for (cell, found) in
+        [("[0", "[0"), ("0]", "0]"), ("[", "["), ("0", "0"), ("-", "-"), ("", "missing"), ("[]0", "[]0")]
+    {
+        let may_be = "and may be cut: a whole one is in brackets, as [0..5 7], and [] where nothing is seen";
+        let what = format!("line 4, column 20: the cell of [Sees] is {found}, {may_be}");
+        is_refused(&log.replace("[0]", cell), &what);
+    }
+    is_refused(&log.replace(",[0]", ""), "line 4, column 19: the row ends before its [Sees], which may be []");
+    is_refused(&log.replace("[0]", "[0..]"), "line 4, column 24: the seen event is missing, and may be 0 to 255");
+    is_refused(&log.replace("sites", "sees,[sees],x\nsites"), "line 1, column 6: the column sees is named twice");
+}
+
+#[test]
+fn under_a_name_without_them_they_may_be() {
+    let whole = piped(&["make", "--csv"], LOG.as_bytes()).done();
+    for same in ["1,0,[]\n", "1,0,[-]\n"] {
+        assert_eq!(piped(&["make", "--csv"], LOG.replace("1,0,\n", same).as_bytes()).done(), whole, "{same}");
+    }
+    assert_eq!(piped(&["make", "--csv"], LOG.replace("3,1,0\n", "3,1,[0]\n").as_bytes()).done(), whole);
+    let what = "the seen event is [0, and may be a whole number from 0 to 255, or a range as 0..5";
+    is_refused(&LOG.replace("3,1,0\n", "3,1,[0\n"), &format!("line 4, column 20: {what}"));
 }
 
 #[test]

@@ -57,6 +57,7 @@ fn what_is_told_of_a_text_that_was_cut() {
     let last = text.lines().last().expect("a row");
     is_shown(&refusal(&folder, "day.csv", text.strip_suffix(&format!("{last}\n")).expect("it ends so")));
     is_shown(&refusal(&folder, "day.csv", text.trim_end()));
+    is_shown(&refusal(&folder, "day.csv", &format!("{}\n", text.strip_suffix("]\n").expect("it ends so"))));
 }
 
 /// What is told of a file of this name.

@@ -46,6 +46,19 @@ fn visible_sets() {
     is_refused("1 write 5 1 0 1 1 0 2\n\n1 write 5 1 0 1 2 1\n", ring);
 }
 
+#[test]
+fn visible_sets_in_brackets() {
+    let is_refused = |rows: &str, what: &str| {
+        let text = format!("sites 2\n{}0 write 5 1 0 1 0 []\n{rows}", COLUMNS.replace("sees", "[sees]"));
+        piped(&["make"], text.as_bytes()).ended(2, &format!("standard input: {what}"));
+    };
+    is_refused("1 write 5 1 0 1 1 [0  0..1]\n", "line 4, column 23: refused 9 1: event 1 sees itself");
+    let beyond = "line 4, column 20: refused 9 1: there is no event 255: the record has events 0 to 1";
+    is_refused("1 write 5 1 0 1 1 [255]\n", beyond);
+    let ring = "line 4, column 22: refused 10 1: event 1 sees itself through event 2";
+    is_refused("1 write 5 1 0 1 1 [0 2]\n1 write 5 1 0 1 2 [1]\n", ring);
+}
+
 /// Each of so many events sees the next, and the last sees the first.
 fn ring(count: usize) -> String {
     let row = |event: usize| format!("0 write 5 1 0 1 {event} {}\n", (event + 1) % count);

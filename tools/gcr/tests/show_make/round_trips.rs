@@ -36,5 +36,5 @@ fn what_is_changed_in_the_text_is_changed_in_the_record() {
         gcr::judge_predicate(gcr::Predicate::MonotonicReads, &record)
     };
     assert_eq!(judged(text), Ok(gcr::Verdict::Broken { a: 0, b: 2 }));
-    assert_eq!(judged(&text.replace("2         1\n", "2         0..1\n")), Ok(gcr::Verdict::Met));
+    assert_eq!(judged(&text.replace("2         [1]\n", "2         [0..1]\n")), Ok(gcr::Verdict::Met));
 }

@@ -43,6 +43,14 @@ impl Form {
         }
     }
 
+    /// What is wrong with a line that has an empty cell where none can be read.
+    pub fn gap(self, line: Word) -> Option<Bad> {
+        match self {
+            Form::Text => spaced::gap(line),
+            Form::Csv => None,
+        }
+    }
+
     /// Header rows, then the row of columns and the rows under it.
     pub fn joined(self, header: &[Vec<String>], table: &[Vec<String>]) -> String {
         match self {

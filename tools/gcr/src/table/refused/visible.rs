@@ -1,6 +1,5 @@
 //! Questions 9 and 10: what an event cannot see.
 
-use super::super::column::Column;
 use super::super::ranges::{parts, Range};
 use super::{no_such, Refused};
 use crate::text::Bad;
@@ -31,7 +30,7 @@ impl<'a> Refused<'_, 'a> {
     }
 
     fn ranges(&self) -> Option<Vec<Range<'a>>> {
-        parts(self.row.cell(Column::Sees)).ok()
+        parts(self.row.seen().ok()?).ok()
     }
 }
 
