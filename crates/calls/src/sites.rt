@@ -1,17 +1,60 @@
-// Sites: what one keeps after a put, a get or a delivery, and what some of them lack.
+// Sites: what one keeps beside its cells, what it comes to know, and what some of them lack.
 use super::Kept;
-use super::KeptCell;
-use super::KeptEvent;
+use super::lent;
+use record::layout;
 ghost use mathlib.Core.Path.{_≡_};
-ghost use mathlib.Core.Bool.{Bool, true, cond, _||_};
-ghost use Prim.Native.Nat.{ℕ, suc, _+_, _*_, _/_, _%_, _≤_, _<_};
-ghost use lib.Dec.{eqb};
-ghost use lib.ListN.{length, getD};
+ghost use Prim.Native.Nat.{ℕ, _+_, _*_, _≤_, _<_};
+ghost use lib.ListN.{length, getD, set};
 ghost use Rattle.rows.specs.Lowest.{lowest};
-ghost use Rattle.rows.specs.Row.{has, rowAt};
-ghost use Rattle.store.specs.Store.{upd, Cell, full, merge};
-ghost use Rattle.store.specs.Rules.{reached, afterPut, afterGet, afterDelivery};
-ghost use Rattle.calls.specs.Mirror.{cellOf, eventOf, siteOf, lackedBySome};
+ghost use Rattle.rows.specs.Row.{insert, orRow, rowAt, RowPut};
+ghost use Rattle.record.specs.Layout.{mostEvents, rowWords, workWords};
+ghost use Rattle.store.specs.Rules.{reached};
+ghost use Rattle.calls.specs.Mirror.{OneMore, Raised};
+ghost use Rattle.calls.specs.Lent.{clocksAt, cellsLength, knownLength, countsLength, keptIn, lackedBySome};
+
+// Row i of eight counts.
+pub fn eight(counts: &[u16], i: usize) -> [u16; 8]
+    requires { ⌜ i * 8 + 8 ≤ length (now counts) ⌝ }
+    ensures { λ r. ⌜ r ≡ rowAt (now (counts .entry)) 8 i ⌝ }
+{
+    let at = i * 8;
+    let mut row = [0u16; 8];
+    for j in 0..8 {
+        row[j] = counts[at + j];
+    }
+    row
+}
+
+pub fn put_eight(counts: &mut [u16], i: usize, row: [u16; 8])
+    requires { ⌜ i * 8 + 8 ≤ length (now counts) ⌝ }
+    ensures { λ _. ⌜ RowPut 8 i row (now (counts .entry)) (now (counts .exit)) ⌝ }
+{
+    let at = i * 8;
+    for j in 0..8 {
+        counts[at + j] = row[j];
+    }
+}
+
+pub fn site_at(cells: &[u64], counts: &[u16], s: usize) -> Kept
+    requires { ⌜ (length (now cells) ≡ cellsLength) × (length (now counts) ≡ countsLength) × (s < 8) ⌝ }
+    ensures { λ r. ⌜ r ≡ keptIn (now (cells .entry)) (now (counts .entry)) s ⌝ }
+{
+    let row = eight(counts, s);
+    Kept {
+        clock: cells[lent::CLOCKS + s],
+        counts: row,
+    }
+}
+
+pub fn keep(cells: &mut [u64], counts: &mut [u16], s: usize, a: Kept)
+    requires { ⌜ (length (now cells) ≡ cellsLength) × (length (now counts) ≡ countsLength) × (s < 8) ⌝ }
+    ensures { λ _. ⌜ now (cells .exit) ≡ set (now (cells .entry)) (clocksAt + s) (a .clock) ⌝ }
+    ensures { λ _. ⌜ RowPut 8 s (a .counts) (now (counts .entry)) (now (counts .exit)) ⌝ }
+{
+    cells[lent::CLOCKS + s] = a.clock;
+    let row = a.counts;
+    put_eight(counts, s, row);
+}
 
 // Whether the counts reach a put's needs, for every site. All eight are compared, which is quicker than to stop at one.
 pub fn reaches(counts: [u16; 8], needs: [u16; 8]) -> bool
@@ -26,113 +69,70 @@ pub fn reaches(counts: [u16; 8], needs: [u16; 8]) -> bool
     all
 }
 
-// Every count is written, not one of them, so that all eight are kept as one.
-fn with_held(counts: [u16; 8], j: usize) -> [u16; 8]
+// Every count is written, not one of them, so that all eight are kept as one; j is as wide as a count, so that they are compared as one too.
+fn with_held(counts: [u16; 8], j: u16) -> [u16; 8]
     requires { ⌜ j < 8 ⌝ }
-    requires { ⌜ ((i : ℕ) → getD counts i 0 ≤ 256) ⌝ }
-    ensures { λ r. ⌜ (λ (i : ℕ). getD r i 0) ≡ upd (λ (i : ℕ). getD counts i 0) j (suc (getD counts j 0)) ⌝ }
+    requires { ⌜ ((i : ℕ) → getD counts i 0 ≤ mostEvents) ⌝ }
+    ensures { λ r. ⌜ OneMore counts r j ⌝ }
 {
     let mut all = counts;
     for i in 0..8 {
-        all[i] += (i == j) as u16;
+        all[i] += (i as u16 == j) as u16;
     }
     all
 }
 
-pub fn after_get(a: Kept) -> Kept
-    requires { ⌜ a .clock ≤ 256 ⌝ }
-    ensures { λ r. ⌜ ((known : ℕ → Bool) (cells : ℕ → Cell) (k : ℕ) → siteOf r (upd known k true) cells ≡ afterGet (siteOf a known cells) k) ⌝ }
-{
-    let counts = a.counts;
-    Kept {
-        clock: a.clock + 1,
-        counts: counts,
-    }
-}
-
-// After a put of site s; its cell is replaced.
-pub fn after_put(a: Kept, s: usize) -> Kept
+// One more held from site s, and another clock.
+pub fn raised(a: Kept, clock: u64, s: u16) -> Kept
     requires { ⌜ s < 8 ⌝ }
-    requires { ⌜ a .clock ≤ 256 ⌝ }
-    requires { ⌜ ((i : ℕ) → getD (a .counts) i 0 ≤ 256) ⌝ }
-    ensures { λ r. ⌜ ((known : ℕ → Bool) (cells : ℕ → Cell) (k o v : ℕ) → siteOf r (upd known k true) (upd cells o (full v (suc (a .clock)) s)) ≡ afterPut (siteOf a known cells) s k o v) ⌝ }
+    requires { ⌜ ((i : ℕ) → getD (a .counts) i 0 ≤ mostEvents) ⌝ }
+    ensures { λ r. ⌜ Raised a r clock s ⌝ }
 {
     let counts = a.counts;
     let held = with_held(counts, s);
-    Kept {
-        clock: a.clock + 1,
-        counts: held,
-    }
-}
-
-// After the delivery of the put e; its cell is merged.
-pub fn after_delivery(a: Kept, e: KeptEvent) -> Kept
-    requires { ⌜ e .present ≡ true ⌝ }
-    requires { ⌜ ((i : ℕ) → getD (a .counts) i 0 ≤ 256) ⌝ }
-    ensures { λ r. ⌜ ((known sees : ℕ → Bool) (cells : ℕ → Cell) (w : ℕ) → siteOf r (λ x. eqb x w || (sees x || known x)) (upd cells (e .object) (merge (cells (e .object)) (e .value) (e .order / 8) (e .order % 8))) ≡ afterDelivery (siteOf a known cells) w (eventOf e sees)) ⌝ }
-{
-    let counts = a.counts;
-    let held = with_held(counts, e.order as usize % 8);
-    let stamp = e.order / 8;
-    let mut clock = a.clock;
-    if clock < stamp {
-        clock = stamp;
-    }
     Kept {
         clock: clock,
         counts: held,
     }
 }
 
-// A cell that the put e comes to: it keeps the larger of (stamp, site).
-pub fn merged(x: KeptCell, e: KeptEvent) -> KeptCell
-    requires { ⌜ 8 ≤ e .order ⌝ }
-    ensures { λ r. ⌜ cellOf r ≡ merge (cellOf x) (e .value) (e .order / 8) (e .order % 8) ⌝ }
-{
-    if x.order < e.order {
-        return KeptCell {
-            value: e.value,
-            order: e.order,
-        };
-    }
-    x
-}
-
 // Event k at site s: it sees what the site knows, and the site knows it from now on.
 pub fn see(known: &mut [u64], s: usize, sees: &mut [u64], k: usize)
-    requires { ⌜ (length (now known) ≡ 32) × (length (now sees) ≡ 1024) × (s < 8) × (k < 256) ⌝ }
-    ensures { λ _. ⌜ (length (now (known .exit)) ≡ 32) × (length (now (sees .exit)) ≡ 1024) ⌝ }
-    ensures { λ _. ⌜ ((t : ℕ) → t < 8 → has (rowAt (now (known .exit)) 4 t) ≡ cond (eqb t s) (upd (has (rowAt (now (known .entry)) 4 s)) k true) (has (rowAt (now (known .entry)) 4 t))) ⌝ }
-    ensures { λ _. ⌜ ((e : ℕ) → rowAt (now (sees .exit)) 4 e ≡ cond (eqb e k) (rowAt (now (known .entry)) 4 s) (rowAt (now (sees .entry)) 4 e)) ⌝ }
+    requires { ⌜ (length (now known) ≡ knownLength) × (length (now sees) ≡ workWords) × (s < 8) × (k < mostEvents) ⌝ }
+    ensures { λ _. ⌜ RowPut rowWords s (insert (rowAt (now (known .entry)) rowWords s) k) (now (known .entry)) (now (known .exit)) ⌝ }
+    ensures { λ _. ⌜ RowPut rowWords k (rowAt (now (known .entry)) rowWords s) (now (sees .entry)) (now (sees .exit)) ⌝ }
 {
-    let at = 4 * k;
-    let from = 4 * s;
-    rows::copy(&mut sees[at..at + 4], &known[from..from + 4]);
-    rows::set(known, 256 * s + k);
-}
-
-// The lowest event of `puts` that some of n sites lacks, or 256.
-pub fn first_lacked(n: usize, puts: &[u64], known: &[u64]) -> usize
-    requires { ⌜ (length (now puts) ≡ 4) × (length (now known) ≡ 32) × (n ≤ 8) ⌝ }
-    ensures { λ r. ⌜ r ≡ lowest 256 (lackedBySome (now (puts .entry)) (now (known .entry)) n) ⌝ }
-{
-    let mut all = [0u64; 4];
-    rows::copy(&mut all, puts);
-    for s in 0..n {
-        let at = s * 4;
-        let end = at + 4;
-        rows::intersect(&mut all, &known[at..end]);
-    }
-    rows::lowest_difference(puts, &all)
+    let at = k * layout::ROW;
+    let from = s * layout::ROW;
+    rows::copy(
+        &mut sees[at..at + layout::ROW],
+        &known[from..from + layout::ROW],
+    );
+    rows::set(known, layout::EVENTS * s + k);
 }
 
 // The put w comes to site s, which knows it and all that it saw from now on.
 pub fn learn(known: &mut [u64], s: usize, sees: &[u64], w: usize)
-    requires { ⌜ (length (now known) ≡ 32) × (length (now sees) ≡ 1024) × (s < 8) × (w < 256) ⌝ }
-    ensures { λ _. ⌜ length (now (known .exit)) ≡ 32 ⌝ }
-    ensures { λ _. ⌜ ((t : ℕ) → t < 8 → has (rowAt (now (known .exit)) 4 t) ≡ cond (eqb t s) (λ x. eqb x w || (has (rowAt (now (sees .entry)) 4 w) x || has (rowAt (now (known .entry)) 4 s) x)) (has (rowAt (now (known .entry)) 4 t))) ⌝ }
+    requires { ⌜ (length (now known) ≡ knownLength) × (length (now sees) ≡ workWords) × (s < 8) × (w < mostEvents) ⌝ }
+    ensures { λ _. ⌜ RowPut rowWords s (insert (orRow (rowAt (now (known .entry)) rowWords s) (rowAt (now (sees .entry)) rowWords w)) w) (now (known .entry)) (now (known .exit)) ⌝ }
 {
-    let at = 4 * w;
-    rows::union_into(known, 4 * s, &sees[at..at + 4]);
-    rows::set(known, 256 * s + w);
+    let at = w * layout::ROW;
+    rows::union_into(known, s * layout::ROW, &sees[at..at + layout::ROW]);
+    rows::set(known, layout::EVENTS * s + w);
+}
+
+// The lowest put that some of n sites lacks, or the number of events that there may be.
+pub fn first_lacked(n: usize, known: &[u64]) -> usize
+    requires { ⌜ (length (now known) ≡ knownLength) × (n ≤ 8) ⌝ }
+    ensures { λ r. ⌜ r ≡ lowest mostEvents (lackedBySome (now (known .entry)) n) ⌝ }
+{
+    let from = lent::SITES * layout::ROW;
+    let puts = &known[from..from + layout::ROW];
+    let mut all = [0u64; layout::ROW];
+    rows::copy(&mut all, puts);
+    for s in 0..n {
+        let at = s * layout::ROW;
+        rows::intersect(&mut all, &known[at..at + layout::ROW]);
+    }
+    rows::lowest_difference(puts, &all)
 }

@@ -2,7 +2,7 @@
 use mathlib.Core.Path.{_≡_, refl}
 use mathlib.Core.List.{List}
 use Prim.Native.Nat.{ℕ, _≤_}
-use Rattle.record.specs.Layout.{editionOf}
+use Rattle.record.specs.Layout.{editionOf, workWords}
 use Rattle.consistency.specs.Predicates.{numbered}
 use Rattle.consistency.specs.declared.Outcome.the-variants.{AllMet}
 use Rattle.judge.specs.Judgments.{modelJudgment}
@@ -11,7 +11,7 @@ use Rattle.judge.proofs.MeansLaws.{model-exact}
 use Rattle.store.specs.Demand.{CausalRecord}
 
 -- it asks 10, 11 and 1
-pub found-causal : (words : ℕ) → 1024 ≤ words → (s : List ℕ) → CausalRecord s → modelJudgment (editionOf s) words 4 s ≡ Judged AllMet
+pub found-causal : (words : ℕ) → workWords ≤ words → (s : List ℕ) → CausalRecord s → modelJudgment (editionOf s) words 4 s ≡ Judged AllMet
 unfolding numbered
 found-causal words long s c =
     model-exact (editionOf s) words 4 s .exactly (Judged AllMet) .1

@@ -1,71 +1,99 @@
 -- The record of a run, written in place: slot after slot, and then the whole. Assumes nothing.
 use mathlib.Core.Path.{_≡_, refl, sym, ap, _∙_}
-use mathlib.Core.Bool.{true}
+use mathlib.Core.Bool.{Bool, true, false}
 use mathlib.Core.List.{List, [], _∷_, _++_}
 use Prim.Native.Nat.{ℕ, zero, suc, _+_, _*_, _≤_, _<_}
 use native.Mathlib.Omega.{arith}
 use lib.ListN.{length, getD, drop, replicate}
 use lib.Seq.{sets, ext-getD}
-use Rattle.rows.specs.Row.{rowAt}
+use borrow.Author.Tests.{lt-ltb}
+use Rattle.rows.specs.Row.{has, rowAt}
 use Rattle.rows.proofs.TableLaws.{length-row, getD-row}
-use Rattle.record.specs.Layout.{gcr2, slotAt}
-use Rattle.record.specs.Terms.{Terms}
+use Rattle.record.specs.Layout.{gcr2, rowWords, slotAt}
+use Rattle.record.specs.Terms.{isValue, valueOr0, Terms}
 use Rattle.record.specs.History.{History, under}
 use Rattle.record.specs.Encode.{slotBytes, blocksFor, headerBytes, withTerms, withSlots, sealed, SlotOf}
 use Rattle.record.specs.declared.Slot.{Slot}
 use Rattle.record.proofs.SoundLayout.{edition-sound}
 use Rattle.record.proofs.WrittenLaws.{slots-same, slots-none, slots-more, written}
-use Rattle.store.specs.Store.{Store}
-use Rattle.store.specs.Recorded.{recorded, storeRecord}
-use Rattle.rehearsal.specs.Arrays.{pastEvent, storeFrom, Bounded, rankIn, slotFor}
-use Rattle.calls.specs.declared.KeptEvent.{KeptEvent}
-use Rattle.rehearsal.proofs.EventLaws.{slot-of}
+use Rattle.store.specs.Store.{Event, Store}
+use Rattle.store.specs.Recorded.{rank, recorded, storeRecord}
+use Rattle.calls.specs.Mirror.{shownOf, wordPresent, wordValue}
+use Rattle.calls.specs.Lent.{Lent, countIn, putsIn, eventIn, storeIn}
+use Rattle.calls.proofs.LentLaws.{store-count, event-at}
+use Rattle.rehearsal.specs.Runs.{Worded, rankIn, slotFor}
 
 -- ---- slots
 
 -- the four words of a row
-pub four-words : (g : List ℕ) (k : ℕ) → 4 * k + 4 ≤ length g
-    → getD g (4 * k) 0 ∷ getD g (4 * k + 1) 0 ∷ getD g (4 * k + 2) 0 ∷ getD g (4 * k + 3) 0 ∷ [] ≡ rowAt g 4 k
-four-words g k room = ext-getD 0 _ (rowAt g 4 k) (sym (length-row g 4 k (omega arith))) word
+pub four-words : (g : List ℕ) (k : ℕ) → k * 4 + 4 ≤ length g
+    → getD g (k * 4) 0 ∷ getD g (k * 4 + 1) 0 ∷ getD g (k * 4 + 2) 0 ∷ getD g (k * 4 + 3) 0 ∷ [] ≡ rowAt g 4 k
+four-words g k room = ext-getD 0 _ (rowAt g 4 k) (sym (length-row g 4 k room)) word
   where
     at : (i p : ℕ) → i < 4 → p ≡ k * 4 + i → getD g p 0 ≡ getD (rowAt g 4 k) i 0
     at i p l place = ap (λ (q : ℕ). getD g q 0) place ∙ sym (getD-row g 4 k i l)
 
-    word : (i : ℕ) → i < 4 → getD (getD g (4 * k) 0 ∷ getD g (4 * k + 1) 0 ∷ getD g (4 * k + 2) 0 ∷ getD g (4 * k + 3) 0 ∷ []) i 0 ≡ getD (rowAt g 4 k) i 0
-    word zero l = at 0 (4 * k) l (omega arith)
-    word (suc zero) l = at 1 (4 * k + 1) l (omega arith)
-    word (suc (suc zero)) l = at 2 (4 * k + 2) l (omega arith)
-    word (suc (suc (suc zero))) l = at 3 (4 * k + 3) l (omega arith)
+    word : (i : ℕ) → i < 4 → getD (getD g (k * 4) 0 ∷ getD g (k * 4 + 1) 0 ∷ getD g (k * 4 + 2) 0 ∷ getD g (k * 4 + 3) 0 ∷ []) i 0 ≡ getD (rowAt g 4 k) i 0
+    word zero l = at 0 (k * 4) l (omega arith)
+    word (suc zero) l = at 1 (k * 4 + 1) l (omega arith)
+    word (suc (suc zero)) l = at 2 (k * 4 + 2) l (omega arith)
+    word (suc (suc (suc zero))) l = at 3 (k * 4 + 3) l (omega arith)
     word (suc (suc (suc (suc i)))) l = absurd (omega arith)
 
+value-present : (t : Bool) (v : ℕ) → isValue (shownOf t v) ≡ t
+value-present true v = refl
+value-present false v = refl
+
+-- the events of a store have the stamps and sites of their words
+pub events-worded : (t : Terms) (z : Lent) → Worded (storeIn t z .event) (countIn (z .cells)) (z .events)
+events-worded t z e l =
+    let at = event-at t z e l in
+    (omega (arith, ap (λ (x : Event). x .stamp) at, ap (λ (x : Event). x .site) at), omega (arith, ap (λ (x : Event). x .site) at))
+
+-- the slot of event k
+pub slot-of : (t : Terms) (z : Lent) (k : ℕ) → k < countIn (z .cells)
+    → SlotOf (recorded (storeIn t z)) k
+    (slotFor k (getD (z .events) k 0) (has (putsIn (z .known)) k) (rowAt (z .sees) rowWords k) (rankIn (storeIn t z .event) (countIn (z .cells)) k))
+unfolding recorded
+slot-of t z k l =
+    let at : storeIn t z .event k ≡ eventIn z k = event-at t z k l in
+    let word : ℕ = getD (z .events) k 0 in
+    record {
+      isWrite = ap (λ (x : Event). x .isPut) at;
+      site = ap (λ (x : Event). x .site) at;
+      object = ap (λ (x : Event). x .object) at;
+      isPending = refl;
+      isPresent = ap (λ (x : Event). isValue (x .shown)) at ∙ value-present (wordPresent word) (wordValue word);
+      value = ap (λ (x : Event). valueOr0 (x .shown)) at;
+      position = rw (lt-ltb k (countIn (z .cells)) l) (ap (λ (m : ℕ). rank (storeIn t z .event) m k) (store-count t z));
+      start = refl;
+      return = refl;
+      sees = λ b m. ap (λ (x : Event). x .sees b) at;
+    }
+
 -- the first k slots are written
-pub record Slotted (count : ℕ) (events : List KeptEvent) (sees rec₀ rec : List ℕ) (k : ℕ) : Type 0 where
-  pub within : k ≤ count
+pub record Slotted (st : Store) (rec₀ rec : List ℕ) (k : ℕ) : Type 0 where
   pub long : length rec ≡ length rec₀
-  pub written : rec ≡ withSlots gcr2 (recorded (storeFrom count events sees)) k rec₀
+  pub written : rec ≡ withSlots gcr2 (recorded st) k rec₀
 
-module _ (count : ℕ) (events : List KeptEvent) (sees rec₀ : List ℕ) where
-  abbrev st : Store
-  st = storeFrom count events sees
+pub slotted-none : (st : Store) (rec₀ : List ℕ) → Slotted st rec₀ rec₀ 0
+slotted-none st rec₀ = record { long = refl; written = slots-none gcr2 (recorded st) rec₀ }
 
-  pub slotted-none : Slotted count events sees rec₀ rec₀ 0
-  slotted-none = record { within = omega arith; long = refl; written = slots-none gcr2 (recorded st) rec₀ }
-
-  pub slotted-more : Bounded count events → (k : ℕ) → k < count → (position : ℕ) → position ≡ rankIn st k → (row : List ℕ) → row ≡ rowAt sees 4 k
-      → (x : Slot) → x ≡ slotFor k (getD events k pastEvent) row position
-      → (rec rec′ : List ℕ) → Slotted count events sees rec₀ rec k → length rec′ ≡ length rec
-      → (at : ℕ) → at ≡ slotAt gcr2 k → ((h : History) (e : ℕ) → SlotOf h e x → rec′ ≡ sets rec at (slotBytes gcr2 h e))
-      → Slotted count events sees rec₀ rec′ (k + 1)
-  slotted-more small k next position placed row seen x slot rec rec′ s long at here put =
-      let right : SlotOf (recorded st) k x = rw (slot, placed, seen) (slot-of count events sees k next (small .object k next)) in record {
-        within = omega arith;
-        long = long ∙ s .long;
-        written = slots-more gcr2 (recorded st) rec₀ rec rec′ k (s .written) (put (recorded st) k right ∙ ap (λ (p : ℕ). sets rec p (slotBytes gcr2 (recorded st) k)) here);
-      }
+pub slotted-more : (t : Terms) (z : Lent) (rec₀ rec rec′ : List ℕ) (k : ℕ) → k < countIn (z .cells) → Slotted (storeIn t z) rec₀ rec k
+    → (position : ℕ) → position ≡ rankIn (storeIn t z .event) (countIn (z .cells)) k → (put : Bool) → put ≡ has (putsIn (z .known)) k
+    → (row : List ℕ) → row ≡ rowAt (z .sees) rowWords k → (x : Slot) → x ≡ slotFor k (getD (z .events) k 0) put row position → length rec′ ≡ length rec
+    → (at : ℕ) → at ≡ slotAt gcr2 k → ((h : History) (e : ℕ) → SlotOf h e x → rec′ ≡ sets rec at (slotBytes gcr2 h e))
+    → Slotted (storeIn t z) rec₀ rec′ (k + 1)
+slotted-more t z rec₀ rec rec′ k next s position placed put told row seen x slot long at here wrote =
+    let st : Store = storeIn t z in
+    let right : SlotOf (recorded st) k x = rw (slot, placed, told, seen) (slot-of t z k next) in record {
+      long = long ∙ s .long;
+      written = slots-more gcr2 (recorded st) rec₀ rec rec′ k (s .written) (wrote (recorded st) k right ∙ ap (λ (p : ℕ). sets rec p (slotBytes gcr2 (recorded st) k)) here);
+    }
 
 -- ---- the whole: slots tell no terms, so those of the events alone are the record's
 
-pub image-written : (n : ℕ) (t : Terms) (st : Store) (k : ℕ) (buffer s₁ s₂ s₃ s₄ s₅ : List ℕ) → k ≡ blocksFor gcr2 (st .count)
+image-written : (n : ℕ) (t : Terms) (st : Store) (k : ℕ) (buffer s₁ s₂ s₃ s₄ s₅ : List ℕ) → k ≡ blocksFor gcr2 (st .count)
     → s₁ ≡ replicate (512 * k) 0 ++ drop (512 * k) buffer → s₂ ≡ sets s₁ 0 (headerBytes gcr2 (st .count) n) → s₃ ≡ withTerms gcr2 t s₂
     → s₄ ≡ withSlots gcr2 (recorded st) (st .count) s₃ → s₅ ≡ sealed k s₄
     → s₅ ≡ storeRecord gcr2 n t st ++ drop (512 * blocksFor gcr2 (st .count)) buffer
@@ -73,3 +101,11 @@ unfolding storeRecord recorded slotBytes
 image-written n t st k buffer s₁ s₂ s₃ s₄ s₅ e₀ e₁ e₂ e₃ e₄ e₅ =
     written gcr2 (edition-sound true) (under t (recorded st)) n k buffer s₁ s₂ s₃ s₄ s₅ e₀ e₁ e₂ e₃
     (e₄ ∙ slots-same gcr2 (recorded st) (under t (recorded st)) (st .count) (λ e l. refl) s₃) e₅
+
+-- where the store is kept in slices
+pub record-written : (n : ℕ) (terms t : Terms) (z : Lent) (k : ℕ) (buffer s₁ s₂ s₃ s₄ s₅ : List ℕ) → k ≡ blocksFor gcr2 (countIn (z .cells))
+    → s₁ ≡ replicate (512 * k) 0 ++ drop (512 * k) buffer → s₂ ≡ sets s₁ 0 (headerBytes gcr2 (countIn (z .cells)) n) → s₃ ≡ withTerms gcr2 terms s₂
+    → s₄ ≡ withSlots gcr2 (recorded (storeIn t z)) (countIn (z .cells)) s₃ → s₅ ≡ sealed k s₄
+    → s₅ ≡ storeRecord gcr2 n terms (storeIn t z) ++ drop (512 * blocksFor gcr2 (countIn (z .cells))) buffer
+unfolding storeIn
+record-written n terms t z = image-written n terms (storeIn t z)

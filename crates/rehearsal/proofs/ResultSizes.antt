@@ -2,13 +2,13 @@
 use mathlib.Core.Path.{_≡_, refl, ap}
 use mathlib.Core.Bool.{Bool, true, false, cond, _&&_}
 use mathlib.Core.List.{List, _++_}
-use Prim.Native.Nat.{ℕ, _-_, _%_, _≤_}
+use Prim.Native.Nat.{ℕ, _-_, _*_, _%_, _≤_}
 use native.Mathlib.Nat.{mul-le-mul}
 use native.Mathlib.Omega.{arith}
 use lib.Dec.{eqb, leb}
 use lib.ListN.{length, drop, length-append}
 use borrow.Author.Tests.{eqb-true}
-use Rattle.record.specs.Layout.{gcr2}
+use Rattle.record.specs.Layout.{gcr2, mostEvents, longestRecord}
 use Rattle.record.specs.Terms.{openingsRight}
 use Rattle.record.specs.History.{under}
 use Rattle.record.proofs.SoundLayout.{edition-sound}
@@ -35,10 +35,14 @@ cond-most : (t : Bool) (x m : ℕ) → (t ≡ true → x ≤ m) → cond t x 0 �
 cond-most true x m h = h refl
 cond-most false x m h = omega arith
 
+-- every put lacks at the seven other sites
+abbrev pub mostCopies : ℕ
+mostCopies = mostEvents * 7
+
 pub record SmallResult (r : Rehearsed) : Type 0 where
   pub number : r .number ≤ 40
-  pub length : r .length ≤ 19456
-  pub outstanding : r .outstanding ≤ 1792
+  pub length : r .length ≤ longestRecord
+  pub outstanding : r .outstanding ≤ mostCopies
 
 module _ (n : ℕ) (openings script rec ans : List ℕ) where
   abbrev passed : Bool
@@ -49,24 +53,24 @@ module _ (n : ℕ) (openings script rec ans : List ℕ) where
   refusal-most =
       ask-most (leb 1 n && leb n 8) 20 _ 40 (omega arith)
       (ask-most (eqb (length script % 8) 0 && leb (length script) 32768) 21 _ 40 (omega arith)
-      (ask-most (leb 19456 (length rec)) 22 _ 40 (omega arith)
+      (ask-most (leb longestRecord (length rec)) 22 _ 40 (omega arith)
       (ask-most (leb (length script) (length ans)) 23 _ 40 (omega arith)
       (ask-most (eqb (length openings) 132 && openingsRight openings 0) 40 0 40 (omega arith) (omega arith)))))
 
-  record-most : length (recordOf n openings script) ≤ 19456
+  record-most : length (recordOf n openings script) ≤ longestRecord
   unfolding recordOf storeRecord recorded
   record-most = omega (arith, length-record gcr2 (edition-sound true) (under (termsOf openings) (recorded (storeAfter n openings script))) n, store-few n openings script)
 
-  length-most : lengthAfter n openings script rec ans ≤ 19456
+  length-most : lengthAfter n openings script rec ans ≤ longestRecord
   unfolding lengthAfter
-  length-most = cond-most passed (length (recordOf n openings script)) 19456 (λ t. record-most)
+  length-most = cond-most passed (length (recordOf n openings script)) longestRecord (λ t. record-most)
 
-  copies-most : outstandingAfter n openings script rec ans ≤ 1792
+  copies-most : outstandingAfter n openings script rec ans ≤ mostCopies
   unfolding outstandingAfter storeAfter
   copies-most =
       let st : Store = run n (fresh (termsOf openings)) (callsOf script) in
-      let few : puts st ≤ 256 = omega (arith, puts-most st, every-limits n (termsOf openings) (callsOf script) .count) in
-      cond-most passed (outstanding n st) 1792
+      let few : puts st ≤ mostEvents = omega (arith, puts-most st, every-limits n (termsOf openings) (callsOf script) .count) in
+      cond-most passed (outstanding n st) mostCopies
       (λ t.
       let n≤8 : n ≤ 8 = accepted n openings script rec ans (eqb-true (rehearsalRefusal n openings script rec ans) 0 t) .most in
       let sites : n - 1 ≤ 7 = omega arith in

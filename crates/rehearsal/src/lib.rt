@@ -7,24 +7,16 @@ pub mod refuse;
 pub mod run;
 pub mod slots;
 
-use calls::KeptEvent;
+use calls::lent;
+use record::layout;
 use store::Rehearsed;
 ghost use mathlib.Core.Path.{_≡_};
-ghost use Rattle.record.specs.Layout.{editionOf};
+ghost use Rattle.record.specs.Layout.{editionOf, workWords};
 ghost use Rattle.consistency.specs.declared.Outcome.the-variants.{AllMet};
 ghost use Rattle.judge.specs.Judgments.{modelJudgment};
 ghost use Rattle.judge.specs.declared.Judgment.the-variants.{Judged};
 ghost use Rattle.store.specs.Rehearsal.{rehearsalRefusal, recordOf};
 ghost use Rattle.store.specs.Demand.{Rehearses};
-
-// What a script came to: the events done, what each sees, which of them are puts, and what each site knows.
-pub struct Ran {
-    pub count: usize,
-    pub events: [KeptEvent; 256],
-    pub sees: [u64; 1024],
-    pub puts: [u64; 4],
-    pub known: [u64; 32],
-}
 
 // A rehearsal that questions 20 to 23 and 40 let pass: the whole script, and then its record.
 fn accepted(
@@ -37,14 +29,27 @@ fn accepted(
     requires { ⌜ rehearsalRefusal sites (now openings) (now script) (now rec) (now answers) ≡ 0 ⌝ }
     ensures { λ r. ⌜ Rehearses sites (now (openings .entry)) (now (script .entry)) (now (rec .entry)) (now (answers .entry)) (now (rec .exit)) (now (answers .exit)) r ⌝ }
 {
-    let ran = run::run(sites, openings, script, answers);
-    let length = image::write(sites as u8, openings, ran, rec);
-    let puts = ran.puts;
-    let known = ran.known;
+    let mut known = [0u64; lent::KNOWN];
+    let mut sees = [0u64; layout::WORK];
+    let mut cells = [0u64; lent::CELLS];
+    let mut events = [0u64; layout::EVENTS];
+    let mut counts = [0u16; lent::COUNTS];
+    run::open_cells(openings, &mut cells);
+    run::run(
+        sites,
+        script,
+        answers,
+        &mut known,
+        &mut sees,
+        &mut cells,
+        &mut events,
+        &mut counts,
+    );
+    let length = image::write(sites as u8, openings, &known, &sees, &cells, &events, rec);
     Rehearsed {
         number: 0,
         length: length,
-        outstanding: copies::outstanding(sites, &puts, &known),
+        outstanding: copies::outstanding(sites, &known),
     }
 }
 
@@ -58,7 +63,7 @@ pub fn rehearse(
     answers: &mut [u8],
 ) -> Rehearsed
     ensures { λ r. ⌜ Rehearses sites (now (openings .entry)) (now (script .entry)) (now (rec .entry)) (now (answers .entry)) (now (rec .exit)) (now (answers .exit)) r ⌝ }
-    ensures { λ r. ⌜ (r .number ≡ 0 → modelJudgment (editionOf (recordOf sites (now (openings .entry)) (now (script .entry)))) 1024 4 (recordOf sites (now (openings .entry)) (now (script .entry))) ≡ Judged AllMet) ⌝ }
+    ensures { λ r. ⌜ (r .number ≡ 0 → modelJudgment (editionOf (recordOf sites (now (openings .entry)) (now (script .entry)))) workWords 4 (recordOf sites (now (openings .entry)) (now (script .entry))) ≡ Judged AllMet) ⌝ }
 {
     let number = refuse::rehearsal_refused(sites, openings, script.len(), rec.len(), answers.len());
     if number != 0 {

@@ -1,4 +1,5 @@
 // What refuses a rehearsal: questions 20 to 23 and 40, in that order.
+use record::layout;
 use record::openings;
 ghost use mathlib.Core.Path.{_≡_};
 ghost use mathlib.Core.List.{List};
@@ -28,7 +29,7 @@ pub fn rehearsal_refused(
     if 32768 < script {
         return 21;
     }
-    if rec < 19456 {
+    if rec < layout::LONGEST {
         return 22;
     }
     if answers < script {

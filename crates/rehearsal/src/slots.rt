@@ -1,25 +1,28 @@
 // What the record says of an event.
-use calls::KeptEvent;
+use calls::lent;
 use record::Slot;
+use record::layout;
 ghost use mathlib.Core.Path.{_≡_};
 ghost use Prim.Native.Nat.{_<_};
-ghost use Rattle.rehearsal.specs.Arrays.{slotFor};
+ghost use Rattle.record.specs.Layout.{mostEvents};
+ghost use Rattle.rehearsal.specs.Runs.{slotFor};
 
-// Event k, kept as e, which sees the events of a row, at its position in ar. It starts at 2 × k and returns at 2 × k + 1; none is pending.
-pub fn slot(k: usize, e: KeptEvent, sees: [u64; 4], position: u16) -> Slot
-    requires { ⌜ k < 256 ⌝ }
-    ensures { λ r. ⌜ r ≡ slotFor k e sees position ⌝ }
+// Event k, with its word, a put or not, which sees the events of a row, at its position in ar. It starts at 2 × k and returns at 2 × k + 1; none is pending.
+pub fn slot(k: usize, word: u64, put: bool, sees: [u64; layout::SET], position: u16) -> Slot
+    requires { ⌜ k < mostEvents ⌝ }
+    ensures { λ r. ⌜ r ≡ slotFor k word put sees position ⌝ }
 {
+    let present = lent::present(word);
     let mut value: u32 = 0;
-    if e.present {
-        value = e.value;
+    if present {
+        value = lent::value(word);
     }
     Slot {
-        write: e.put,
-        site: (e.order % 8) as u8,
-        object: (e.object % 256) as u8,
+        write: put,
+        site: lent::site(word) as u8,
+        object: lent::object(word),
         pending: false,
-        present: e.present,
+        present: present,
         value: value,
         position: position,
         start: 2 * k as u64,

@@ -99,7 +99,7 @@ module _ (n : ℕ) (n≤8 : n ≤ 8) {T : Terms} (st₀ st : Store) (ok : StoreI
       rw (put, new, met)
 
   -- w is the lowest put that site t lacks: it is not refused
-  closing-doable : (w : ℕ) → w < st .count → lacks st t w ≡ true
+  pub closing-doable : (w : ℕ) → w < st .count → lacks st t w ≡ true
       → ((e : ℕ) → e < w → lacks st t e ≡ false) → refusal n st (deliver w t) ≡ 0
   closing-doable w below lacked none = eqb-true (refusal n st (deliver w t)) 0 (copy-due n st w t below l ∙ closing-due w below lacked none)
 

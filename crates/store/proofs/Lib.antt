@@ -12,6 +12,7 @@ pub mod RankLaws
 pub mod SameRecord
 pub mod Sizes
 pub mod StoreIsCausal
+pub mod OtherPut
 pub mod CellsAgree
 pub mod WholeList
 pub mod EveryClose

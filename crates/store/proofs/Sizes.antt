@@ -56,6 +56,26 @@ run-limits n st (c ∷ cs) h = run-limits n (afterCall n st c) cs (step-elim n s
 pub every-limits : (n : ℕ) (T : Terms) (cs : List Call) → Limits (run n (fresh T) cs)
 every-limits n T cs = run-limits n (fresh T) cs (record { count = omega arith; object = λ e l. absurd (omega arith) })
 
+-- a stamp is a clock raised by 1
+abbrev Stamped : Store → Type 0
+Stamped st = (e : ℕ) → e < st .count → 1 ≤ st .event e .stamp
+
+effect-stamped : (n : ℕ) (st : Store) → Stamped st → (c : Call) → Stamped (effect n st c)
+unfolding effect
+effect-stamped n st h (put s o v) = one-more (λ (x : Event). 1 ≤ x .stamp) st (made st s true o (value v)) h (omega arith)
+effect-stamped n st h (get s o) = one-more (λ (x : Event). 1 ≤ x .stamp) st (made st s false o (cellValue (st .site s .cell o))) h (omega arith)
+effect-stamped n st h (deliver w t) = h
+effect-stamped n st h close = copies-keep n Stamped (λ x w t r k. k) (closeCopies n st) st h
+effect-stamped n st h malformed = h
+
+run-stamped : (n : ℕ) (st : Store) (cs : List Call) → Stamped st → Stamped (run n st cs)
+unfolding run
+run-stamped n st [] h = h
+run-stamped n st (c ∷ cs) h = run-stamped n (afterCall n st c) cs (step-elim n st c Stamped (λ r. effect-stamped n st h c) h)
+
+pub every-stamped : (n : ℕ) (T : Terms) (cs : List Call) → (e : ℕ) → e < run n (fresh T) cs .count → 1 ≤ run n (fresh T) cs .event e .stamp
+every-stamped n T cs = run-stamped n (fresh T) cs (λ e l. absurd (omega arith))
+
 -- ---- numbers that count events
 
 abbrev pub cellStamp : Cell → ℕ

@@ -1,9 +1,12 @@
--- `rehearsal::accepted` meets its contract: the answers of the run, and the record of the store that the run stands for. Assumes nothing.
-use mathlib.Core.Path.{sym}
+-- `rehearsal::accepted` meets its contract: the answers of the run, and the record of the store that its slices stand for. Assumes nothing.
+use mathlib.Core.Path.{refl}
 use native.Mathlib.Omega.{arith}
+use Rattle.store.specs.Rehearsal.{termsOf}
+use Rattle.calls.specs.Lent.{Lent, lent}
+use Rattle.rehearsal.specs.Runs.{Fresh, Ran}
+use Rattle.rehearsal.proofs.RunLaws.{freshSlices, opened-fresh}
+use Rattle.rehearsal.proofs.RehearsalLaws.{Accepted, accepted, ran-recordable, accepted-rehearses}
 use borrow.Author.Needs.{needs}
-use Rattle.rehearsal.specs.Arrays.{ranStore, Bounded, DistinctStamps}
-use Rattle.rehearsal.proofs.RehearsalLaws.{Accepted, accepted, run-bounded, run-distinct, accepted-rehearses}
 use Rattle.rehearsal.proofs.accepted.Statement.{statement}
 use Rattle.rehearsal.proofs.accepted.Tie as tie
 
@@ -11,39 +14,70 @@ use Rattle.rehearsal.proofs.accepted.Tie as tie
 right : (c : tie.Start) → let g = c .args in Accepted (g .sites) (g .openings .now) (g .script .now) (g .rec .now) (g .answers .now)
 right c = let g = c .args in accepted (g .sites) (g .openings .now) (g .script .now) (g .rec .now) (g .answers .now) (c .pre)
 
-abbrev entry : tie.After-run → tie.Start
-entry c = c .before .before .before .before .before .before
+-- fresh sites with the openings
+begun : (c : tie.After-open-cells) → Fresh (termsOf (c .before .before .before .before .before .before .args .openings .now)) (freshSlices (c .open-cells .last .1 .0))
+begun c = opened-fresh (termsOf (c .before .before .before .before .before .before .args .openings .now)) (c .open-cells .last .1 .0) (c .open-cells .ensures)
 
-small : (c : tie.After-run) → Bounded (c .run .result .count) (c .run .result .events)
-small c = let g = entry c .args in run-bounded (g .sites) (right (entry c) .most) (g .openings .now) (g .script .now) (c .run .result) (c .run .ensures .1)
+-- the slices after the script
+abbrev slices : tie.After-run → Lent
+slices c = let l = c .run .last .1 .1 .1 in lent (l .0) (l .1 .0) (l .1 .1 .0) (l .1 .1 .1 .0) (l .1 .1 .1 .1 .0)
 
-distinct : (c : tie.After-run) → DistinctStamps (ranStore (c .run .result))
-distinct c = let g = entry c .args in run-distinct (g .sites) (right (entry c) .most) (g .openings .now) (g .script .now) (c .run .result) (c .run .ensures .1)
+ran : (c : tie.After-run) → let g = c .before .before .before .before .before .before .before .before .before .before .before .before .before .before .args in Ran (g .sites) (termsOf (g .openings .now)) (g .script .now) (g .answers .now) (c .run .last .1 .1 .0) (slices c)
+ran c = c .run .ensures (termsOf (c .before .before .before .before .before .before .before .before .before .before .before .before .before .before .args .openings .now)) (begun (c .before .before .before .before .before .before .before .before))
+
+slice-aggregate-open-cells : tie.Need-slice-aggregate-open-cells
+slice-aggregate-open-cells c = search needs
+
+open-cells-requires : tie.Need-open-cells-requires
+open-cells-requires c κs = (right (c .before .before .before .before .before) .opened, refl)
+
+slice-aggregate-run : tie.Need-slice-aggregate-run
+slice-aggregate-run c = search needs
+
+slice-aggregate-run-2 : tie.Need-slice-aggregate-run-2
+slice-aggregate-run-2 c = search needs
+
+slice-aggregate-run-3 : tie.Need-slice-aggregate-run-3
+slice-aggregate-run-3 c = search needs
+
+slice-aggregate-run-4 : tie.Need-slice-aggregate-run-4
+slice-aggregate-run-4 c = search needs
+
+slice-aggregate-run-5 : tie.Need-slice-aggregate-run-5
+slice-aggregate-run-5 c = search needs
 
 run-requires : tie.Need-run-requires
 run-requires c κs =
-    let a = right (c .before .before .before .before .before) in
-    (a .most, (a .opened, (a .whole, (a .short, a .answered))))
+    let a = right (c .before .before .before .before .before .before .before .before .before .before .before .before .before) in
+    ((a .most, a .whole, a .short, a .answered), record { terms = termsOf (c .before .before .before .before .before .before .before .before .before .before .before .before .before .args .openings .now); begins = begun (c .before .before .before .before .before .before .before) })
 
 cast-write : tie.Need-cast-write
-cast-write c = omega (arith, right (entry (c .before .before)) .most)
+cast-write c = omega (arith, right (c .before .before .before .before .before .before .before .before .before .before .before .before .before .before .before .before .before .before .before .before .before) .most)
+
+slice-aggregate-write : tie.Need-slice-aggregate-write
+slice-aggregate-write c = search needs
+
+slice-aggregate-write-2 : tie.Need-slice-aggregate-write-2
+slice-aggregate-write-2 c = search needs
+
+slice-aggregate-write-3 : tie.Need-slice-aggregate-write-3
+slice-aggregate-write-3 c = search needs
+
+slice-aggregate-write-4 : tie.Need-slice-aggregate-write-4
+slice-aggregate-write-4 c = search needs
 
 write-requires : tie.Need-write-requires
 write-requires c κs =
-    let run = c .before .before .before in
-    let a = right (entry run) in
-    ((a .opened, a .right), (small run, (distinct run, a .room)))
+    let s = c .before .before .before .before .before .before .before .before .before .before .before .before .before .before .before .before .before .before .before .before .before .before .before .before .before .before in
+    let g = s .args in
+    let a = right s in
+    ((a .opened, a .right, a .room), ran-recordable (g .sites) (a .most) (g .openings .now) (g .script .now) (g .answers .now) _ (slices (c .before .before .before .before .before .before .before .before .before .before .before .before)) (ran (c .before .before .before .before .before .before .before .before .before .before .before .before)))
 
 slice-aggregate-outstanding : tie.Need-slice-aggregate-outstanding
 slice-aggregate-outstanding c = search needs
 
-slice-aggregate-outstanding-2 : tie.Need-slice-aggregate-outstanding-2
-slice-aggregate-outstanding-2 c = search needs
-
 outstanding-requires : tie.Need-outstanding-requires
-outstanding-requires c κs =
-    let run = c .before .before .before .before .before .before .before .before .before .before in
-    (sym (slice-aggregate-outstanding (c .before)), sym (slice-aggregate-outstanding-2 c), right (entry run) .most)
+outstanding-requires c κs = (ran (c .before .before .before .before .before .before .before .before .before .before .before .before .before .before .before .before) .sized .known, right (c .before .before .before .before .before .before .before .before .before .before .before .before .before .before .before .before .before .before .before .before .before .before .before .before .before .before .before .before .before .before) .most)
 
 same-length : tie.Need-same-length
 same-length c = search needs
@@ -53,22 +87,32 @@ same-length-2 c = search needs
 
 returns : tie.Need-returns
 returns c =
-    let write = c .before .before .before .before .before .before .before in
-    let run = write .before .before .before .before in
-    let g = entry run .args in
-    accepted-rehearses (g .sites) (g .openings .now) (g .script .now) (g .rec .now) (g .answers .now) (entry run .pre)
-    (λ i. run .before .before .before .before .before .shared-slice-known .given i .fits) (λ i. run .before .before .before .before .shared-slice-known2 .given i .fits) (run .run .result) (run .run .ensures .1) _ _ _ _
-    (run .run .ensures .0) (write .write .ensures .1) (write .write .ensures .0) (c .outstanding .ensures)
+    let s = c .before .before .before .before .before .before .before .before .before .before .before .before .before .before .before .before .before .before .before .before .before .before .before .before .before .before .before .before .before .before .before in
+    let g = s .args in
+    let run = c .before .before .before .before .before .before .before .before .before .before .before .before .before .before .before .before .before in
+    accepted-rehearses (g .sites) (g .openings .now) (g .script .now) (g .rec .now) (g .answers .now) (s .pre)
+    (λ i. c .before .before .before .before .before .before .before .before .before .before .before .before .before .before .before .before .before .before .before .before .before .before .before .before .before .before .before .before .before .before .shared-slice-known .given i .fits) (λ i. c .before .before .before .before .before .before .before .before .before .before .before .before .before .before .before .before .before .before .before .before .before .before .before .before .before .before .before .before .before .shared-slice-known2 .given i .fits) _ _ (slices run) (ran run) _ _
+    (c .before .before .before .before .write .ensures .1 (termsOf (g .openings .now)) (slices run .counts)) (c .before .before .before .before .write .ensures .0) (c .outstanding .ensures)
 
 pub accepted-spec : {M : Type 1} → statement M
 accepted-spec =
     tie.close
     (tie.spec
+    slice-aggregate-open-cells
+    open-cells-requires
+    slice-aggregate-run
+    slice-aggregate-run-2
+    slice-aggregate-run-3
+    slice-aggregate-run-4
+    slice-aggregate-run-5
     run-requires
     cast-write
+    slice-aggregate-write
+    slice-aggregate-write-2
+    slice-aggregate-write-3
+    slice-aggregate-write-4
     write-requires
     slice-aggregate-outstanding
-    slice-aggregate-outstanding-2
     outstanding-requires
     same-length
     same-length-2

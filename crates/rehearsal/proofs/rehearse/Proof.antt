@@ -1,12 +1,11 @@
 -- `rehearsal::rehearse` meets its contract: the questions refuse it, and then nothing has changed, or it is accepted. Assumes nothing.
-use mathlib.Core.Path.{_≡_, refl, sym, ap, _∙_}
+use mathlib.Core.Path.{_≡_, refl, sym, _∙_}
 use borrow.Author.Needs.{needs}
 use native.Mathlib.Nat.{le-refl}
-use Rattle.record.specs.Layout.{Layout, gcr2, editionOf}
-use Rattle.judge.specs.Judgments.{modelJudgment}
+use Rattle.record.specs.Layout.{workWords}
 use Rattle.store.specs.Rehearsal.{rehearsalRefusal, recordOf}
 use Rattle.rehearsal.proofs.FoundCausal.{found-causal}
-use Rattle.rehearsal.proofs.RehearsalLaws.{record-edition, refused-rehearses}
+use Rattle.rehearsal.proofs.RehearsalLaws.{refused-rehearses}
 use Rattle.rehearsal.proofs.rehearse.Statement.{statement}
 use Rattle.rehearsal.proofs.rehearse.Tie as tie
 
@@ -51,7 +50,7 @@ returns-2 c =
     let passed = c .before .before .before .before .before .before .before in
     let g = entry (passed .before) .args in
     let rehearses = c .before .before .before .before .accepted .ensures in
-    (rehearses, λ z. found-causal 1024 (le-refl 1024) (recordOf (g .sites) (g .openings .now) (g .script .now)) (rehearses .causal z))
+    (rehearses, λ z. found-causal workWords (le-refl workWords) (recordOf (g .sites) (g .openings .now) (g .script .now)) (rehearses .causal z))
 
 pub rehearse-spec : {M : Type 1} → statement M
 rehearse-spec =

@@ -44,12 +44,10 @@ same-length c = search needs
 returns : tie.Need-returns
 returns c =
     let s = c .before .before .before .before .before .before .before .before .before .before .before in
+    let g = s .args in
     let u = c .before .before .before .before .before .before .union-into in
-    let k = c .before .before .set in (
-      omega (arith, k .kept .0, u .kept .0),
-      λ t l. learn-row (s .args .known .now) (s .args .sees .now) (s .args .s) (s .args .w) (u .last .0) (k .last .0)
-          (s .pre .0) (s .pre .1) (s .pre .2) (s .pre .3) (u .ensures) (k .ensures) t,
-    )
+    let k = c .before .before .set in
+    learn-row (g .known .now) (g .sees .now) (g .s) (g .w) (u .last .0) (k .last .0) (omega (arith, s .pre .0, s .pre .2)) (omega (arith, s .pre .1, s .pre .3)) (s .pre .3) (u .ensures) (k .ensures)
 
 pub learn-spec : {M : Type 1} → statement M
 learn-spec =

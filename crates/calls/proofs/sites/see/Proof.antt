@@ -1,10 +1,8 @@
 -- `calls::sites::see` meets its contract: a row is copied, and a bit of another is set. Assumes nothing.
-use mathlib.Core.List.{List}
-use mathlib.Core.Path.{refl, ap, _∙_}
-use Prim.Native.Nat.{ℕ}
 use native.Mathlib.Omega.{arith}
-use Rattle.rows.specs.Row.{has, rowAt}
-use Rattle.calls.proofs.KeptLaws.{see-row, know-row}
+use Rattle.rows.proofs.SliceLaws.{row-put}
+use Rattle.record.specs.Layout.{rowWords}
+use Rattle.calls.proofs.KeptLaws.{know-row}
 use borrow.Author.Needs.{needs}
 use Rattle.calls.proofs.sites.see.Statement.{statement}
 use Rattle.calls.proofs.sites.see.Tie as tie
@@ -66,14 +64,10 @@ same-length-2 c = search needs
 returns : tie.Need-returns
 returns c =
     let s = c .before .before .before .before .before .before .before .before .before .before .before .before in
-    let k = c .before .before .set in
-    let seen = see-row (s .args .known .now) (s .args .sees .now) (s .args .s) (s .args .k) (c .before .before .before .before .before .before .copy .last .0) _
-    (s .pre .0) (s .pre .1) (s .pre .2) (s .pre .3) (c .before .before .before .before .before .before .copy .ensures) refl in (
-      (omega (arith, k .kept .0), seen .0),
-      (
-        λ t l. ap (λ (r : List ℕ). has (rowAt r 4 t)) (k .ensures) ∙ know-row (s .args .known .now) (s .args .s) (s .pre .0) (s .pre .2) (s .args .k) (s .pre .3) t,
-        seen .1,
-      ),
+    let g = s .args in
+    let known = g .known .now in (
+      rw (c .before .before .set .ensures) (know-row known (g .s) (g .k) (s .pre .3)),
+      row-put rowWords (g .k) (g .sees .now) known (g .s) _ (omega (arith, s .pre .1, s .pre .3)) (omega (arith, s .pre .0, s .pre .2)) (c .before .before .before .before .before .before .copy .ensures),
     )
 
 pub see-spec : {M : Type 1} → statement M

@@ -1,8 +1,8 @@
 -- `calls::sites::with_held` meets its contract: the loop has raised the counts passed, one of them by one. Assumes nothing.
+use borrow.Author.Needs.{needs}
 use mathlib.Core.Path.{_≡_}
 use Prim.Native.Nat.{_-_, _≤_}
 use native.Mathlib.Omega.{arith}
-use borrow.Author.Needs.{needs}
 use Rattle.rows.proofs.StoredLaws.{Stored, stored-none, stored-more}
 use Rattle.calls.proofs.KeptLaws.{raised, raised-at, raised-small, raised-all}
 use Rattle.calls.proofs.sites.with_held.Statement.{statement}
@@ -18,7 +18,10 @@ loop-holds : tie.Need-loop-holds Inv-loop μ-loop
 loop-holds c = (omega arith, stored-none (raised (c .args .counts) (c .args .j)) (c .args .counts))
 
 cast-all : tie.Need-cast-all Inv-loop μ-loop
-cast-all c = search needs
+cast-all c = omega arith
+
+cast-all-2 : tie.Need-cast-all-2 Inv-loop μ-loop
+cast-all-2 c = search needs
 
 mul-all : tie.Need-mul-all Inv-loop μ-loop
 mul-all c = omega arith
@@ -60,6 +63,7 @@ with-held-spec =
     μ-loop
     loop-holds
     cast-all
+    cast-all-2
     mul-all
     array-read-all
     add-all

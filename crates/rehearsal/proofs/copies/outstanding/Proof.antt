@@ -1,43 +1,61 @@
 -- `rehearsal::copies::outstanding` meets its contract: the loop has counted what the sites passed lack. Assumes nothing.
+use borrow.Author.Needs.{needs}
 use mathlib.Core.Path.{_≡_, sym, ap, _∙_}
 use mathlib.Core.List.{List}
 use Prim.Native.Nat.{ℕ, _*_, _-_, _≤_}
 use native.Mathlib.Numerals.{add-one}
 use native.Mathlib.Omega.{arith}
-use borrow.Author.Needs.{needs}
 use Rattle.rows.specs.Count.{sum, howMany}
 use Rattle.rows.specs.Row.{onlyFirst, rowAt}
 use Rattle.rows.proofs.CountLaws.{sum-none, sum-more, many-most}
 use Rattle.rows.proofs.SliceLaws.{sliceAt, length-slice, slice-row}
+use Rattle.rows.proofs.TableLaws.{length-row}
+use Rattle.record.specs.Layout.{mostEvents, rowWords}
+use Rattle.calls.specs.Lent.{putsIn}
 use Rattle.rehearsal.proofs.copies.outstanding.Statement.{statement}
 use Rattle.rehearsal.proofs.copies.outstanding.Tie as tie
 
 -- how many puts site s lacks
-abbrev lacked : List ℕ → List ℕ → ℕ → ℕ
-lacked puts known s = howMany 256 (onlyFirst puts (rowAt known 4 s))
+abbrev lacked : List ℕ → ℕ → ℕ
+lacked known s = howMany mostEvents (onlyFirst (putsIn known) (rowAt known rowWords s))
 
 abbrev Inv-loop : tie.InvT-loop
-Inv-loop n puts known all₀ s₀ all s = (s ≤ n) × ((all ≤ s * 256) × (all ≡ sum s (lacked puts known)))
+Inv-loop n known from puts all₀ s₀ all s = (s ≤ n) × ((all ≤ s * mostEvents) × (all ≡ sum s (lacked known)))
 
 abbrev μ-loop : tie.MeasureT-loop
-μ-loop n puts known all₀ s₀ all s = n - s
+μ-loop n known from puts all₀ s₀ all s = n - s
 
 -- what one site more lacks
-there : (c : tie.After-count-difference Inv-loop μ-loop)
-    → let g = c .before .before .before .before .before .before .args in
-    c .count-difference .result ≡ lacked (g .puts .now) (g .known .now) (c .before .before .before .loop .s)
+there : (c : tie.After-count-difference Inv-loop μ-loop) → c .count-difference .result ≡ lacked (c .before .before .before .before .before .before .args .known .now) (c .before .before .before .loop .s)
 there c =
-    let start = c .before .before .before .before .before .before in
-    let g = start .args in
+    let known = c .before .before .before .before .before .before .args .known .now in
     let s = c .before .before .before .loop .s in
     c .count-difference .ensures
-    ∙ ap (λ (k : ℕ). howMany (64 * k) (onlyFirst (g .puts .now) (sliceAt (g .known .now) 4 s))) (start .pre .0)
-    ∙ ap (λ (row : List ℕ). howMany 256 (onlyFirst (g .puts .now) row)) (slice-row (g .known .now) 4 s)
+    ∙ ap (λ (k : ℕ). howMany (64 * k) (onlyFirst (putsIn known) (sliceAt known rowWords s))) (length-row known rowWords 8 (omega arith))
+    ∙ ap (λ (row : List ℕ). howMany mostEvents (onlyFirst (putsIn known) row)) (slice-row known rowWords s)
 
-few : (c : tie.After-count-difference Inv-loop μ-loop) → c .count-difference .result ≤ 256
+few : (c : tie.After-count-difference Inv-loop μ-loop) → c .count-difference .result ≤ mostEvents
 few c =
-    let g = c .before .before .before .before .before .before .args in
-    omega (arith, there c, many-most 256 (onlyFirst (g .puts .now) (rowAt (g .known .now) 4 (c .before .before .before .loop .s))))
+    let known = c .before .before .before .before .before .before .args .known .now in
+    omega (arith, there c, many-most mostEvents (onlyFirst (putsIn known) (rowAt known rowWords (c .before .before .before .loop .s))))
+
+mul-from : tie.Need-mul-from Inv-loop μ-loop
+mul-from c = omega arith
+
+add-puts : tie.Need-add-puts Inv-loop μ-loop
+add-puts c = omega arith
+
+mul-puts : tie.Need-mul-puts Inv-loop μ-loop
+mul-puts c = omega arith
+
+sub-puts : tie.Need-sub-puts Inv-loop μ-loop
+sub-puts c = search needs
+
+part-puts-start : tie.Need-part-puts-start Inv-loop μ-loop
+part-puts-start c = search needs
+
+part-puts-end : tie.Need-part-puts-end Inv-loop μ-loop
+part-puts-end c = omega arith
 
 loop-holds : tie.Need-loop-holds Inv-loop μ-loop
 loop-holds c = (omega arith, (omega arith, sym (sum-none _)))
@@ -62,9 +80,9 @@ part-count-difference-end c = omega arith
 
 count-difference-requires : tie.Need-count-difference-requires Inv-loop μ-loop
 count-difference-requires c κs =
-    let start = c .before .before .before .before .before in
+    let known = c .before .before .before .before .before .args .known .now in
     let l = c .before .before .loop in
-    (omega (arith, start .pre .0), omega (arith, start .pre .0, length-slice (start .args .known .now) 4 (l .s) (omega arith)))
+    (omega (arith, length-row known rowWords 8 (omega arith)), omega (arith, length-row known rowWords 8 (omega arith), length-slice known rowWords (l .s) (omega arith)))
 
 add-all : tie.Need-add-all Inv-loop μ-loop
 add-all c = omega (arith, few c)
@@ -77,15 +95,15 @@ loop-less c = omega arith
 
 loop-again : tie.Need-loop-again Inv-loop μ-loop
 loop-again c =
-    let g = c .before .before .before .before .before .before .args in
+    let known = c .before .before .before .before .before .before .args .known .now in
     let l = c .before .before .before .loop in
-    (omega arith, (omega (arith, few c), rw add-one (omega (arith, sum-more (l .s) (lacked (g .puts .now) (g .known .now)), l .inv .1 .1, there c))))
+    (omega arith, (omega (arith, few c), rw add-one (omega (arith, sum-more (l .s) (lacked known), l .inv .1 .1, there c))))
 
 returns : tie.Need-returns Inv-loop μ-loop
 returns c =
     let g = c .before .before .before .before .args in
     let all : c .before .loop .s ≡ g .n = omega arith in
-    c .before .loop .inv .1 .1 ∙ ap (λ (k : ℕ). sum k (lacked (g .puts .now) (g .known .now))) all
+    c .before .loop .inv .1 .1 ∙ ap (λ (k : ℕ). sum k (lacked (g .known .now))) all
 
 pub outstanding-spec : {M : Type 1} → statement M
 outstanding-spec =
@@ -93,6 +111,12 @@ outstanding-spec =
     (tie.spec
     Inv-loop
     μ-loop
+    mul-from
+    add-puts
+    mul-puts
+    sub-puts
+    part-puts-start
+    part-puts-end
     loop-holds
     mul-at
     add-end

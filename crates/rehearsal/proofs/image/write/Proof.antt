@@ -1,12 +1,14 @@
 -- `rehearsal::image::write` meets its contract: zero bytes, block 0, the slots and the checks. Assumes nothing.
 use mathlib.Core.Path.{refl}
-use borrow.Author.Needs.{needs}
-use native.Mathlib.Omega.{arith}
 use Rattle.store.specs.Rehearsal.{termsOf}
-use Rattle.rehearsal.specs.Arrays.{ranStore}
-use Rattle.rehearsal.proofs.ImageLaws.{image-written}
+use Rattle.calls.specs.Lent.{lent}
+use Rattle.rehearsal.proofs.ImageLaws.{record-written}
+use borrow.Author.Needs.{needs}
 use Rattle.rehearsal.proofs.image.write.Statement.{statement}
 use Rattle.rehearsal.proofs.image.write.Tie as tie
+
+shared-slice-read-count : tie.Need-shared-slice-read-count
+shared-slice-read-count c = search needs
 
 add-blocks : tie.Need-add-blocks
 add-blocks c = search needs
@@ -27,12 +29,7 @@ terms-requires : tie.Need-terms-requires
 terms-requires c κs = search needs
 
 put-slots-requires : tie.Need-put-slots-requires
-put-slots-requires c κs =
-    let terms = c .before .before .before in
-    let header = terms .before .before .before .before in
-    let clear = header .before .before .before .before in
-    let start = clear .before .before .before .before in
-    (start .pre .1 .0, (start .pre .1 .1 .0, omega arith))
+put-slots-requires c κs = search needs
 
 seal-requires : tie.Need-seal-requires
 seal-requires c κs = search needs
@@ -45,21 +42,18 @@ same-length c = search needs
 
 returns : tie.Need-returns
 returns c =
-    let seal = c .before .before in
-    let slots = seal .before .before .before .before in
-    let terms = slots .before .before .before .before in
-    let header = terms .before .before .before .before in
-    let clear = header .before .before .before .before in
-    let g = clear .before .before .before .before .args in (
+    let g = c .before .before .before .before .before .before .before .before .before .before .before .before .before .before .before .before .before .before .before .before .before .before .before .before .before .before .before .args in (
       refl,
-      image-written (g .n) (termsOf (g .openings .now)) (ranStore (g .ran)) _ (g .rec .now) _ _ _ _ _ refl (clear .clear .ensures) (header .header .ensures)
-          (terms .terms .ensures) (slots .put-slots .ensures) (seal .seal .ensures),
+      λ t counts.
+          record-written (g .n) (termsOf (g .openings .now)) t (lent (g .known .now) (g .sees .now) (g .cells .now) (g .events .now) counts) _ (g .rec .now) _ _ _ _ _ refl (c .before .before .before .before .before .before .before .before .before .before .before .before .before .before .before .before .before .before .clear .ensures) (c .before .before .before .before .before .before .before .before .before .before .before .before .before .before .header .ensures)
+          (c .before .before .before .before .before .before .before .before .before .before .terms .ensures) (c .before .before .before .before .before .before .put-slots .ensures t counts) (c .before .before .seal .ensures),
     )
 
 pub write-spec : {M : Type 1} → statement M
 write-spec =
     tie.close
     (tie.spec
+    shared-slice-read-count
     add-blocks
     add-blocks-2
     mul-clear

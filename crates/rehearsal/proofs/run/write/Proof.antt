@@ -5,7 +5,7 @@ use native.Mathlib.Omega.{arith}
 use lib.ListN.{length, take}
 use lib.Seq.{sets, length-sets}
 use borrow.Author.Needs.{needs}
-use Rattle.rehearsal.proofs.RunLaws.{sets-more, sets-all}
+use Rattle.calls.proofs.SetsLaws.{sets-more, sets-all}
 use Rattle.rehearsal.proofs.run.write.Statement.{statement}
 use Rattle.rehearsal.proofs.run.write.Tie as tie
 
