@@ -21,6 +21,7 @@ use Rattle.store.specs.Store.{upd}
 use Rattle.store.specs.Rules.{reached}
 use Rattle.calls.specs.Mirror.{OneMore}
 use Rattle.store.proofs.UpdateLaws.{upd-elim}
+use Rattle.calls.specs.Rows.{RowChanged}
 
 -- ---- arrays
 
@@ -106,8 +107,11 @@ bit-place s w = omega arith
 pub known-row : (known : List ℕ) (s w : ℕ) → w < mostEvents → has known (mostEvents * s + w) ≡ has (rowAt known rowWords s) w
 known-row known s w h = ap (has known) (bit-place s w) ∙ sym (has-row known rowWords s w (omega arith))
 
+pub changed : {w c : ℕ} {m old new : List ℕ} → RowPut w c m old new → RowChanged w c m old new
+changed p = record { size = p .size; same = p .same; other = p .other }
+
 -- w joins row s
-pub know-row : (known : List ℕ) (s w : ℕ) → w < mostEvents → RowPut rowWords s (insert (rowAt known rowWords s) w) known (insert known (mostEvents * s + w))
+pub know-row : (known : List ℕ) (s w : ℕ) → w < mostEvents → RowChanged rowWords s (insert (rowAt known rowWords s) w) known (insert known (mostEvents * s + w))
 know-row known s w small =
     let place = bit-place s w in
     record {
@@ -119,7 +123,7 @@ know-row known s w small =
 -- so do w and what w saw
 pub learn-row : (known sees : List ℕ) (s w : ℕ) (joined after : List ℕ) → s * rowWords + rowWords ≤ length known → w * rowWords + rowWords ≤ length sees → w < mostEvents
     → joined ≡ orPart known (s * rowWords) (sliceAt sees rowWords w) → after ≡ insert joined (mostEvents * s + w)
-    → RowPut rowWords s (insert (orRow (rowAt known rowWords s) (rowAt sees rowWords w)) w) known after
+    → RowChanged rowWords s (insert (orRow (rowAt known rowWords s) (rowAt sees rowWords w)) w) known after
 learn-row known sees s w joined after room from small e f =
     let m : List ℕ = rowAt sees rowWords w in
     let wide : length m ≡ rowWords = length-row sees rowWords w from in

@@ -10,7 +10,7 @@ use lib.ListN.{length, getD, set, length-set}
 use lib.Seq.{getD-set-same, getD-set-other}
 use mir.Val.{boolByte}
 use borrow.Author.Tests.{eq-eqb, ne-eqb}
-use Rattle.rows.specs.Row.{has, insert, rowAt, RowPut}
+use Rattle.rows.specs.Row.{has, insert, rowAt}
 use Rattle.rows.proofs.RowLaws.{has-insert}
 use Rattle.rows.proofs.TableLaws.{length-row, getD-row}
 use Rattle.record.specs.Encode.{littleBytes}
@@ -27,6 +27,7 @@ use Rattle.calls.specs.Done.{Entered, Makable, Made}
 use Rattle.calls.proofs.KeptLaws.{known-more, know-row}
 use Rattle.calls.proofs.WordLaws.{word-stamp, word-site, word-object, word-shown, shown-bit, full-cell, cell-value}
 use Rattle.calls.proofs.LentLaws.{Holds, holds-now, holds-count, holds-clock, holds-cell, site-at, cell-at, event-store}
+use Rattle.calls.specs.Rows.{RowChanged}
 
 -- ---- rows that a store leaves
 
@@ -37,7 +38,7 @@ pub as-held : {l m : List ℕ} → l ≡ m → numbers l ≡ numbers m
 as-held e = ap numbers e
 
 -- a number of another row
-pub row-kept : {w c : ℕ} {m old new : List ℕ} → RowPut w c m old new → (d j i : ℕ) → j < w → i ≡ d * w + j → (d ≡ c → ⊥) → getD new i 0 ≡ getD old i 0
+pub row-kept : {w c : ℕ} {m old new : List ℕ} → RowChanged w c m old new → (d j i : ℕ) → j < w → i ≡ d * w + j → (d ≡ c → ⊥) → getD new i 0 ≡ getD old i 0
 row-kept {w} {c} {m} {old} {new} p d j i l at ne =
     ap (λ (k : ℕ). getD new k 0) at ∙ sym (getD-row new w d j l) ∙ ap (λ (r : List ℕ). getD r j 0) (p .other d ne) ∙ getD-row old w d j l
     ∙ ap (λ (k : ℕ). getD old k 0) (sym at)
@@ -205,7 +206,7 @@ module _ (z : Lent) (s o : ℕ) (m : Makable z s o) (word x : ℕ) (low : x < 2 
     -- ---- a put: its cell is replaced, and one more is held
 
     module _ (v : ℕ) (isShown : x ≡ 2 ^ 32 + v) (small : v < 2 ^ 32) (known″ counts″ : List ℕ) (a b : Kept) (isKept : a ≡ keptIn (z .cells) (z .counts) s)
-        (joins : known″ ≡ insert known′ (mostEvents * 8 + count)) (raises : Raised a b (a .clock + 1) s) (holds : RowPut 8 s (b .counts) counts′ counts″) where
+        (joins : known″ ≡ insert known′ (mostEvents * 8 + count)) (raises : Raised a b (a .clock + 1) s) (holds : RowChanged 8 s (b .counts) counts′ counts″) where
       abbrev putCells : List ℕ
       putCells = set (set (set (z .cells) (32 * s + o) word) countAt (count + 1)) (clocksAt + s) (b .clock)
 
@@ -219,7 +220,7 @@ module _ (z : Lent) (s o : ℕ) (m : Makable z s o) (word x : ℕ) (low : x < 2 
           holds-clock (set (set (z .cells) (32 * s + o) word) countAt (count + 1)) (count + 1) _ _ two s (m .site) (b .clock)
 
       -- it joins the puts
-      joined : RowPut rowWords 8 (insert (putsIn known′) count) known′ known″
+      joined : RowChanged rowWords 8 (insert (putsIn known′) count) known′ known″
       joined = rw joins (know-row known′ 8 count (m .room))
 
       put-puts : (e : ℕ) → has (putsIn known″) e ≡ eqb count e || has (putsIn (z .known)) e

@@ -7,8 +7,9 @@ use native.Mathlib.Numerals.{add-one}
 use native.Mathlib.Omega.{arith}
 use lib.ListN.{length, getD, set, take, drop}
 use lib.Seq.{sets, sets-eq, take-all, drop-drop}
-use Rattle.rows.specs.Row.{rowAt, RowPut}
-use Rattle.rows.proofs.TableLaws.{putRow, length-put, row-put-same, row-put-other}
+use Rattle.rows.specs.Row.{rowAt, putRow}
+use Rattle.rows.proofs.TableLaws.{length-put, row-put-same, row-put-other}
+use Rattle.calls.specs.Rows.{RowChanged}
 
 sets-suc : (l vs : List ℕ) (at i : ℕ) → i < length vs → set (sets l at (take i vs)) (at + i) (getD vs i 0) ≡ sets l at (take (suc i) vs)
 sets-suc l [] at i h = absurd (not-suc-le-zero h)
@@ -24,7 +25,7 @@ pub sets-all : (l vs : List ℕ) (at i : ℕ) → length vs ≤ i → sets l at 
 sets-all l vs at i h = ap (sets l at) (take-all i vs h)
 
 -- a row b of w numbers is stored
-pub sets-row : (g : List ℕ) (w b : ℕ) (m g′ : List ℕ) → length m ≡ w → b * w + w ≤ length g → g′ ≡ sets g (b * w) m → RowPut w b m g g′
+pub sets-row : (g : List ℕ) (w b : ℕ) (m g′ : List ℕ) → length m ≡ w → b * w + w ≤ length g → g′ ≡ sets g (b * w) m → RowChanged w b m g g′
 sets-row g w b m g′ wide room e =
     let past : drop (b * w + length m) g ≡ drop w (drop (b * w) g) = ap (λ (i : ℕ). drop (b * w + i) g) wide ∙ sym (drop-drop w (b * w) g) in
     let put : g′ ≡ putRow g w b m = e ∙ sets-eq m g (b * w) (omega arith) ∙ append-assoc (take (b * w) g) m (drop (b * w + length m) g) ∙ ap (λ (t : List ℕ). take (b * w) g ++ (m ++ t)) past in

@@ -4,22 +4,23 @@ use mathlib.Core.Bool.{true}
 use mathlib.Core.List.{List}
 use Prim.Native.Nat.{ℕ, _+_, _*_, _≤_, _<_}
 use lib.ListN.{getD, set}
-use Rattle.rows.specs.Row.{insert, rowAt, RowPut}
+use Rattle.rows.specs.Row.{insert, rowAt}
 use Rattle.record.specs.Layout.{mostEvents, rowWords}
 use Rattle.record.specs.Terms.{Terms}
 use Rattle.store.specs.Calls.{Call, close}
 use Rattle.store.specs.Rules.{withCopy, copied, closeCopies, effect, doneAnswer, answer, afterCall}
 use Rattle.calls.specs.Mirror.{wordPresent, wordObject, wordSite, wordStamp}
 use Rattle.calls.specs.Lent.{Lent, Sized, Clear, countIn, clocksAt, storeIn}
+use Rattle.calls.specs.Rows.{RowChanged}
 
 -- ---- puts and gets
 
 -- event k, with its word, at site s: it sees what the site knows and needs what it holds, and the site knows it
 pub record Entered (s k word : ℕ) (known sees events counts known′ sees′ events′ counts′ : List ℕ) : Type 0 where
-  pub knows : RowPut rowWords s (insert (rowAt known rowWords s) k) known known′
-  pub saw : RowPut rowWords k (rowAt known rowWords s) sees sees′
+  pub knows : RowChanged rowWords s (insert (rowAt known rowWords s) k) known known′
+  pub saw : RowChanged rowWords k (rowAt known rowWords s) sees sees′
   pub written : events′ ≡ set events k word
-  pub needs : RowPut 8 (8 + k) (rowAt counts 8 s) counts counts′
+  pub needs : RowChanged 8 (8 + k) (rowAt counts 8 s) counts counts′
 
 -- there is room for an event at site s on object o
 pub record Makable (z : Lent) (s o : ℕ) : Type 0 where

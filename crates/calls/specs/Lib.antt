@@ -1,4 +1,5 @@
 -- What the contracts of this crate cite.
 pub mod Mirror
+pub mod Rows
 pub mod Lent
 pub mod Done

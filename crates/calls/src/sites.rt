@@ -6,11 +6,12 @@ ghost use mathlib.Core.Path.{_≡_};
 ghost use Prim.Native.Nat.{ℕ, _+_, _*_, _≤_, _<_};
 ghost use lib.ListN.{length, getD, set};
 ghost use Rattle.rows.specs.Lowest.{lowest};
-ghost use Rattle.rows.specs.Row.{insert, orRow, rowAt, RowPut};
+ghost use Rattle.rows.specs.Row.{insert, orRow, rowAt};
 ghost use Rattle.record.specs.Layout.{mostEvents, rowWords, workWords};
 ghost use Rattle.store.specs.Rules.{reached};
 ghost use Rattle.calls.specs.Mirror.{OneMore, Raised};
 ghost use Rattle.calls.specs.Lent.{clocksAt, cellsLength, knownLength, countsLength, keptIn, lackedBySome};
+ghost use Rattle.calls.specs.Rows.{RowChanged};
 
 // Row i of eight counts.
 pub fn eight(counts: &[u16], i: usize) -> [u16; 8]
@@ -27,7 +28,7 @@ pub fn eight(counts: &[u16], i: usize) -> [u16; 8]
 
 pub fn put_eight(counts: &mut [u16], i: usize, row: [u16; 8])
     requires { ⌜ i * 8 + 8 ≤ length (now counts) ⌝ }
-    ensures { λ _. ⌜ RowPut 8 i row (now (counts .entry)) (now (counts .exit)) ⌝ }
+    ensures { λ _. ⌜ RowChanged 8 i row (now (counts .entry)) (now (counts .exit)) ⌝ }
 {
     let at = i * 8;
     for j in 0..8 {
@@ -49,7 +50,7 @@ pub fn site_at(cells: &[u64], counts: &[u16], s: usize) -> Kept
 pub fn keep(cells: &mut [u64], counts: &mut [u16], s: usize, a: Kept)
     requires { ⌜ (length (now cells) ≡ cellsLength) × (length (now counts) ≡ countsLength) × (s < 8) ⌝ }
     ensures { λ _. ⌜ now (cells .exit) ≡ set (now (cells .entry)) (clocksAt + s) (a .clock) ⌝ }
-    ensures { λ _. ⌜ RowPut 8 s (a .counts) (now (counts .entry)) (now (counts .exit)) ⌝ }
+    ensures { λ _. ⌜ RowChanged 8 s (a .counts) (now (counts .entry)) (now (counts .exit)) ⌝ }
 {
     cells[lent::CLOCKS + s] = a.clock;
     let row = a.counts;
@@ -99,8 +100,8 @@ pub fn raised(a: Kept, clock: u64, s: u16) -> Kept
 // Event k at site s: it sees what the site knows, and the site knows it from now on.
 pub fn see(known: &mut [u64], s: usize, sees: &mut [u64], k: usize)
     requires { ⌜ (length (now known) ≡ knownLength) × (length (now sees) ≡ workWords) × (s < 8) × (k < mostEvents) ⌝ }
-    ensures { λ _. ⌜ RowPut rowWords s (insert (rowAt (now (known .entry)) rowWords s) k) (now (known .entry)) (now (known .exit)) ⌝ }
-    ensures { λ _. ⌜ RowPut rowWords k (rowAt (now (known .entry)) rowWords s) (now (sees .entry)) (now (sees .exit)) ⌝ }
+    ensures { λ _. ⌜ RowChanged rowWords s (insert (rowAt (now (known .entry)) rowWords s) k) (now (known .entry)) (now (known .exit)) ⌝ }
+    ensures { λ _. ⌜ RowChanged rowWords k (rowAt (now (known .entry)) rowWords s) (now (sees .entry)) (now (sees .exit)) ⌝ }
 {
     let at = k * layout::ROW;
     let from = s * layout::ROW;
@@ -114,7 +115,7 @@ pub fn see(known: &mut [u64], s: usize, sees: &mut [u64], k: usize)
 // The put w comes to site s, which knows it and all that it saw from now on.
 pub fn learn(known: &mut [u64], s: usize, sees: &[u64], w: usize)
     requires { ⌜ (length (now known) ≡ knownLength) × (length (now sees) ≡ workWords) × (s < 8) × (w < mostEvents) ⌝ }
-    ensures { λ _. ⌜ RowPut rowWords s (insert (orRow (rowAt (now (known .entry)) rowWords s) (rowAt (now (sees .entry)) rowWords w)) w) (now (known .entry)) (now (known .exit)) ⌝ }
+    ensures { λ _. ⌜ RowChanged rowWords s (insert (orRow (rowAt (now (known .entry)) rowWords s) (rowAt (now (sees .entry)) rowWords w)) w) (now (known .entry)) (now (known .exit)) ⌝ }
 {
     let at = w * layout::ROW;
     rows::union_into(known, s * layout::ROW, &sees[at..at + layout::ROW]);

@@ -2,7 +2,7 @@
 use native.Mathlib.Omega.{arith}
 use Rattle.rows.proofs.SliceLaws.{row-put}
 use Rattle.record.specs.Layout.{rowWords}
-use Rattle.calls.proofs.KeptLaws.{know-row}
+use Rattle.calls.proofs.KeptLaws.{changed, know-row}
 use borrow.Author.Needs.{needs}
 use Rattle.calls.proofs.sites.see.Statement.{statement}
 use Rattle.calls.proofs.sites.see.Tie as tie
@@ -67,7 +67,7 @@ returns c =
     let g = s .args in
     let known = g .known .now in (
       rw (c .before .before .set .ensures) (know-row known (g .s) (g .k) (s .pre .3)),
-      row-put rowWords (g .k) (g .sees .now) known (g .s) _ (omega (arith, s .pre .1, s .pre .3)) (omega (arith, s .pre .0, s .pre .2)) (c .before .before .before .before .before .before .copy .ensures),
+      changed (row-put rowWords (g .k) (g .sees .now) known (g .s) _ (omega (arith, s .pre .1, s .pre .3)) (omega (arith, s .pre .0, s .pre .2)) (c .before .before .before .before .before .before .copy .ensures)),
     )
 
 pub see-spec : {M : Type 1} → statement M
