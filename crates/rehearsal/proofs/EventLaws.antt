@@ -20,7 +20,7 @@ value-present false v = refl
 
 -- the slot of an event that is kept
 pub slot-of : (count : ℕ) (events : List KeptEvent) (sees : List ℕ) (k : ℕ) → k < count → getD events k pastEvent .object < 256
-    → SlotOf (recorded (storeFrom count events sees)) k (slotFor k (getD events k pastEvent) (rowAt sees 4 k) (rankIn (storeFrom count events sees) k))
+    → SlotOf (recorded (storeFrom count events sees)) k (slotFor k (getD events k pastEvent) (rankIn (storeFrom count events sees) k)) (rowAt sees 4 k)
 unfolding recorded
 slot-of count events sees k l small =
     let e : KeptEvent = getD events k pastEvent in record {

@@ -1,19 +1,19 @@
 -- The record of a run, written in place: slot after slot, and then the whole. Assumes nothing.
-use mathlib.Core.Path.{_≡_, refl, sym, ap, _∙_}
+use mathlib.Core.Path.{_≡_, refl, ap₂, _∙_}
 use mathlib.Core.Bool.{true}
-use mathlib.Core.List.{List, [], _∷_, _++_}
-use Prim.Native.Nat.{ℕ, zero, suc, _+_, _*_, _≤_, _<_}
+use mathlib.Core.List.{List, _++_}
+use Prim.Native.Nat.{ℕ, _+_, _*_, _≤_, _<_}
 use native.Mathlib.Omega.{arith}
 use lib.ListN.{length, getD, drop, replicate}
-use lib.Seq.{sets, ext-getD}
+use lib.Seq.{sets}
 use Rattle.rows.specs.Row.{rowAt}
-use Rattle.rows.proofs.TableLaws.{length-row, getD-row}
 use Rattle.record.specs.Layout.{gcr2, slotAt}
 use Rattle.record.specs.Terms.{Terms}
-use Rattle.record.specs.History.{History, under}
-use Rattle.record.specs.Encode.{slotBytes, blocksFor, headerBytes, withTerms, withSlots, sealed, SlotOf}
+use Rattle.record.specs.History.{under}
+use Rattle.record.specs.Encode.{slotBytes, blocksFor, headerBytes, withTerms, withSlots, slotFrom, sealed, SlotOf}
 use Rattle.record.specs.declared.Slot.{Slot}
-use Rattle.record.proofs.SoundLayout.{edition-sound}
+use Rattle.record.proofs.SoundLayout.{gcr2-sound}
+use Rattle.record.proofs.SlotStored.{slot-said}
 use Rattle.record.proofs.WrittenLaws.{slots-same, slots-none, slots-more, written}
 use Rattle.store.specs.Store.{Store}
 use Rattle.store.specs.Recorded.{recorded, storeRecord}
@@ -22,21 +22,6 @@ use Rattle.calls.specs.declared.KeptEvent.{KeptEvent}
 use Rattle.rehearsal.proofs.EventLaws.{slot-of}
 
 -- ---- slots
-
--- the four words of a row
-pub four-words : (g : List ℕ) (k : ℕ) → 4 * k + 4 ≤ length g
-    → getD g (4 * k) 0 ∷ getD g (4 * k + 1) 0 ∷ getD g (4 * k + 2) 0 ∷ getD g (4 * k + 3) 0 ∷ [] ≡ rowAt g 4 k
-four-words g k room = ext-getD 0 _ (rowAt g 4 k) (sym (length-row g 4 k (omega arith))) word
-  where
-    at : (i p : ℕ) → i < 4 → p ≡ k * 4 + i → getD g p 0 ≡ getD (rowAt g 4 k) i 0
-    at i p l place = ap (λ (q : ℕ). getD g q 0) place ∙ sym (getD-row g 4 k i l)
-
-    word : (i : ℕ) → i < 4 → getD (getD g (4 * k) 0 ∷ getD g (4 * k + 1) 0 ∷ getD g (4 * k + 2) 0 ∷ getD g (4 * k + 3) 0 ∷ []) i 0 ≡ getD (rowAt g 4 k) i 0
-    word zero l = at 0 (4 * k) l (omega arith)
-    word (suc zero) l = at 1 (4 * k + 1) l (omega arith)
-    word (suc (suc zero)) l = at 2 (4 * k + 2) l (omega arith)
-    word (suc (suc (suc zero))) l = at 3 (4 * k + 3) l (omega arith)
-    word (suc (suc (suc (suc i)))) l = absurd (omega arith)
 
 -- the first k slots are written
 pub record Slotted (count : ℕ) (events : List KeptEvent) (sees rec₀ rec : List ℕ) (k : ℕ) : Type 0 where
@@ -51,16 +36,16 @@ module _ (count : ℕ) (events : List KeptEvent) (sees rec₀ : List ℕ) where
   pub slotted-none : Slotted count events sees rec₀ rec₀ 0
   slotted-none = record { within = omega arith; long = refl; written = slots-none gcr2 (recorded st) rec₀ }
 
-  pub slotted-more : Bounded count events → (k : ℕ) → k < count → (position : ℕ) → position ≡ rankIn st k → (row : List ℕ) → row ≡ rowAt sees 4 k
-      → (x : Slot) → x ≡ slotFor k (getD events k pastEvent) row position
+  pub slotted-more : Bounded count events → (k : ℕ) → k < count → (position : ℕ) → position ≡ rankIn st k → (row : List ℕ) → row ≡ rowAt sees 4 k → length row ≡ gcr2 .row
+      → (x : Slot) → x ≡ slotFor k (getD events k pastEvent) position
       → (rec rec′ : List ℕ) → Slotted count events sees rec₀ rec k → length rec′ ≡ length rec
-      → (at : ℕ) → at ≡ slotAt gcr2 k → ((h : History) (e : ℕ) → SlotOf h e x → rec′ ≡ sets rec at (slotBytes gcr2 h e))
+      → (at : ℕ) → at ≡ slotAt gcr2 k → rec′ ≡ sets rec at (slotFrom x row)
       → Slotted count events sees rec₀ rec′ (k + 1)
-  slotted-more small k next position placed row seen x slot rec rec′ s long at here put =
-      let right : SlotOf (recorded st) k x = rw (slot, placed, seen) (slot-of count events sees k next (small .object k next)) in record {
+  slotted-more small k next position placed row seen wide x slot rec rec′ s long at here put =
+      let right : SlotOf (recorded st) k x row = rw (slot, placed, seen) (slot-of count events sees k next (small .object k next)) in record {
         within = omega arith;
         long = long ∙ s .long;
-        written = slots-more gcr2 (recorded st) rec₀ rec rec′ k (s .written) (put (recorded st) k right ∙ ap (λ (p : ℕ). sets rec p (slotBytes gcr2 (recorded st) k)) here);
+        written = slots-more gcr2 (recorded st) rec₀ rec rec′ k (s .written) (put ∙ ap₂ (λ (p : ℕ) (b : List ℕ). sets rec p b) here (slot-said gcr2 (recorded st) k x row right wide));
       }
 
 -- ---- the whole: slots tell no terms, so those of the events alone are the record's
@@ -71,5 +56,5 @@ pub image-written : (n : ℕ) (t : Terms) (st : Store) (k : ℕ) (buffer s₁ s�
     → s₅ ≡ storeRecord gcr2 n t st ++ drop (512 * blocksFor gcr2 (st .count)) buffer
 unfolding storeRecord recorded slotBytes
 image-written n t st k buffer s₁ s₂ s₃ s₄ s₅ e₀ e₁ e₂ e₃ e₄ e₅ =
-    written gcr2 (edition-sound true) (under t (recorded st)) n k buffer s₁ s₂ s₃ s₄ s₅ e₀ e₁ e₂ e₃
+    written gcr2 gcr2-sound (under t (recorded st)) n k buffer s₁ s₂ s₃ s₄ s₅ e₀ e₁ e₂ e₃
     (e₄ ∙ slots-same gcr2 (recorded st) (under t (recorded st)) (st .count) (λ e l. refl) s₃) e₅

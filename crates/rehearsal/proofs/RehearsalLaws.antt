@@ -18,7 +18,7 @@ use Rattle.record.specs.Terms.{openingIn, openingsRight}
 use Rattle.record.specs.History.{History, under}
 use Rattle.record.specs.Encode.{littleBytes, blocksFor, openingBytes, termsBytes, recordBytes}
 use Rattle.record.proofs.StoresLaws.{stands-front, zero-at, Bytes}
-use Rattle.record.proofs.SoundLayout.{edition-sound}
+use Rattle.record.proofs.SoundLayout.{gcr2-sound}
 use Rattle.record.proofs.ImageLaws.{length-record, terms-stand, openings-stand}
 use Rattle.record.proofs.OpeningLaws.{length-openings}
 use Rattle.record.proofs.WrittenLaws.{openings-again}
@@ -128,7 +128,7 @@ pub record-clocks : (n : ℕ) (openings script : List ℕ) (j : ℕ) → j < 4 �
 unfolding recordOf storeRecord termsBytes littleBytes
 record-clocks n openings script j l =
     let h : History = under (termsOf openings) (recorded (storeAfter n openings script)) in
-    stands-front (recordBytes gcr2 n h) 8 (littleBytes 4 0) (openingBytes (openingIn openings 0)) (terms-stand gcr2 (edition-sound true) h n refl) j l
+    stands-front (recordBytes gcr2 n h) 8 (littleBytes 4 0) (openingBytes (openingIn openings 0)) (terms-stand gcr2 gcr2-sound h n refl) j l
     ∙ zero-at 4 j
 
 -- and has the openings as they were lent
@@ -138,7 +138,7 @@ unfolding recordOf storeRecord
 record-opened n openings script rec ans ok opens j l =
     let right = accepted n openings script rec ans ok in
     let h : History = under (termsOf openings) (recorded (storeAfter n openings script)) in
-    openings-stand gcr2 (edition-sound true) h n refl j (omega (arith, length-openings (openingIn openings 0)))
+    openings-stand gcr2 gcr2-sound h n refl j (omega (arith, length-openings (openingIn openings 0)))
     ∙ ap (λ (s : List ℕ). byte s j) (openings-again openings opens (right .opened) (right .right))
 
 -- ---- the demand
@@ -173,7 +173,7 @@ module _ (n : ℕ) (openings script rec ans : List ℕ) where
   module _ (ok : rehearsalRefusal n openings script rec ans ≡ 0) (opens : Bytes openings) (bytes : Bytes script) (ran : Ran) (ends : Ends n openings script ran) where
     record-long : length (recordOf n openings script) ≡ 512 * blocksFor gcr2 (ran .count)
     unfolding recordOf storeRecord recorded
-    record-long = length-record gcr2 (edition-sound true) (under (termsOf openings) (recorded (storeAfter n openings script))) n ∙ ap (λ (k : ℕ). 512 * blocksFor gcr2 k) (sym (ends .count))
+    record-long = length-record gcr2 gcr2-sound (under (termsOf openings) (recorded (storeAfter n openings script))) n ∙ ap (λ (k : ℕ). 512 * blocksFor gcr2 k) (sym (ends .count))
 
     -- the record of the store that the run's events make is the script's
     record-right : storeRecord gcr2 n (termsOf openings) (ranStore ran) ≡ recordOf n openings script

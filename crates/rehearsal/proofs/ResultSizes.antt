@@ -11,7 +11,7 @@ use borrow.Author.Tests.{eqb-true}
 use Rattle.record.specs.Layout.{gcr2}
 use Rattle.record.specs.Terms.{openingsRight}
 use Rattle.record.specs.History.{under}
-use Rattle.record.proofs.SoundLayout.{edition-sound}
+use Rattle.record.proofs.SoundLayout.{gcr2-sound}
 use Rattle.record.proofs.ImageLaws.{length-record}
 use Rattle.store.specs.Store.{Store, fresh}
 use Rattle.store.specs.Calls.{callsOf}
@@ -55,7 +55,7 @@ module _ (n : ℕ) (openings script rec ans : List ℕ) where
 
   record-most : length (recordOf n openings script) ≤ 19456
   unfolding recordOf storeRecord recorded
-  record-most = omega (arith, length-record gcr2 (edition-sound true) (under (termsOf openings) (recorded (storeAfter n openings script))) n, store-few n openings script)
+  record-most = omega (arith, length-record gcr2 gcr2-sound (under (termsOf openings) (recorded (storeAfter n openings script))) n, store-few n openings script)
 
   length-most : lengthAfter n openings script rec ans ≤ 19456
   unfolding lengthAfter

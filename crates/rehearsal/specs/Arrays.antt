@@ -88,9 +88,9 @@ bucketIn events (suc k) p = cond (eqb (getD events k pastEvent .order) p) (suc k
 abbrev pub rankIn : Store → ℕ → ℕ
 rankIn st e = cond (ltb e (st .count)) (rank (st .event) (st .count) e) 0
 
--- what the record says of event k, kept as e, which sees the events of a row: it starts at 2 × k, returns at 2 × k + 1, and none is pending
-abbrev pub slotFor : ℕ → KeptEvent → List ℕ → ℕ → Slot
-slotFor k e row position = record {
+-- what the record says of event k, kept as e: it starts at 2 × k, returns at 2 × k + 1, and none is pending
+abbrev pub slotFor : ℕ → KeptEvent → ℕ → Slot
+slotFor k e position = record {
   write = e .put;
   site = e .order % 8;
   object = e .object % 256;
@@ -100,5 +100,4 @@ slotFor k e row position = record {
   position = position;
   start = 2 * k;
   returned = 2 * k + 1;
-  sees = row;
 }

@@ -6,24 +6,14 @@ use record::layout;
 ghost use mathlib.Core.Path.{_≡_};
 ghost use mathlib.Core.Bool.{true};
 ghost use mathlib.Core.List.{_++_};
-ghost use Prim.Native.Nat.{_+_, _*_, _≤_};
+ghost use Prim.Native.Nat.{_*_, _≤_};
 ghost use lib.ListN.{length, drop};
-ghost use Rattle.rows.specs.Row.{rowAt};
 ghost use Rattle.record.specs.Layout.{gcr2};
 ghost use Rattle.record.specs.Terms.{openingsRight};
 ghost use Rattle.record.specs.Encode.{blocksFor, withSlots};
 ghost use Rattle.store.specs.Recorded.{recorded, storeRecord};
 ghost use Rattle.store.specs.Rehearsal.{termsOf};
 ghost use Rattle.rehearsal.specs.Arrays.{ranStore, Bounded, DistinctStamps};
-
-// What event k sees.
-fn row_of(sees: &[u64], k: usize) -> [u64; 4]
-    requires { ⌜ 4 * k + 4 ≤ length (now sees) ⌝ }
-    ensures { λ r. ⌜ r ≡ rowAt (now (sees .entry)) 4 k ⌝ }
-{
-    let at = 4 * k;
-    [sees[at], sees[at + 1], sees[at + 2], sees[at + 3]]
-}
 
 // The slot of each event.
 fn put_slots(ran: Ran, rec: &mut [u8])
@@ -36,14 +26,16 @@ fn put_slots(ran: Ran, rec: &mut [u8])
     let events = ran.events;
     let sees = ran.sees;
     let count = ran.count;
+    let ed = layout::GCR2;
     let mut at: usize = 512;
     for k in 0..count {
         let e = events[k];
         let position = positions[k];
-        let row = row_of(&sees, k);
-        let x = slots::slot(k, e, row, position);
-        writer::put_slot(rec, at, x);
-        at = layout::next_slot(at);
+        let x = slots::slot(k, e, position);
+        let row = k * layout::ROW;
+        let end = row + layout::ROW;
+        writer::put_slot(rec, at, x, &sees[row..end]);
+        at = layout::next_slot(ed, at);
     }
 }
 
@@ -57,10 +49,11 @@ pub fn write(n: u8, openings: &[u8], ran: Ran, rec: &mut [u8]) -> usize
     ensures { λ _. ⌜ now (rec .exit) ≡ storeRecord gcr2 n (termsOf (now (openings .entry))) (ranStore ran) ++ drop (512 * blocksFor gcr2 (ran .count)) (now (rec .entry)) ⌝ }
 {
     let count = ran.count;
-    let blocks = 1 + (count + 6) / 7;
+    let ed = layout::GCR2;
+    let blocks = layout::blocks(ed, count);
     writer::clear(rec, 512 * blocks);
-    writer::header(rec, count, n);
-    writer::terms(rec, 0, openings);
+    writer::header(rec, ed, count, n);
+    writer::terms(rec, ed, 0, openings);
     put_slots(ran, rec);
     writer::seal(rec, blocks);
     512 * blocks

@@ -5,10 +5,10 @@ ghost use mathlib.Core.Path.{_≡_};
 ghost use Prim.Native.Nat.{_<_};
 ghost use Rattle.rehearsal.specs.Arrays.{slotFor};
 
-// Event k, kept as e, which sees the events of a row, at its position in ar. It starts at 2 × k and returns at 2 × k + 1; none is pending.
-pub fn slot(k: usize, e: KeptEvent, sees: [u64; 4], position: u16) -> Slot
+// Event k, kept as e, at its position in ar. It starts at 2 × k and returns at 2 × k + 1; none is pending.
+pub fn slot(k: usize, e: KeptEvent, position: u16) -> Slot
     requires { ⌜ k < 256 ⌝ }
-    ensures { λ r. ⌜ r ≡ slotFor k e sees position ⌝ }
+    ensures { λ r. ⌜ r ≡ slotFor k e position ⌝ }
 {
     let mut value: u32 = 0;
     if e.present {
@@ -24,6 +24,5 @@ pub fn slot(k: usize, e: KeptEvent, sees: [u64; 4], position: u16) -> Slot
         position: position,
         start: 2 * k as u64,
         returned: 2 * k as u64 + 1,
-        sees: sees,
     }
 }

@@ -1,12 +1,15 @@
 -- `rehearsal::image::put_slots` meets its contract: the loop has written the slots of the events passed. Assumes nothing.
 use borrow.Author.Needs.{needs}
 use mathlib.Core.Path.{_≡_, refl, ap, _∙_}
-use mathlib.Core.Bool.{true}
-use Prim.Native.Nat.{ℕ, _-_}
+use Prim.Native.Nat.{ℕ, _+_, _*_, _-_, _≤_}
+use native.Mathlib.Nat.{add-sub-cancel-left}
 use native.Mathlib.Omega.{arith}
-use Rattle.record.specs.Layout.{gcr2, slotAt}
+use lib.ListN.{length}
+use Rattle.rows.specs.Row.{rowAt}
+use Rattle.rows.proofs.TableLaws.{length-row}
+use Rattle.record.specs.Layout.{gcr2, slotAt, rowWords, workWords}
 use Rattle.record.specs.Encode.{withSlots}
-use Rattle.record.proofs.SoundLayout.{edition-sound, slot-step}
+use Rattle.record.proofs.SoundLayout.{gcr2-sound, slot-step}
 use Rattle.store.specs.Recorded.{recorded}
 use Rattle.rehearsal.specs.Arrays.{ranStore}
 use Rattle.rehearsal.proofs.ImageLaws.{Slotted, slotted-none, slotted-more}
@@ -14,10 +17,17 @@ use Rattle.rehearsal.proofs.image.put_slots.Statement.{statement}
 use Rattle.rehearsal.proofs.image.put_slots.Tie as tie
 
 abbrev Inv-loop : tie.InvT-loop
-Inv-loop rec₀ positions events sees count at₀ k₀ rec at k = Slotted count events sees rec₀ rec k × (at ≡ slotAt gcr2 k)
+Inv-loop rec₀ positions events sees count ed at₀ k₀ rec at k = Slotted count events sees rec₀ rec k × (at ≡ slotAt gcr2 k)
 
 abbrev μ-loop : tie.MeasureT-loop
-μ-loop rec₀ positions events sees count at₀ k₀ rec at k = count - k
+μ-loop rec₀ positions events sees count ed at₀ k₀ rec at k = count - k
+
+abbrev start : tie.At-loop Inv-loop μ-loop → tie.Start Inv-loop μ-loop
+start l = l .before .before .before .before .before
+
+-- the row of event k stands in the rows
+room : (c : tie.In-loop Inv-loop μ-loop) → c .before .loop .k * rowWords + rowWords ≤ length (start (c .before) .args .ran .sees)
+room c = let a = start (c .before) in let long : length (a .args .ran .sees) ≡ workWords = search needs in omega (arith, c .loop-test .taken, a .pre .0 .count, long)
 
 positions-requires : tie.Need-positions-requires Inv-loop μ-loop
 positions-requires c κs = (c .before .pre .0, c .before .pre .1 .0)
@@ -37,14 +47,26 @@ mul-position c = omega arith
 array-read-position : tie.Need-array-read-position Inv-loop μ-loop
 array-read-position c = omega arith
 
-slice-aggregate-row-of : tie.Need-slice-aggregate-row-of Inv-loop μ-loop
-slice-aggregate-row-of c = search needs
-
-row-of-requires : tie.Need-row-of-requires Inv-loop μ-loop
-row-of-requires c κs = omega (arith, slice-aggregate-row-of c, c .before .before .loop-test .taken, c .before .before .before .before .before .before .before .before .pre .0 .count)
-
 slot-requires : tie.Need-slot-requires Inv-loop μ-loop
 slot-requires c κs = omega arith
+
+mul-row : tie.Need-mul-row Inv-loop μ-loop
+mul-row c = omega arith
+
+add-end : tie.Need-add-end Inv-loop μ-loop
+add-end c = omega arith
+
+mul-put-slot : tie.Need-mul-put-slot Inv-loop μ-loop
+mul-put-slot c = omega arith
+
+sub-put-slot : tie.Need-sub-put-slot Inv-loop μ-loop
+sub-put-slot c = omega arith
+
+part-put-slot-start : tie.Need-part-put-slot-start Inv-loop μ-loop
+part-put-slot-start c = omega arith
+
+part-put-slot-end : tie.Need-part-put-slot-end Inv-loop μ-loop
+part-put-slot-end c = let i = c .before .before .before .before in omega (arith, room i)
 
 put-slot-requires : tie.Need-put-slot-requires Inv-loop μ-loop
 put-slot-requires c κs = omega arith
@@ -61,17 +83,17 @@ loop-less c = omega arith
 loop-again : tie.Need-loop-again Inv-loop μ-loop
 loop-again c =
     let put = c .before .before .before in
-    let slot = put .before .before in
-    let row = slot .before in
-    let inside = row .before .before .before in
-    let l = inside .before in
-    let positions = l .before .before .before in
-    let start = positions .before .before in
-    let g = start .args in (
-      slotted-more (g .ran .count) (g .ran .events) (g .ran .sees) (g .rec .now) (start .pre .0)
-          (l .loop .k) (inside .loop-test .taken) _ (positions .positions .ensures (l .loop .k)) (row .row-of .result) (row .row-of .ensures) (slot .slot .result) (slot .slot .ensures)
-          (l .loop .rec) (put .put-slot .last .0) (l .loop .inv .0) (put .put-slot .kept .0) (l .loop .at) (l .loop .inv .1) (put .put-slot .ensures),
-      slot-step gcr2 (edition-sound true) (l .loop .k) (l .loop .at) _ (l .loop .inv .1) (c .next-slot .ensures true),
+    let slot = put .before .before .before .before in
+    let i = slot .before .before in
+    let l = i .before in
+    let a = start l in
+    let g = a .args in
+    let row = rowAt (g .ran .sees) rowWords (l .loop .k) in
+    let wide : length row ≡ rowWords = length-row (g .ran .sees) rowWords (l .loop .k) (room i) in (
+      slotted-more (g .ran .count) (g .ran .events) (g .ran .sees) (g .rec .now) (a .pre .0)
+          (l .loop .k) (i .loop-test .taken) _ (l .before .before .before .positions .ensures (l .loop .k)) row refl wide (slot .slot .result) (slot .slot .ensures)
+          (l .loop .rec) (put .put-slot .last .0) (l .loop .inv .0) (put .put-slot .kept .0) (l .loop .at) (l .loop .inv .1) (rw add-sub-cancel-left at (put .put-slot .ensures)),
+      slot-step gcr2 gcr2-sound (l .loop .k) (l .loop .at) _ (l .loop .inv .1) (c .next-slot .ensures gcr2 refl),
     )
 
 same-length : tie.Need-same-length Inv-loop μ-loop
@@ -96,9 +118,13 @@ put-slots-spec =
     array-copy-out-e
     mul-position
     array-read-position
-    slice-aggregate-row-of
-    row-of-requires
     slot-requires
+    mul-row
+    add-end
+    mul-put-slot
+    sub-put-slot
+    part-put-slot-start
+    part-put-slot-end
     put-slot-requires
     next-slot-requires
     add-k

@@ -7,20 +7,20 @@ use borrow.Author.Needs.{needs}
 use Rattle.rehearsal.proofs.slots.slot.Statement.{statement}
 use Rattle.rehearsal.proofs.slots.slot.Tie as tie
 
-cast-t8 : tie.Need-cast-t8
-cast-t8 c = search needs
+cast-t7 : tie.Need-cast-t7
+cast-t7 c = search needs
 
-cast-t10 : tie.Need-cast-t10
-cast-t10 c = search needs
+cast-t9 : tie.Need-cast-t9
+cast-t9 c = search needs
 
-mul-t12 : tie.Need-mul-t12
-mul-t12 c = search needs
+mul-t11 : tie.Need-mul-t11
+mul-t11 c = search needs
 
-mul-t14 : tie.Need-mul-t14
-mul-t14 c = search needs
+mul-t13 : tie.Need-mul-t13
+mul-t13 c = search needs
 
-add-t15 : tie.Need-add-t15
-add-t15 c = search needs
+add-t14 : tie.Need-add-t14
+add-t14 c = search needs
 
 returns : tie.Need-returns
 returns c =
@@ -30,4 +30,4 @@ returns c =
     rw shown
 
 pub slot-spec : {M : Type 1} → statement M
-slot-spec = tie.close (tie.spec cast-t8 cast-t10 mul-t12 mul-t14 add-t15 returns)
+slot-spec = tie.close (tie.spec cast-t7 cast-t9 mul-t11 mul-t13 add-t14 returns)
