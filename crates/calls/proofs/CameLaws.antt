@@ -5,7 +5,7 @@ use Prim.Native.Nat.{ℕ, suc, _+_, _*_, _/_, _%_, _<_, max}
 use native.Mathlib.Omega.{arith}
 use lib.ListN.{getD, set}
 use borrow.Author.Tests.{lt-ltb}
-use Rattle.rows.specs.Row.{has, insert, orRow, rowAt}
+use Rattle.rows.specs.Row.{has, insert, orRow, rowAt, RowChanged}
 use Rattle.rows.proofs.TableLaws.{length-row}
 use Rattle.record.specs.Layout.{mostEvents, rowWords}
 use Rattle.record.specs.Terms.{value, valueOr0}
@@ -20,7 +20,6 @@ use Rattle.calls.proofs.KeptLaws.{known-joined}
 use Rattle.calls.proofs.WordLaws.{merged}
 use Rattle.calls.proofs.LentLaws.{Holds, holds-now, holds-clock, holds-cell, site-at, event-at, site-store}
 use Rattle.calls.proofs.MadeLaws.{as-held, event-same, site-parts, row-kept}
-use Rattle.calls.specs.Rows.{RowChanged}
 
 module _ (z : Lent) (s w : ℕ) (h : Copyable z s w) (at y : ℕ) (place : at ≡ 32 * s + wordObject (getD (z .events) w 0)) (isLater : y ≡ max (getD (z .cells) at 0) (getD (z .events) w 0))
     (known′ : List ℕ) (learns : RowChanged rowWords s (insert (orRow (rowAt (z .known) rowWords s) (rowAt (z .sees) rowWords w)) w) (z .known) known′)

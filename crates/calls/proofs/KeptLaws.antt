@@ -10,7 +10,7 @@ use lib.ListN.{length, getD, set}
 use lib.Seq.{getD-set-same, getD-set-other}
 use mir.Val.{boolByte}
 use borrow.Author.Tests.{eq-eqb, ne-eqb, ltb-true, ltb-false}
-use Rattle.rows.specs.Row.{has, insert, orRow, orPart, rowAt, RowPut}
+use Rattle.rows.specs.Row.{has, insert, orRow, orPart, rowAt, RowPut, RowChanged}
 use Rattle.rows.proofs.Tests.{split}
 use Rattle.rows.proofs.RowLaws.{has-insert, has-or, length-or, length-insert}
 use Rattle.rows.proofs.TableLaws.{length-row, has-row, row-insert-same, row-insert-other, length-or-part, row-or-same, row-or-other}
@@ -21,7 +21,6 @@ use Rattle.store.specs.Store.{upd}
 use Rattle.store.specs.Rules.{reached}
 use Rattle.calls.specs.Mirror.{OneMore}
 use Rattle.store.proofs.UpdateLaws.{upd-elim}
-use Rattle.calls.specs.Rows.{RowChanged}
 
 -- ---- arrays
 

@@ -10,7 +10,7 @@ use lib.ListN.{length, getD, set, length-set}
 use lib.Seq.{getD-set-same, getD-set-other}
 use mir.Val.{boolByte}
 use borrow.Author.Tests.{eq-eqb, ne-eqb}
-use Rattle.rows.specs.Row.{has, insert, rowAt}
+use Rattle.rows.specs.Row.{has, insert, rowAt, RowChanged}
 use Rattle.rows.proofs.RowLaws.{has-insert}
 use Rattle.rows.proofs.TableLaws.{length-row, getD-row}
 use Rattle.record.specs.Encode.{littleBytes}
@@ -27,7 +27,6 @@ use Rattle.calls.specs.Done.{Entered, Makable, Made}
 use Rattle.calls.proofs.KeptLaws.{known-more, know-row}
 use Rattle.calls.proofs.WordLaws.{word-stamp, word-site, word-object, word-shown, shown-bit, full-cell, cell-value}
 use Rattle.calls.proofs.LentLaws.{Holds, holds-now, holds-count, holds-clock, holds-cell, site-at, cell-at, event-store}
-use Rattle.calls.specs.Rows.{RowChanged}
 
 -- ---- rows that a store leaves
 

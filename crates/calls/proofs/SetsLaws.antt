@@ -7,9 +7,8 @@ use native.Mathlib.Numerals.{add-one}
 use native.Mathlib.Omega.{arith}
 use lib.ListN.{length, getD, set, take, drop}
 use lib.Seq.{sets, sets-eq, take-all, drop-drop}
-use Rattle.rows.specs.Row.{rowAt, putRow}
+use Rattle.rows.specs.Row.{rowAt, putRow, RowChanged}
 use Rattle.rows.proofs.TableLaws.{length-put, row-put-same, row-put-other}
-use Rattle.calls.specs.Rows.{RowChanged}
 
 sets-suc : (l vs : List ℕ) (at i : ℕ) → i < length vs → set (sets l at (take i vs)) (at + i) (getD vs i 0) ≡ sets l at (take (suc i) vs)
 sets-suc l [] at i h = absurd (not-suc-le-zero h)

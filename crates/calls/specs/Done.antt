@@ -4,14 +4,13 @@ use mathlib.Core.Bool.{true}
 use mathlib.Core.List.{List}
 use Prim.Native.Nat.{ℕ, _+_, _*_, _≤_, _<_}
 use lib.ListN.{getD, set}
-use Rattle.rows.specs.Row.{insert, rowAt}
+use Rattle.rows.specs.Row.{insert, rowAt, RowChanged}
 use Rattle.record.specs.Layout.{mostEvents, rowWords}
 use Rattle.record.specs.Terms.{Terms}
 use Rattle.store.specs.Calls.{Call, close}
 use Rattle.store.specs.Rules.{withCopy, copied, closeCopies, effect, doneAnswer, answer, afterCall}
 use Rattle.calls.specs.Mirror.{wordPresent, wordObject, wordSite, wordStamp}
 use Rattle.calls.specs.Lent.{Lent, Sized, Clear, countIn, clocksAt, storeIn}
-use Rattle.calls.specs.Rows.{RowChanged}
 
 -- ---- puts and gets
 

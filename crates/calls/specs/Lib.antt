@@ -1,5 +1,4 @@
 -- What the contracts of this crate cite.
 pub mod Mirror
-pub mod Rows
 pub mod Lent
 pub mod Done

@@ -6,12 +6,11 @@ ghost use mathlib.Core.Path.{_≡_};
 ghost use Prim.Native.Nat.{ℕ, _+_, _*_, _≤_, _<_};
 ghost use lib.ListN.{length, getD, set};
 ghost use Rattle.rows.specs.Lowest.{lowest};
-ghost use Rattle.rows.specs.Row.{insert, orRow, rowAt};
+ghost use Rattle.rows.specs.Row.{insert, orRow, rowAt, RowChanged};
 ghost use Rattle.record.specs.Layout.{mostEvents, rowWords, workWords};
 ghost use Rattle.store.specs.Rules.{reached};
 ghost use Rattle.calls.specs.Mirror.{OneMore, Raised};
 ghost use Rattle.calls.specs.Lent.{clocksAt, cellsLength, knownLength, countsLength, keptIn, lackedBySome};
-ghost use Rattle.calls.specs.Rows.{RowChanged};
 
 // Row i of eight counts.
 pub fn eight(counts: &[u16], i: usize) -> [u16; 8]

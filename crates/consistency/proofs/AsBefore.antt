@@ -6,11 +6,11 @@ use Prim.Native.Nat.{ℕ}
 use lib.Dec.{eqb, leb, ltb}
 use lib.ListN.{take}
 use Rattle.rows.specs.Relation.{Rel}
-use Rattle.record.specs.Layout.{Layout, edition, gcr1, gcr2, editionOf, countIn, sitesIn, zeros, same}
+use Rattle.record.specs.Layout.{Layout, GCR1, gcr1, gcr2, editionOf, countIn, sitesIn, zeros, same}
 use Rattle.record.specs.Terms.{Held, none, value, Terms}
 use Rattle.record.specs.History.{History, historyOf, under}
 use Rattle.record.specs.Questions.{termsRight, headerRight}
-use Rattle.record.proofs.LayoutLaws.{one-edition}
+use Rattle.record.proofs.LayoutLaws.{letters-name, edition-first}
 use Rattle.consistency.specs.FirstPair.{first}
 use Rattle.consistency.specs.Relations.{rb, ar, write, read, from}
 use Rattle.consistency.specs.Reads.{lastWrite, sameHeld, held, leftBy, expected, wrongRead, lastOr, wrong}
@@ -106,22 +106,24 @@ first-count : (s : List ℕ) → historyOf gcr1 s .count ≡ countIn s
 unfolding historyOf
 first-count s = refl
 
-pub as-before : (s : List ℕ) → same (take 4 s) (gcr2 .letters) ≡ false → AsBefore s
-as-before s e =
-    let first-one : editionOf s ≡ gcr1 = ap edition e in
-    record {
-      edition = first-one;
-      header = ap (λ (L : Layout). headerRight L s) first-one ∙ header-before s;
-      reads = subst (λ (L : Layout). verdict RVal (historyOf L s) ≡ first (countIn s) (wrongBefore (historyOf L s))) (sym first-one)
-          (reads-before (historyOf gcr1 s) (none-before s) ∙ ap (λ (n : ℕ). first n (wrongBefore (historyOf gcr1 s))) (first-count s));
-      realTime = subst (λ (L : Layout). verdict RealTime (historyOf L s) ≡ first (countIn s) (outside (rbBefore (historyOf L s)) (ar (historyOf L s)))) (sym first-one)
-          (real-time-before (historyOf gcr1 s) (even-before s) ∙ ap (λ (n : ℕ). first n (outside (rbBefore (historyOf gcr1 s)) (ar (historyOf gcr1 s)))) (first-count s));
-      realTimeWrites = subst (λ (L : Layout). verdict RealTimeWrites (historyOf L s) ≡ first (countIn s) (outside (from (write (historyOf L s)) (rbBefore (historyOf L s))) (ar (historyOf L s)))) (sym first-one)
-          (writes-before (historyOf gcr1 s) (even-before s) ∙ ap (λ (n : ℕ). first n (outside (from (write (historyOf gcr1 s)) (rbBefore (historyOf gcr1 s))) (ar (historyOf gcr1 s)))) (first-count s));
-      times = subst (λ (L : Layout). (a b : ℕ) → rb (historyOf L s) a b ≡ rbBefore (historyOf L s) a b) (sym first-one) (λ a b. rb-even (historyOf gcr1 s) a b (even-before s));
-      others = λ p t. verdict-under t (historyOf (editionOf s) s) p;
-    }
+pub first-as-before : (s : List ℕ) → editionOf s ≡ gcr1 → AsBefore s
+first-as-before s first-one = record {
+  edition = first-one;
+  header = ap (λ (L : Layout). headerRight L s) first-one ∙ header-before s;
+  reads = subst (λ (L : Layout). verdict RVal (historyOf L s) ≡ first (countIn s) (wrongBefore (historyOf L s))) (sym first-one)
+      (reads-before (historyOf gcr1 s) (none-before s) ∙ ap (λ (n : ℕ). first n (wrongBefore (historyOf gcr1 s))) (first-count s));
+  realTime = subst (λ (L : Layout). verdict RealTime (historyOf L s) ≡ first (countIn s) (outside (rbBefore (historyOf L s)) (ar (historyOf L s)))) (sym first-one)
+      (real-time-before (historyOf gcr1 s) (even-before s) ∙ ap (λ (n : ℕ). first n (outside (rbBefore (historyOf gcr1 s)) (ar (historyOf gcr1 s)))) (first-count s));
+  realTimeWrites = subst (λ (L : Layout). verdict RealTimeWrites (historyOf L s) ≡ first (countIn s) (outside (from (write (historyOf L s)) (rbBefore (historyOf L s))) (ar (historyOf L s)))) (sym first-one)
+      (writes-before (historyOf gcr1 s) (even-before s) ∙ ap (λ (n : ℕ). first n (outside (from (write (historyOf gcr1 s)) (rbBefore (historyOf gcr1 s))) (ar (historyOf gcr1 s)))) (first-count s));
+  times = subst (λ (L : Layout). (a b : ℕ) → rb (historyOf L s) a b ≡ rbBefore (historyOf L s) a b) (sym first-one) (λ a b. rb-even (historyOf gcr1 s) a b (even-before s));
+  others = λ p t. verdict-under t (historyOf (editionOf s) s) p;
+}
 
--- as every `GCR1` is
+-- as every record is whose letters are no other edition's
+pub as-before : (s : List ℕ) → same (take 4 s) (gcr2 .letters) ≡ false → AsBefore s
+as-before s e = first-as-before s (edition-first s e)
+
+-- and every `GCR1`
 pub gcr1-as-before : (s : List ℕ) → same (take 4 s) (gcr1 .letters) ≡ true → AsBefore s
-gcr1-as-before s e = as-before s (one-edition s e)
+gcr1-as-before s e = first-as-before s (letters-name GCR1 s e)

@@ -2,11 +2,12 @@
 use mathlib.Core.Path.{_≡_}
 use mathlib.Core.Bool.{true, not}
 use mathlib.Core.List.{List, []}
-use Prim.Native.Nat.{ℕ, _*_, _<_, _≤_}
+use Prim.Native.Nat.{ℕ, _+_, _*_, _<_, _≤_}
 use lib.Dec.{eqb}
 use lib.ListN.{length}
 use Rattle.rows.specs.Row.{rowAt, Row}
 use Rattle.rows.specs.Relation.{Graph}
+use Rattle.record.specs.Layout.{objectCount, headLength}
 use Rattle.record.specs.History.{History}
 use Rattle.record.specs.Words.{isWriteIn, siteIn, objectIn, positionIn, historyFrom}
 
@@ -15,10 +16,10 @@ pub record Placed (n : ℕ) (l : List ℕ) : Type 0 where
   pub below : (e : ℕ) → e < n → positionIn l e < n
   pub distinct : (d e : ℕ) → d < n → e < n → positionIn l d ≡ positionIn l e → d ≡ e
 
--- the words of n events: four of fields each, and w of its visible set, with sites as questions 5 and 7 ask and positions as question 8 does.
+-- the words of n events: a head of fields each, and w of its visible set, with sites as questions 5 and 7 ask and positions as question 8 does.
 -- A function that needs rows of its own has room for eight words
 pub record Given (n w : ℕ) (l v : List ℕ) : Type 0 where
-  pub heads : 4 * n ≤ length l
+  pub heads : headLength * n ≤ length l
   pub narrow : w ≤ 8
   pub rows : Graph v n w
   pub sites : (e : ℕ) → e < n → siteIn l e < 8
@@ -28,23 +29,23 @@ pub record Given (n w : ℕ) (l v : List ℕ) : Type 0 where
 abbrev pub fieldsOf : List ℕ → History
 fieldsOf l = historyFrom 0 0 l []
 
--- the rows of groups of events: one for each object, 0 to 255, then the writes, the reads, and all events
+-- the rows of groups of events: one for each object, then the writes, the reads, and all events
 abbrev pub writesRow : ℕ
-writesRow = 256
+writesRow = objectCount
 
 abbrev pub readsRow : ℕ
-readsRow = 257
+readsRow = objectCount + 1
 
 abbrev pub everyRow : ℕ
-everyRow = 258
+everyRow = objectCount + 2
 
 abbrev pub groupRows : ℕ
-groupRows = 259
+groupRows = objectCount + 3
 
 -- g has them
 pub record Groups (n w : ℕ) (l g : List ℕ) : Type 0 where
   pub size : groupRows * w ≤ length g
-  pub objects : (o : ℕ) → o < 256 → Row n (λ e. eqb (objectIn l e) o) (rowAt g w o)
+  pub objects : (o : ℕ) → o < objectCount → Row n (λ e. eqb (objectIn l e) o) (rowAt g w o)
   pub writes : Row n (isWriteIn l) (rowAt g w writesRow)
   pub reads : Row n (λ e. not (isWriteIn l e)) (rowAt g w readsRow)
   pub every : Row n (λ e. true) (rowAt g w everyRow)

@@ -5,7 +5,7 @@ ghost use Rattle.record.specs.Layout.{editionOf};
 ghost use Rattle.record.specs.Questions.{numberOf, reading, packedReading};
 ghost use Rattle.record.specs.Words.{workAfter};
 
-// 0 where the record passes, else 2,097,152 + 1,024 × number + place.
+// 0 where the record passes, else the refusal's number and place, packed.
 #[no_mangle]
 pub extern "C" fn gcr_read(s: &[u8], work: &mut [u64]) -> u64
     ensures { λ r. ⌜ r ≡ packedReading (reading (editionOf (now (s .entry))) (length (now (work .entry))) (now (s .entry))) ⌝ }

@@ -12,11 +12,12 @@ use lib.ListN.{getD, take, drop}
 use lib.Seq.{take-take, getD-take, getD-drop}
 use Rattle.rows.specs.Octets.{little, hasByte}
 use Rattle.rows.specs.Row.{bitOf}
-use Rattle.record.specs.Layout.{Layout, edition, gcr2, editionOf, byte, countIn, slotAt, same}
+use Rattle.record.specs.Layout.{Layout, editionOf, byte, countIn, slotAt}
 use Rattle.record.specs.Terms.{Held, none, value, openingIn, differenceIn}
 use Rattle.record.specs.History.{historyOf, SameEvents}
 use Rattle.record.specs.Questions.{questions}
 use Rattle.record.specs.declared.Reading.the-variants.{Passed, ShortWork}
+use Rattle.record.proofs.LayoutLaws.{same-letters}
 use Rattle.record.proofs.NumberBytes.{little-same}
 use Rattle.record.proofs.QuestionsAnswered.{answer-only}
 use Rattle.consistency.specs.Models.{timed, firstBroken}
@@ -56,7 +57,7 @@ module _ (s s′ : List ℕ) (c : OnOtherClocks s s′) where
 
   one-edition : editionOf s ≡ editionOf s′
   one-edition =
-      ap (λ (l : List ℕ). edition (same l (gcr2 .letters)))
+      same-letters s s′
       (sym (take-take 4 8 s (omega arith)) ∙ ap (take 4) (c .front) ∙ take-take 4 8 s′ (omega arith))
 
   count-same : countIn s ≡ countIn s′

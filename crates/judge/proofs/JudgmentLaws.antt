@@ -12,7 +12,7 @@ use lib.Seq.{take-all}
 use native.Mathlib.Numerals.{add-one}
 use Rattle.rows.proofs.Tests.{split}
 use Rattle.rows.proofs.FrontLaws.{replicate-more}
-use Rattle.packed.specs.Packed.{packedBreak, packedRefusal}
+use Rattle.packed.specs.Packed.{places, packedBreak, packedRefusal}
 use Rattle.record.specs.Layout.{editionOf, countIn, mostEvents, workWords}
 use Rattle.record.specs.History.{History, historyOf, Agree}
 use Rattle.record.specs.Questions.{numberOf, placeOf, ask, questions, reading}
@@ -218,7 +218,7 @@ outcome-fits n h AllMet f = tt
 outcome-fits n h (BrokenAt p a b) f = (omega (arith, f .0), omega (arith, f .1))
 
 module _ (s : List ℕ) where
-  questions-place : placeOf (questions (editionOf s) s) < 1024
+  questions-place : placeOf (questions (editionOf s) s) < places
   unfolding reading
   questions-place = place-small workWords s
 

@@ -3,7 +3,7 @@ use mathlib.Core.Path.{_≡_, refl}
 use Prim.Native.Nat.{_<_}
 use native.Mathlib.Omega.{arith}
 use Rattle.record.specs.Questions.{numberOf, placeOf}
-use Rattle.packed.specs.Packed.{unpacked}
+use Rattle.packed.specs.Packed.{places, unpacked}
 use Rattle.packed.proofs.ReadsBack.{break-back, refusal-back}
 use Rattle.record.proofs.QuestionsAnswered.{number-most}
 use Rattle.judge.specs.Judgments.{packedJudgment}
@@ -15,9 +15,9 @@ use Rattle.judge.specs.declared.Judgment.the-variants.{Judged, NoSuchNum
 -- the parts fit: events and places are below 1,024
 abbrev pub Fitting : Judgment → Type 0
 Fitting (Judged AllMet) = Unit
-Fitting (Judged (BrokenAt p a b)) = (a < 1024) × (b < 1024)
+Fitting (Judged (BrokenAt p a b)) = (a < places) × (b < places)
 Fitting NoSuchNumber = Unit
-Fitting (Refused r) = placeOf r < 1024
+Fitting (Refused r) = placeOf r < places
 
 pub reads-back : (j : Judgment) → Fitting j → unpacked (packedJudgment j) ≡ told j
 reads-back (Judged AllMet) f = refl

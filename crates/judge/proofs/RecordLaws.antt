@@ -2,7 +2,7 @@
 use mathlib.Core.Path.{_≡_, sym, ap, _∙_}
 use mathlib.Core.Bool.{Bool, true, false}
 use mathlib.Core.List.{List, _++_}
-use Prim.Native.Nat.{ℕ, _+_, _*_, _/_, _≤_}
+use Prim.Native.Nat.{ℕ, _*_, _≤_}
 use native.Mathlib.Omega.{arith}
 use borrow.Author.Tests.{eq-eqb}
 use lib.Dec.{leb}
@@ -10,6 +10,7 @@ use lib.ListN.{length, take, drop, take-append-drop, length-append}
 use lib.Seq.{take-at}
 use Rattle.record.specs.Layout.{editionOf, countIn, mostEvents, rowWords, workWords}
 use Rattle.record.specs.History.{historyOf, under, Agree}
+use Rattle.record.specs.Encode.{blocksFor}
 use Rattle.record.specs.Questions.{numberOf, ask, questions, reading}
 use Rattle.record.specs.Words.{slotWords, headWords, visibleWords, workAfter, historyFrom, termsWords, termsFrom}
 use Rattle.record.specs.declared.Reading.{Reading}
@@ -52,8 +53,8 @@ module _ (s : List ℕ) (passed : questions (editionOf s) s ≡ Passed) where
     pub count-small : n ≤ mostEvents
     count-small = omega (arith, passed-count s passed)
 
-    pub blocks-long : 512 * (1 + (n + 6) / 7) ≤ length s
-    blocks-long = omega (arith, passed-blocks s passed)
+    pub blocks-long : 512 * blocksFor (editionOf s) n ≤ length s
+    blocks-long = rw counted (omega (arith, passed-blocks s passed))
 
   -- ---- the work slice
 

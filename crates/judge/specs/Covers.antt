@@ -3,6 +3,7 @@ use mathlib.Core.Path.{_≡_}
 use mathlib.Core.Bool.{true}
 use mathlib.Core.List.{List}
 use Prim.Native.Nat.{ℕ, _/_}
+use Rattle.packed.specs.Packed.{brokenFrom}
 use Rattle.record.specs.Layout.{workWords}
 use Rattle.consistency.specs.Lattice.{follows}
 use Rattle.consistency.specs.declared.Outcome.the-variants.{AllMet, BrokenAt}
@@ -37,4 +38,4 @@ pub record TellsOthers (words m : ℕ) (s : List ℕ) (told : Judgment) : Type 0
 -- the same of the host's numbers: 0 is met, and a break's number divided by 1,048,576 is 1
 pub record TellsHosts (m : ℕ) (s : List ℕ) (number : ℕ) : Type 0 where
   pub met : number ≡ 0 → (j : ℕ) → follows m j ≡ true → packedJudgment (answer s j) ≡ 0
-  pub broken : number / 1048576 ≡ 1 → (i : ℕ) → follows i m ≡ true → packedJudgment (answer s i) / 1048576 ≡ 1
+  pub broken : number / brokenFrom ≡ 1 → (i : ℕ) → follows i m ≡ true → packedJudgment (answer s i) / brokenFrom ≡ 1

@@ -1,5 +1,5 @@
 -- The eight records as rows of numbers, and as slots. Assumes nothing.
-use mathlib.Core.Path.{_≡_, refl, sym, ap, _∙_}
+use mathlib.Core.Path.{_≡_, refl, sym, ap, ap₂, _∙_}
 use mathlib.Core.Bool.{Bool, true, false, not, _&&_}
 use mathlib.Core.List.{List, [], _∷_, _++_, append-nil}
 use Prim.Native.Nat.{ℕ, zero, suc, _+_, _*_, _-_, _<_, _≤_}
@@ -13,19 +13,19 @@ use Rattle.rows.specs.Lowest.{searchFrom, lowest, some}
 use Rattle.rows.specs.Row.{digit, bitOf, has}
 use Rattle.rows.proofs.LowestLaws.{some-none}
 use Rattle.rows.proofs.Tests.{and-left, and-right}
-use Rattle.record.proofs.SoundLayout.{edition-sound}
-use Rattle.record.proofs.WrittenLaws.{written}
+use Rattle.record.proofs.SoundLayout.{gcr2-sound}
+use Rattle.record.proofs.SlotStored.{slot-said}
+use Rattle.record.proofs.WrittenLaws.{slots-more, written}
 use Rattle.record.specs.History.{History}
-use Rattle.record.specs.declared.Slot.{Slot}
-use Rattle.record.specs.Layout.{gcr2}
+use Rattle.record.specs.Layout.{gcr2, slotAt}
 use Rattle.record.specs.Terms.{bare, openingIn, openingsRight}
-use Rattle.record.specs.Encode.{littleBytes, bit, bits, setBytes, figureBytes, openingBytes, termsBytes, blocksFor, headerBytes, withTerms, withSlots, sealed, recordBytes, SlotOf}
+use Rattle.record.specs.Encode.{littleBytes, bit, bits, setBytes, figureBytes, openingBytes, termsBytes, blocksFor, headerBytes, withTerms, slotBytes, slotFrom, withSlots, sealed, recordBytes, SlotOf}
 use Rattle.record.specs.Listed.{member, historyOfEvents}
 use Rattle.consistency.specs.Predicates.{differ}
 use Rattle.consistency.specs.Separating.{Separating, noRecord, separating, numberedRecord, separatingHistory, separatingBytes}
 use Rattle.consistency.proofs.BrokenIff.{differ-same}
 use Rattle.consistency.proofs.Separated.{every, every-at}
-use Rattle.lattice.specs.Numbers.{numbers}
+use Rattle.lattice.specs.Numbers.{twoBlocks, numbers, slotOf}
 
 -- ---- three rows a record
 
@@ -85,23 +85,27 @@ count-right table q k i j =
     let same : getD table (k - 1) 0 ≡ separatingHistory k .count = ap (λ (t : List ℕ). getD t (k - 1) 0) q ∙ count-at separating (k - 1) (omega arith) in
     (same, omega (arith, few-events k i j .1))
 
--- ---- what an event sees, as a row of four words
+-- ---- what an event sees, as a row of the edition's words
+
+-- a row of one word, and zeros behind it
+abbrev pub rowOf : ℕ → List ℕ
+rowOf word = word ∷ replicate (gcr2 .row - 1) 0
 
 abbrev seen : ℕ → ℕ → ℕ → Bool
-seen k e b = has (bits 3 (separatingHistory k .sees e) ∷ 0 ∷ 0 ∷ 0 ∷ []) b
+seen k e b = has (rowOf (bits 3 (separatingHistory k .sees e))) b
 
 abbrev wrongSight : ℕ → ℕ → Bool
-wrongSight k e = some 256 (λ b. differ (separatingHistory k .sees e b) (seen k e b))
+wrongSight k e = some (64 * gcr2 .row) (λ b. differ (separatingHistory k .sees e b) (seen k e b))
 
 all-seen : every 8 (λ k. not (some 3 (wrongSight k))) ≡ true
 unfolding searchFrom lowest some digit bitOf has bits member historyOfEvents numberedRecord
 all-seen = refl
 
-sight-right : (k e b : ℕ) → 1 ≤ k → k ≤ 8 → e < 3 → b < 256 → separatingHistory k .sees e b ≡ seen k e b
+sight-right : (k e b : ℕ) → 1 ≤ k → k ≤ 8 → e < 3 → b < 64 * gcr2 .row → separatingHistory k .sees e b ≡ seen k e b
 sight-right k e b i j l m =
     let none : some 3 (wrongSight k) ≡ false = not-true (some 3 (wrongSight k)) (every-at 8 (λ k. not (some 3 (wrongSight k))) all-seen k i j) in
     differ-same (separatingHistory k .sees e b) (seen k e b)
-    (some-none 256 (λ b. differ (separatingHistory k .sees e b) (seen k e b)) (some-none 3 (wrongSight k) none e l) b m)
+    (some-none (64 * gcr2 .row) (λ b. differ (separatingHistory k .sees e b) (seen k e b)) (some-none 3 (wrongSight k) none e l) b m)
 
 -- ---- a slot of such numbers
 
@@ -109,22 +113,7 @@ bit-is : (t : Bool) → t ≡ eqb (bit t) 1
 bit-is true = refl
 bit-is false = refl
 
--- the slot that ten numbers are
-abbrev pub slotOf : List ℕ → Slot
-slotOf x = record {
-  write = eqb (getD x 0 0) 1;
-  site = getD x 1 0;
-  object = getD x 2 0;
-  pending = eqb (getD x 3 0) 1;
-  present = eqb (getD x 4 0) 1;
-  value = getD x 5 0;
-  position = getD x 6 0;
-  start = getD x 7 0;
-  returned = getD x 8 0;
-  sees = getD x 9 0 ∷ 0 ∷ 0 ∷ 0 ∷ [];
-}
-
-pub slot-right : (k e : ℕ) → 1 ≤ k → k ≤ 8 → e < 3 → (x : List ℕ) → x ≡ numbers (separatingHistory k) e → SlotOf (separatingHistory k) e (slotOf x)
+pub slot-right : (k e : ℕ) → 1 ≤ k → k ≤ 8 → e < 3 → (x : List ℕ) → x ≡ numbers (separatingHistory k) e → SlotOf (separatingHistory k) e (slotOf x) (rowOf (getD x 9 0))
 unfolding numbers
 slot-right k e i j l x q =
     let h : History = separatingHistory k in
@@ -139,8 +128,18 @@ slot-right k e i j l x q =
       position = at 6;
       start = at 7;
       return = at 8;
-      sees = λ b m. sight-right k e b i j l m ∙ ap (λ (y : ℕ). has (y ∷ 0 ∷ 0 ∷ 0 ∷ []) b) (at 9);
+      sees = λ b m. sight-right k e b i j l m ∙ ap (λ (y : ℕ). has (rowOf y) b) (at 9);
     }
+
+-- slot by slot
+pub slot-put : (k e : ℕ) → 1 ≤ k → k ≤ 8 → e < 3 → (x : List ℕ) → x ≡ numbers (separatingHistory k) e → (rec₀ rec rec′ row : List ℕ) (at : ℕ) → at ≡ slotAt gcr2 e
+    → rec ≡ withSlots gcr2 (separatingHistory k) e rec₀ → row ≡ rowOf (getD x 9 0) → rec′ ≡ sets rec at (slotFrom (slotOf x) row)
+    → rec′ ≡ withSlots gcr2 (separatingHistory k) (e + 1) rec₀
+slot-put k e i j l x q rec₀ rec rec′ row at here begun sees put =
+    let h : History = separatingHistory k in
+    let bytes : slotFrom (slotOf x) row ≡ slotBytes gcr2 h e =
+    ap (slotFrom (slotOf x)) sees ∙ slot-said gcr2 h e (slotOf x) (rowOf (getD x 9 0)) (slot-right k e i j l x q) refl in
+    slots-more gcr2 h rec₀ rec rec′ e begun (put ∙ ap₂ (λ (p : ℕ) (b : List ℕ). sets rec p b) here bytes)
 
 -- ---- the whole
 
@@ -157,15 +156,15 @@ terms-bare : (k : ℕ) (s : List ℕ) → withTerms gcr2 bare s ≡ withTerms gc
 unfolding historyOfEvents
 terms-bare k s = refl
 
-pub record-written : (k : ℕ) → 1 ≤ k → k ≤ 8 → (n : ℕ) → n ≡ separatingHistory k .count → (buffer s₁ s₂ s₃ s₄ s₅ : List ℕ) → length buffer ≡ 1024
-    → s₁ ≡ replicate 1024 0 ++ drop 1024 buffer → s₂ ≡ sets s₁ 0 (headerBytes gcr2 n 2)
+pub record-written : (k : ℕ) → 1 ≤ k → k ≤ 8 → (n : ℕ) → n ≡ separatingHistory k .count → (buffer s₁ s₂ s₃ s₄ s₅ : List ℕ) → length buffer ≡ twoBlocks
+    → s₁ ≡ replicate twoBlocks 0 ++ drop twoBlocks buffer → s₂ ≡ sets s₁ 0 (headerBytes gcr2 n 2)
     → s₃ ≡ withTerms gcr2 (record { difference = 0; opening = openingIn (replicate 132 0) 0 }) s₂
     → s₄ ≡ withSlots gcr2 (separatingHistory k) n s₃ → s₅ ≡ sealed 2 s₄ → s₅ ≡ separatingBytes k
 unfolding separatingBytes
 record-written k i j n q buffer s₁ s₂ s₃ s₄ s₅ long e₁ e₂ e₃ e₄ e₅ =
     let h : History = separatingHistory k in
     let two : 2 ≡ blocksFor gcr2 (h .count) = omega (arith, few-events k i j .0, few-events k i j .1) in
-    let whole = written gcr2 (edition-sound true) h 2 2 buffer s₁ s₂ s₃ s₄ s₅ two e₁
+    let whole = written gcr2 gcr2-sound h 2 2 buffer s₁ s₂ s₃ s₄ s₅ two e₁
     (e₂ ∙ ap (λ (m : ℕ). sets s₁ 0 (headerBytes gcr2 m 2)) q) (e₃ ∙ no-openings s₂ ∙ terms-bare k s₂)
     (e₄ ∙ ap (λ (m : ℕ). withSlots gcr2 h m s₃) q) e₅ in
     let past : drop (512 * blocksFor gcr2 (h .count)) buffer ≡ [] = drop-of-length-le buffer {i = 512 * blocksFor gcr2 (h .count)} (omega arith) in

@@ -14,7 +14,7 @@ pub fn of_record(k: usize, m: usize) -> Judgment
     requires { ⌜ (1 ≤ k) × (k ≤ 8) ⌝ }
     ensures { λ r. ⌜ r ≡ answer (separatingBytes k) m ⌝ }
 {
-    let mut rec = [0u8; 1024];
+    let mut rec = [0u8; records::LENGTH];
     records::write(k, &mut rec);
     let mut work = [0u64; layout::WORK];
     judge::judge_model(m, &rec, &mut work)

@@ -138,7 +138,7 @@ fn one_record(argument: &[u8]) {
         usage();
         return;
     }
-    let mut rec = [0u8; 1024];
+    let mut rec = [0u8; records::LENGTH];
     records::write((digit - b'0') as usize, &mut rec);
     write(&rec);
 }

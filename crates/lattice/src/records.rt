@@ -1,12 +1,16 @@
 // The eight records that tell models apart, built by the writer.
 use record::Slot;
+use record::layout;
 ghost use mathlib.Core.Path.{_≡_};
 ghost use Prim.Native.Nat.{_≤_, _<_};
 ghost use lib.ListN.{length};
-ghost use Rattle.record.specs.Encode.{SlotOf, withSlots};
+ghost use Rattle.record.specs.Encode.{withSlots};
 ghost use Rattle.record.specs.Layout.{gcr2};
 ghost use Rattle.consistency.specs.Separating.{separatingHistory, separatingBytes};
-ghost use Rattle.lattice.specs.Numbers.{numbers};
+ghost use Rattle.lattice.specs.Numbers.{twoBlocks, numbers, slotOf};
+
+// The bytes of each: block 0, and a block for its slots.
+pub const LENGTH: usize = 1024;
 
 // How many events each record has.
 const COUNTS: [usize; 8] = [2, 2, 3, 3, 3, 3, 2, 2];
@@ -55,11 +59,10 @@ fn row(k: usize, e: usize) -> [u8; 10]
     EVENTS[3 * (k - 1) + e]
 }
 
-fn slot(k: usize, e: usize) -> Slot
-    requires { ⌜ (1 ≤ k) × (k ≤ 8) × (e < 3) ⌝ }
-    ensures { λ r. ⌜ SlotOf (separatingHistory k) e r ⌝ }
+// The slot that ten numbers are.
+fn slot(x: [u8; 10]) -> Slot
+    ensures { λ r. ⌜ r ≡ slotOf x ⌝ }
 {
-    let x = row(k, e);
     Slot {
         write: x[0] == 1,
         site: x[1],
@@ -70,30 +73,37 @@ fn slot(k: usize, e: usize) -> Slot
         position: x[6] as u16,
         start: x[7] as u64,
         returned: x[8] as u64,
-        sees: [x[9] as u64, 0, 0, 0],
     }
 }
 
 // Its first n slots.
 fn put_slots(k: usize, n: usize, rec: &mut [u8])
-    requires { ⌜ (1 ≤ k) × (k ≤ 8) × (n ≤ 3) × (length (now rec) ≡ 1024) ⌝ }
+    requires { ⌜ (1 ≤ k) × (k ≤ 8) × (n ≤ 3) × (length (now rec) ≡ twoBlocks) ⌝ }
     ensures { λ _. ⌜ now (rec .exit) ≡ withSlots gcr2 (separatingHistory k) n (now (rec .entry)) ⌝ }
 {
+    let ed = layout::GCR2;
+    let words = ed.row;
+    let mut at: usize = 512;
     for e in 0..n {
-        writer::put_slot(rec, 512 + 64 * e, slot(k, e));
+        let x = row(k, e);
+        let mut sees = [0u64; layout::ROW];
+        sees[0] = x[9] as u64;
+        writer::put_slot(rec, at, slot(x), &sees[0..words]);
+        at = layout::next_slot(ed, at);
     }
 }
 
 // Record k, of two sites.
 pub fn write(k: usize, rec: &mut [u8])
-    requires { ⌜ (1 ≤ k) × (k ≤ 8) × (length (now rec) ≡ 1024) ⌝ }
+    requires { ⌜ (1 ≤ k) × (k ≤ 8) × (length (now rec) ≡ twoBlocks) ⌝ }
     ensures { λ _. ⌜ now (rec .exit) ≡ separatingBytes k ⌝ }
 {
+    let ed = layout::GCR2;
     let n = count(k);
     let openings = [0u8; 132];
-    writer::clear(rec, 1024);
-    writer::header(rec, n, 2);
-    writer::terms(rec, 0, &openings);
+    writer::clear(rec, LENGTH);
+    writer::header(rec, ed, n, 2);
+    writer::terms(rec, ed, 0, &openings);
     put_slots(k, n, rec);
     writer::seal(rec, 2);
 }

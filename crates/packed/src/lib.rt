@@ -3,12 +3,19 @@ ghost use mathlib.Core.Path.{_≡_};
 ghost use Prim.Native.Nat.{_^_, _<_};
 ghost use Rattle.packed.specs.Packed.{packedBreak, packedRefusal};
 
+// The parts of a number are below the first of these; the numbers of breaks are from the second on, those of refusals from the third on.
+pub const PLACES: u64 = 1024;
+
+pub const BROKEN_FROM: u64 = 1048576;
+
+pub const REFUSED_FROM: u64 = 2097152;
+
 // A break at the pair (a, b).
 pub fn broken(a: usize, b: usize) -> u64
     requires { ⌜ packedBreak a b < 2 ^ 32 ⌝ }
     ensures { λ r. ⌜ r ≡ packedBreak a b ⌝ }
 {
-    1048576 + 1024 * a as u64 + b as u64
+    BROKEN_FROM + PLACES * a as u64 + b as u64
 }
 
 // A refusal by a question's number, at a place.
@@ -16,5 +23,5 @@ pub fn refusal(number: usize, place: usize) -> u64
     requires { ⌜ packedRefusal number place < 2 ^ 32 ⌝ }
     ensures { λ r. ⌜ r ≡ packedRefusal number place ⌝ }
 {
-    2097152 + 1024 * number as u64 + place as u64
+    REFUSED_FROM + PLACES * number as u64 + place as u64
 }

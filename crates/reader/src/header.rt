@@ -1,11 +1,12 @@
 // Questions 3 and 5: the record's length and block 0.
+use record::Edition;
 use record::layout;
 use record::openings;
 use rows::octets;
 ghost use mathlib.Core.Path.{_≡_};
 ghost use Prim.Native.Nat.{_≤_};
 ghost use lib.ListN.{length, take};
-ghost use Rattle.record.specs.Layout.{editionOf, countIn, sitesIn, same};
+ghost use Rattle.record.specs.Layout.{Layout, editionOf, numbersOf, countIn, sitesIn, same};
 ghost use Rattle.record.specs.Questions.{lengthRight, termsRight, headerRight};
 
 pub fn length_holds(s: &[u8]) -> bool
@@ -36,7 +37,7 @@ fn sites(s: &[u8]) -> usize
 }
 
 fn has_letters(s: &[u8], letters: [u8; 4]) -> bool
-    requires { ⌜ 512 ≤ length (now s) ⌝ }
+    requires { ⌜ 4 ≤ length (now s) ⌝ }
     ensures { λ r. ⌜ r ≡ same (take 4 (now (s .entry))) letters ⌝ }
 {
     if s[0] != letters[0] {
@@ -51,23 +52,27 @@ fn has_letters(s: &[u8], letters: [u8; 4]) -> bool
     s[3] == letters[3]
 }
 
-// Whether the letters are an edition's.
-fn is_edition(s: &[u8]) -> bool
-    requires { ⌜ 512 ≤ length (now s) ⌝ }
-    ensures { λ r. ⌜ r ≡ same (take 4 (now (s .entry))) (editionOf (now (s .entry)) .letters) ⌝ }
+// The edition that a record's letters name.
+pub fn edition(s: &[u8]) -> Edition
+    ensures { λ r. ⌜ r ≡ numbersOf (editionOf (now (s .entry))) ⌝ }
 {
-    if has_letters(s, layout::GCR2) {
-        return true;
+    if s.len() < 4 {
+        return layout::GCR1;
     }
-    has_letters(s, layout::GCR1)
+    let second = layout::GCR2;
+    let letters = second.letters;
+    if has_letters(s, letters) {
+        return second;
+    }
+    layout::GCR1
 }
 
-// The bytes behind the sites.
-fn terms_hold(s: &[u8]) -> bool
+// The bytes behind the sites, where there are terms and where there are none.
+fn terms_hold(s: &[u8], terms: bool) -> bool
     requires { ⌜ 512 ≤ length (now s) ⌝ }
-    ensures { λ r. ⌜ r ≡ termsRight (editionOf (now (s .entry))) (now (s .entry)) ⌝ }
+    ensures { λ r. ⌜ ((L : Layout) → terms ≡ L .terms → r ≡ termsRight L (now (s .entry))) ⌝ }
 {
-    if !has_letters(s, layout::GCR2) {
+    if !terms {
         return layout::is_zero(s, 7, 501);
     }
     if !layout::is_zero(s, 7, 1) {
@@ -79,14 +84,15 @@ fn terms_hold(s: &[u8]) -> bool
     layout::is_zero(s, 144, 364)
 }
 
-pub fn header_holds(s: &[u8]) -> bool
+pub fn header_holds(s: &[u8], ed: Edition) -> bool
     requires { ⌜ 512 ≤ length (now s) ⌝ }
-    ensures { λ r. ⌜ r ≡ headerRight (editionOf (now (s .entry))) (now (s .entry)) ⌝ }
+    ensures { λ r. ⌜ ((L : Layout) → ed ≡ numbersOf L → r ≡ headerRight L (now (s .entry))) ⌝ }
 {
-    if !is_edition(s) {
+    let letters = ed.letters;
+    if !has_letters(s, letters) {
         return false;
     }
-    if 256 < count(s) {
+    if ed.events < count(s) {
         return false;
     }
     let sites = sites(s);
@@ -96,5 +102,5 @@ pub fn header_holds(s: &[u8]) -> bool
     if 8 < sites {
         return false;
     }
-    terms_hold(s)
+    terms_hold(s, ed.terms)
 }

@@ -1,20 +1,20 @@
 // Question 7: every slot as laid out.
-use super::header;
+use record::Edition;
 use record::layout;
 use rows::octets;
 ghost use mathlib.Core.Path.{_≡_};
 ghost use mathlib.Core.Bool.{not};
-ghost use Prim.Native.Nat.{ℕ, _+_, _*_, _-_, _/_, _≤_, _<_};
+ghost use Prim.Native.Nat.{ℕ, _+_, _*_, _/_, _≤_};
 ghost use lib.ListN.{length};
 ghost use Rattle.rows.specs.Lowest.{lowest};
-ghost use Rattle.record.specs.Layout.{editionOf, countIn, slotAt};
+ghost use Rattle.record.specs.Layout.{editionOf, numbersOf, countIn, slotAt};
 ghost use Rattle.record.specs.Slots.{placeRight, valueRight, timesRight, gapsRight, eventRight, tailRight, slotRight};
 ghost use Rattle.record.specs.Questions.{slotsIn};
 
 // Kind, site and state.
 fn place_holds(s: &[u8], at: usize) -> bool
     requires { ⌜ 512 ≤ at ⌝ }
-    requires { ⌜ at + 64 ≤ length (now s) ⌝ }
+    requires { ⌜ at + 32 ≤ length (now s) ⌝ }
     ensures { λ r. ⌜ r ≡ placeRight (now (s .entry)) at ⌝ }
 {
     if 1 < s[at] {
@@ -27,7 +27,7 @@ fn place_holds(s: &[u8], at: usize) -> bool
 }
 
 fn value_holds(s: &[u8], at: usize) -> bool
-    requires { ⌜ at + 64 ≤ length (now s) ⌝ }
+    requires { ⌜ at + 32 ≤ length (now s) ⌝ }
     ensures { λ r. ⌜ r ≡ valueRight (now (s .entry)) at ⌝ }
 {
     if s[at + 8] == 0 {
@@ -46,7 +46,7 @@ fn value_holds(s: &[u8], at: usize) -> bool
 }
 
 fn times_hold(s: &[u8], at: usize) -> bool
-    requires { ⌜ at + 64 ≤ length (now s) ⌝ }
+    requires { ⌜ at + 32 ≤ length (now s) ⌝ }
     ensures { λ r. ⌜ r ≡ timesRight (now (s .entry)) at ⌝ }
 {
     let returned = octets::u64_at(s, at + 24);
@@ -57,7 +57,7 @@ fn times_hold(s: &[u8], at: usize) -> bool
 }
 
 fn gaps_hold(s: &[u8], at: usize) -> bool
-    requires { ⌜ at + 64 ≤ length (now s) ⌝ }
+    requires { ⌜ at + 32 ≤ length (now s) ⌝ }
     ensures { λ r. ⌜ r ≡ gapsRight (now (s .entry)) at ⌝ }
 {
     if s[at + 9] != 0 {
@@ -69,7 +69,7 @@ fn gaps_hold(s: &[u8], at: usize) -> bool
 // The slot of an event, its position and visible set aside.
 fn event_holds(s: &[u8], at: usize) -> bool
     requires { ⌜ 512 ≤ at ⌝ }
-    requires { ⌜ at + 64 ≤ length (now s) ⌝ }
+    requires { ⌜ at + 32 ≤ length (now s) ⌝ }
     ensures { λ r. ⌜ r ≡ eventRight (now (s .entry)) at ⌝ }
 {
     if !place_holds(s, at) {
@@ -84,23 +84,23 @@ fn event_holds(s: &[u8], at: usize) -> bool
     gaps_hold(s, at)
 }
 
-// The bytes after the last slot of a block, where the slot at `at` is that one: the next block starts 128 bytes on. After another slot that place is
-// 128 bytes or more into its block, so that one mask tells them apart.
-fn tail_holds(s: &[u8], at: usize) -> bool
-    requires { ⌜ at + 128 ≤ length (now s) ⌝ }
+// The bytes after the last slot of a block, where the slot at `at` is that one.
+fn tail_holds(s: &[u8], ed: Edition, at: usize) -> bool
+    requires { ⌜ ed ≡ numbersOf (editionOf (now s)) ⌝ }
+    requires { ⌜ 512 * (at / 512 + 1) ≤ length (now s) ⌝ }
     ensures { λ r. ⌜ ((e : ℕ) → at ≡ slotAt (editionOf (now (s .entry))) e → r ≡ tailRight (editionOf (now (s .entry))) (now (s .entry)) e) ⌝ }
 {
-    if 128 <= (at + 128) % 512 {
+    if (at + ed.rest) % 512 != 0 {
         return true;
     }
-    layout::is_zero(s, at + 64, 60)
+    layout::is_zero(s, at + ed.slot, ed.rest - ed.slot - 4)
 }
 
 // Slot e, which starts at `at`.
-fn slot_holds(s: &[u8], n: usize, e: usize, at: usize) -> bool
-    requires { ⌜ n ≡ countIn (now s) ⌝ }
+fn slot_holds(s: &[u8], ed: Edition, n: usize, e: usize, at: usize) -> bool
+    requires { ⌜ (n ≡ countIn (now s)) × (ed ≡ numbersOf (editionOf (now s))) ⌝ }
     requires { ⌜ at ≡ slotAt (editionOf (now s)) e ⌝ }
-    requires { ⌜ 512 * (1 + e / 7) + 512 ≤ length (now s) ⌝ }
+    requires { ⌜ 512 * (1 + e / editionOf (now s) .perBlock) + 512 ≤ length (now s) ⌝ }
     ensures { λ r. ⌜ r ≡ slotRight (editionOf (now (s .entry))) (now (s .entry)) e ⌝ }
 {
     if e < n {
@@ -108,26 +108,26 @@ fn slot_holds(s: &[u8], n: usize, e: usize, at: usize) -> bool
             return false;
         }
     } else {
-        if !layout::is_zero(s, at, 64) {
+        if !layout::is_zero(s, at, ed.slot) {
             return false;
         }
     }
-    tail_holds(s, at)
+    tail_holds(s, ed, at)
 }
 
 // The lowest slot that is not as laid out, or the number of slots.
-pub fn wrong_slot(s: &[u8], n: usize) -> usize
-    requires { ⌜ n ≡ countIn (now s) ⌝ }
+pub fn wrong_slot(s: &[u8], ed: Edition, n: usize) -> usize
+    requires { ⌜ (n ≡ countIn (now s)) × (ed ≡ numbersOf (editionOf (now s))) ⌝ }
     requires { ⌜ 512 ≤ length (now s) ⌝ }
     ensures { λ r. ⌜ r ≡ lowest (slotsIn (editionOf (now (s .entry))) (now (s .entry))) (λ e. not (slotRight (editionOf (now (s .entry))) (now (s .entry)) e)) ⌝ }
 {
-    let slots = 7 * (s.len() / 512 - 1);
+    let slots = ed.slots * (s.len() / 512 - 1);
     let mut at: usize = 512;
     for e in 0..slots {
-        if !slot_holds(s, n, e, at) {
+        if !slot_holds(s, ed, n, e, at) {
             return e;
         }
-        at = layout::next_slot(at);
+        at = layout::next_slot(ed, at);
     }
     slots
 }

@@ -16,7 +16,7 @@ use Rattle.rows.proofs.LowestLaws.{none-some}
 use Rattle.rows.proofs.ReachLaws.{reaches-same}
 use Rattle.record.specs.declared.Reading.{Reading}
 use Rattle.record.specs.declared.Reading.the-variants.{Passed, WrongLength, WrongCheck, WrongHeader, WrongBlocks, WrongSlot, WrongPosition, WrongSet, OnRing}
-use Rattle.record.specs.Layout.{Layout, edition, gcr2, editionOf, byte, countIn, sitesIn, slotAt, tailAt, zeros, same, longestRecord}
+use Rattle.record.specs.Layout.{Layout, EditionName, GCR2, edition, gcr2, editionOf, byte, countIn, sitesIn, slotAt, tailAt, zeros, same, longestRecord}
 use Rattle.record.specs.Terms.{none, openingIn, openingsRight, termsIn, SameTerms}
 use Rattle.record.specs.Blocks.{blockRight}
 use Rattle.record.specs.History.{History, historyOf, vis, Agree}
@@ -28,7 +28,8 @@ use Rattle.record.proofs.AskLaws.{ask-yes, each-yes}
 use Rattle.record.proofs.StoresLaws.{Stands, stands-head, stands-front, stands-back, Bytes}
 use Rattle.record.proofs.NumberBytes.{length-little, little-stands, zeros-stand, bit-is}
 use Rattle.record.proofs.OpeningLaws.{difference-back, opening-back, openings-pass}
-use Rattle.record.proofs.SoundLayout.{Sound, edition-sound, blocks-most}
+use Rattle.record.proofs.LayoutLaws.{letters-name}
+use Rattle.record.proofs.SoundLayout.{Sound, edition-sound, gcr2-sound, blocks-most}
 use Rattle.record.proofs.SlotImage.{Laid, slot-laid, event-laid}
 use Rattle.record.proofs.ImageLaws.{length-record, record-right, header-stands, terms-stand, openings-stand, slot-stands, header-rest, slot-empty, tail-empty, bytes-record}
 
@@ -276,10 +277,13 @@ encoded L ok sites h good = record {
   bytes = bytes-record L ok h sites good;
 }
 
--- a `GCR2`
-pub gcr2-encoded : (sites : ℕ) (h : History) → WellFormed gcr2 sites h → Encoded gcr2 sites h
-gcr2-encoded = encoded gcr2 (edition-sound true)
+-- its letters say of which edition it is
+pub edition-back : (e : EditionName) (sites : ℕ) (h : History) → WellFormed (edition e) sites h → editionOf (recordBytes (edition e) sites h) ≡ edition e
+edition-back e sites h good = letters-name e (recordBytes (edition e) sites h) (letters-yes (edition e) (edition-sound e) sites h good)
 
--- its letters say so
+-- of a `GCR2`
+pub gcr2-encoded : (sites : ℕ) (h : History) → WellFormed gcr2 sites h → Encoded gcr2 sites h
+gcr2-encoded = encoded gcr2 gcr2-sound
+
 pub gcr2-back : (sites : ℕ) (h : History) → WellFormed gcr2 sites h → editionOf (recordBytes gcr2 sites h) ≡ gcr2
-gcr2-back sites h good = ap edition (letters-yes gcr2 (edition-sound true) sites h good)
+gcr2-back = edition-back GCR2

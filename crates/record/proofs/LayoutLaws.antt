@@ -8,9 +8,9 @@ use native.Mathlib.Omega.{arith}
 use borrow.Author.Tests.{eqb-true, ne-eqb}
 use lib.Bits.{bitOr, or-zero-l, or-add-and, and-le-r}
 use lib.Dec.{eqb}
-use lib.ListN.{length, take}
-use Rattle.rows.proofs.Tests.{and-left, and-right}
-use Rattle.record.specs.Layout.{edition, gcr1, gcr2, editionOf, byte, zeros, same}
+use lib.ListN.{length, take, length-take}
+use Rattle.rows.proofs.Tests.{never, and-left, and-right}
+use Rattle.record.specs.Layout.{EditionName, GCR1, GCR2, edition, gcr1, gcr2, namedBy, editionOf, byte, zeros, same}
 
 -- ---- a loop's turn: `all` is the bytes passed, put together, and k - i are left
 
@@ -57,15 +57,6 @@ same-four s (a ∷ b ∷ c ∷ []) h k = absurd (omega arith)
 same-four s (a ∷ b ∷ c ∷ d ∷ []) h k = four s a b c d h
 same-four s (a ∷ b ∷ c ∷ d ∷ e ∷ l) h k = absurd (omega arith)
 
--- ---- which edition a record is of
-
--- its letters are those of `GCR2`, or else compared with those of `GCR1`
-pub second-edition : (s : List ℕ) → same (take 4 s) (gcr2 .letters) ≡ true → same (take 4 s) (editionOf s .letters) ≡ true
-second-edition s e = ap (λ (b : Bool). same (take 4 s) (edition b .letters)) e ∙ e
-
-pub first-edition : (s : List ℕ) → same (take 4 s) (gcr2 .letters) ≡ false → same (take 4 s) (editionOf s .letters) ≡ same (take 4 s) (gcr1 .letters)
-first-edition s e = ap (λ (b : Bool). same (take 4 s) (edition b .letters)) e
-
 -- two lists that are the same to a test are one
 pub same-one : (l m : List ℕ) → same l m ≡ true → l ≡ m
 unfolding same
@@ -75,7 +66,28 @@ same-one (x ∷ l) [] e = absurd (true≢false (sym e))
 same-one (x ∷ l) (y ∷ m) e =
     ap₂ (λ (a : ℕ) (r : List ℕ). a ∷ r) (eqb-true x y (and-left (eqb x y) (same l m) e)) (same-one l m (and-right (eqb x y) (same l m) e))
 
--- a `GCR1` is no `GCR2`
-pub one-edition : (s : List ℕ) → same (take 4 s) (gcr1 .letters) ≡ true → same (take 4 s) (gcr2 .letters) ≡ false
+-- ---- which edition a record is of
+
+-- each edition's letters name it
+named-back : (e : EditionName) → namedBy (edition e .letters) ≡ e
 unfolding same
-one-edition s e = ap (λ (l : List ℕ). same l (gcr2 .letters)) (same-one (take 4 s) (gcr1 .letters) e)
+named-back GCR1 = refl
+named-back GCR2 = refl
+
+pub letters-name : (e : EditionName) (s : List ℕ) → same (take 4 s) (edition e .letters) ≡ true → editionOf s ≡ edition e
+letters-name e s t = ap (λ (l : List ℕ). edition (namedBy l)) (same-one (take 4 s) (edition e .letters) t) ∙ ap edition (named-back e)
+
+-- records that begin with the same letters are of one edition
+pub same-letters : (s t : List ℕ) → take 4 s ≡ take 4 t → editionOf s ≡ editionOf t
+same-letters s t q = ap (λ (l : List ℕ). edition (namedBy l)) q
+
+-- fewer than four letters name none
+short-letters : (s letters : List ℕ) → length s < 4 → length letters ≡ 4 → same (take 4 s) letters ≡ false
+short-letters s letters h k = never (same (take 4 s) letters) (λ t. omega (arith, ap length (same-one (take 4 s) letters t), length-take 4 s))
+
+-- as the letters are compared: with those of `GCR2`, and where they are no other's it is a `GCR1`
+pub edition-first : (s : List ℕ) → same (take 4 s) (gcr2 .letters) ≡ false → editionOf s ≡ gcr1
+edition-first s t = rw t
+
+pub edition-short : (s : List ℕ) → length s < 4 → editionOf s ≡ gcr1
+edition-short s h = edition-first s (short-letters s (gcr2 .letters) h refl)

@@ -11,7 +11,7 @@ use Rattle.rows.specs.Lowest.{some}
 use Rattle.rows.specs.Relation.{reaches}
 use Rattle.rows.proofs.LowestLaws.{some-none}
 use Rattle.rows.proofs.Tests.{tell, or-elim, and-left, and-right}
-use Rattle.record.specs.Layout.{gcr2}
+use Rattle.record.specs.Layout.{gcr2, objectCount}
 use Rattle.record.specs.History.{History, vis}
 use Rattle.record.specs.Questions.{wrongPosition}
 use Rattle.record.specs.WellFormed.{WellFormedEvent, WellFormedTerms, WellFormed}
@@ -43,7 +43,7 @@ otherwise false y e f = e
 abbrev fieldTests : ℕ → History → ℕ → List Bool
 fieldTests sites h e =
     ltb (h .site e) sites
-    ∷ ltb (h .object e) 256
+    ∷ ltb (h .object e) objectCount
     ∷ ltb (h .value e) (2 ^ 32)
     ∷ (h .isPresent e || eqb (h .value e) 0)
     ∷ (not (h .isWrite e) || h .isPresent e)
@@ -59,7 +59,7 @@ well-formed-event sites h e right =
     let so : (k : ℕ) → getD (fieldTests sites h e) k true ≡ true = nth-true (fieldTests sites h e) right in
     record {
       site = ltb-true (h .site e) sites (so 0);
-      object = ltb-true (h .object e) 256 (so 1);
+      object = ltb-true (h .object e) objectCount (so 1);
       value = ltb-true (h .value e) (2 ^ 32) (so 2);
       absent = λ t. eqb-true (h .value e) 0 (otherwise (h .isPresent e) (eqb (h .value e) 0) (so 3) t);
       written = implied (h .isWrite e) (h .isPresent e) (so 4);
@@ -105,7 +105,7 @@ faulty sites es e = not (allTrue (eventTests sites es e))
 -- ---- all of them
 
 abbrev tests : ℕ → List Noted → List Bool
-tests sites es = leb 1 sites ∷ leb sites 8 ∷ leb (length es) 256 ∷ not (some (length es) (faulty sites es)) ∷ []
+tests sites es = leb 1 sites ∷ leb sites 8 ∷ leb (length es) (gcr2 .events) ∷ not (some (length es) (faulty sites es)) ∷ []
 
 unfoldable pub listedRight : ℕ → List Noted → Bool
 listedRight sites es = allTrue (tests sites es)
@@ -143,7 +143,7 @@ module _ (sites : ℕ) (es : List Noted) where
     listed-well-formed = record {
       least = leb-true 1 sites (overall 0);
       most = leb-true sites 8 (overall 1);
-      count = leb-true (length es) 256 (overall 2);
+      count = leb-true (length es) (gcr2 .events) (overall 2);
       terms = terms-right;
       event = λ e i. well-formed-event sites h e (each e i 0);
       position = λ e i. position-says h e (position-right e i) .0;

@@ -12,7 +12,7 @@ use Rattle.rows.specs.Relation.{Rel}
 use Rattle.rows.proofs.Tests.{and-left, and-right}
 use Rattle.record.specs.declared.Reading.{Reading}
 use Rattle.record.specs.declared.Reading.the-variants.{Passed, ShortWork, WrongLength, WrongCheck, WrongHeader, WrongBlocks, WrongSlot, WrongPosition, WrongSet, OnRing}
-use Rattle.record.specs.Layout.{Layout, gcr2, editionOf, byte, countIn, sitesIn, slotAt, zeros, same, longestRecord, workWords}
+use Rattle.record.specs.Layout.{Layout, byte, countIn, sitesIn, slotAt, zeros, same, longestRecord, workWords}
 use Rattle.record.specs.Terms.{openingsRight}
 use Rattle.record.specs.Blocks.{blockRight}
 use Rattle.record.specs.History.{historyOf, vis}
@@ -87,14 +87,14 @@ module _ (L : Layout) (s : List ℕ) where
   unfolding blocksRight
   blocks-no n q e = rw (← q) (ne-eqb (length s / 512) (1 + (n + (L .perBlock - 1)) / L .perBlock) e)
 
--- block 0 behind the sites, by the record's edition
-pub terms-first : (s : List ℕ) → same (take 4 s) (gcr2 .letters) ≡ false → termsRight (editionOf s) s ≡ zeros 501 s 7
-unfolding termsRight
-terms-first s e = ap (λ (b : Bool). cond b (zeros 1 s 7 && (openingsRight s 12 && zeros 364 s 144)) (zeros 501 s 7)) e
+  -- and of block 0 behind the sites, where there are terms and where there are none
+  pub terms-had : L .terms ≡ true → termsRight L s ≡ zeros 1 s 7 && (openingsRight s 12 && zeros 364 s 144)
+  unfolding termsRight
+  terms-had e = rw e
 
-pub terms-second : (s : List ℕ) → same (take 4 s) (gcr2 .letters) ≡ true → termsRight (editionOf s) s ≡ zeros 1 s 7 && (openingsRight s 12 && zeros 364 s 144)
-unfolding termsRight
-terms-second s e = ap (λ (b : Bool). cond b (zeros 1 s 7 && (openingsRight s 12 && zeros 364 s 144)) (zeros 501 s 7)) e
+  pub terms-lacked : L .terms ≡ false → termsRight L s ≡ zeros 501 s 7
+  unfolding termsRight
+  terms-lacked e = rw e
 
 -- ---- questions 3 to 8, from each on, with an answer `end` where all get a yes
 

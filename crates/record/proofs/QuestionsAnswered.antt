@@ -4,11 +4,13 @@ use mathlib.Core.Path.{_≡_, refl, sym, ap, _∙_, subst}
 use mathlib.Core.Logic.{_↔_}
 use mathlib.Core.Bool.{true, false, not}
 use mathlib.Core.List.{List, _++_}
-use Prim.Native.Nat.{ℕ, _+_, _*_, _<_, _≤_}
+use Prim.Native.Nat.{ℕ, _+_, _*_, _-_, _/_, _<_, _≤_}
+use native.Mathlib.Nat.{mul-le-mul-right}
 use native.Mathlib.Omega.{arith}
 use borrow.Author.Tests.{eq-eqb, ne-eqb, ltb-true}
 use lib.Dec.{ltb, leb}
 use lib.ListN.{length, length-append}
+use Rattle.packed.specs.Packed.{places, packedRefusal}
 use Rattle.rows.specs.Octets.{hasByte}
 use Rattle.rows.specs.Row.{rowAt}
 use Rattle.rows.specs.Relation.{Rel, reaches, Steps, Graph, Table}
@@ -31,7 +33,8 @@ use Rattle.record.proofs.WordsLaws.{visible-vis}
 use Rattle.record.proofs.PositionLaws.{position-says, positions-distinct}
 use Rattle.record.proofs.SetLaws.{set-inside}
 use Rattle.record.proofs.SlotWords.{vis-within}
-use Rattle.record.proofs.SoundLayout.{sound-of}
+use Rattle.record.proofs.SoundLayout.{sound-of, slots-few}
+use Rattle.record.proofs.PlaceLaws.{slot-there}
 use Rattle.record.proofs.AskLaws.{ask-yes, ask-no, ask-into, each-yes, each-first, ask-then, each-then}
 use Rattle.record.proofs.QuestionLaws.{blocksIn, length-says, header-says, terms-say, sites-say, slot-site, blocks-say, fromPositions, fromSlots, fromBlocks, fromHeader, fromChecks, fromLength, BytesAnswer, bytes-asked, bytes-answered, SetsAnswer, sets-answered}
 
@@ -207,7 +210,8 @@ module _ (s : List ℕ) (passed : questions (editionOf s) s ≡ Passed) where
   pub passed-site : (e : ℕ) → e < countIn s → historyOf (editionOf s) s .site e < 8
   unfolding historyOf
   passed-site e l =
-      omega (arith, sites-say (editionOf s) s (right .bytes .header), slot-site (editionOf s) s e l (right .bytes .slots e (omega (arith, passed-blocks))))
+      let there : e < slotsIn (editionOf s) s = slot-there (editionOf s) (sound-of s) n (length s / 512) e (blocks-say (editionOf s) s (right .bytes .blocks)) l in
+      omega (arith, sites-say (editionOf s) s (right .bytes .header), slot-site (editionOf s) s e l (right .bytes .slots e there))
 
   pub passed-position : (e : ℕ) → e < countIn s → historyOf (editionOf s) s .position e < countIn s
   unfolding historyOf
@@ -267,26 +271,27 @@ number-passed (WrongPosition k) e = absurd (omega arith)
 number-passed (WrongSet k) e = absurd (omega arith)
 number-passed (OnRing k) e = absurd (omega arith)
 
-pub place-small : (w : ℕ) (s : List ℕ) → placeOf (reading (editionOf s) w s) < 1024
+pub place-small : (w : ℕ) (s : List ℕ) → placeOf (reading (editionOf s) w s) < places
 unfolding reading
-place-small w s = ask-into (λ r. placeOf r < 1024) (leb workWords w) ShortWork (questions (editionOf s) s) (λ t. omega arith) (λ t. small (questions (editionOf s) s) (answered (editionOf s) s))
+place-small w s = ask-into (λ r. placeOf r < places) (leb workWords w) ShortWork (questions (editionOf s) s) (λ t. omega arith) (λ t. small (questions (editionOf s) s) (answered (editionOf s) s))
   where
-    small : (r : Reading) → Tells (editionOf s) s r → placeOf r < 1024
+    small : (r : Reading) → Tells (editionOf s) s r → placeOf r < places
     small Passed a = omega arith
     small ShortWork a = omega arith
     small WrongLength a = omega arith
     small (WrongCheck k) a = omega (arith, a .1 .within, length-says (editionOf s) s (a .0))
     small WrongHeader a = omega arith
     small WrongBlocks a = omega arith
-    small (WrongSlot e) a = omega (arith, a .4 .within, length-says (editionOf s) s (a .0))
-    small (WrongPosition e) a = omega (arith, a .5 .within, header-says (editionOf s) s (a .2))
-    small (WrongSet e) a = omega (arith, a .1 .within, header-says (editionOf s) s (a .0 .header))
-    small (OnRing e) a = omega (arith, a .2 .within, header-says (editionOf s) s (a .0 .header))
+    small (WrongSlot e) a =
+        omega (arith, a .4 .within, length-says (editionOf s) s (a .0), mul-le-mul-right {m = editionOf s .perBlock} {n = 15} (length s / 512 - 1) (slots-few (editionOf s) (sound-of s)))
+    small (WrongPosition e) a = omega (arith, a .5 .within, header-says (editionOf s) s (a .2), sound-of s .few)
+    small (WrongSet e) a = omega (arith, a .1 .within, header-says (editionOf s) s (a .0 .header), sound-of s .few)
+    small (OnRing e) a = omega (arith, a .2 .within, header-says (editionOf s) s (a .0 .header), sound-of s .few)
 
 pub packed-passed : (r : Reading) → numberOf r ≡ 0 → packedReading r ≡ 0
 unfolding packedReading
 packed-passed r e = rw (eq-eqb (numberOf r) 0 e)
 
-pub packed-refused : (r : Reading) → (numberOf r ≡ 0 → ⊥) → packedReading r ≡ 2097152 + 1024 * numberOf r + placeOf r
+pub packed-refused : (r : Reading) → (numberOf r ≡ 0 → ⊥) → packedReading r ≡ packedRefusal (numberOf r) (placeOf r)
 unfolding packedReading
 packed-refused r e = rw (ne-eqb (numberOf r) 0 e)

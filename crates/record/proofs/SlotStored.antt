@@ -1,15 +1,15 @@
--- A slot as eight words: two of its small fields, two of its times, and four of its visible set. Assumes nothing.
+-- A slot as words: two of its small fields, two of its times, and those of its visible set. Assumes nothing.
 use mathlib.Core.Path.{_≡_, refl, ap, _∙_}
 use mathlib.Core.List.{List, _∷_, _++_, append-assoc}
 use Prim.Native.Nat.{ℕ, _+_, _*_, _^_, _<_}
 use native.Mathlib.Omega.{arith}
-use lib.ListN.{replicate}
+use lib.ListN.{length, replicate}
 use lib.Seq.{sets}
 use Rattle.rows.specs.Row.{has}
 use Rattle.record.specs.declared.Slot.{Slot}
-use Rattle.record.specs.Layout.{gcr2}
+use Rattle.record.specs.Layout.{Layout}
 use Rattle.record.specs.History.{History}
-use Rattle.record.specs.Encode.{littleBytes, bit, setBytes, slotBytes, SlotOf}
+use Rattle.record.specs.Encode.{littleBytes, bit, setBytes, slotBytes, slotFrom, SlotOf}
 use Rattle.record.proofs.WordBytes.{little-bytes-join, little-bytes-cons, little-then, set-bytes-same}
 
 -- four bytes and a number of four bytes
@@ -35,41 +35,46 @@ second-word-bytes a x p q =
     ∙ ap (λ (y : ℕ). a ∷ 0 ∷ littleBytes 6 y) padded
     ∙ ap (λ (l : List ℕ). a ∷ 0 ∷ l) (little-bytes-join 2 4 x 0 (omega arith))
 
-module _ (h : History) (e : ℕ) (x : Slot) (of : SlotOf h e x) (v w : ℕ)
+-- the slot of an event, in an edition whose sets are as wide as the row
+pub slot-said : (L : Layout) (h : History) (e : ℕ) (x : Slot) (row : List ℕ) → SlotOf h e x row → length row ≡ L .row → slotFrom x row ≡ slotBytes L h e
+unfolding slotFrom slotBytes
+slot-said L h e x row of wide =
+    rw (
+      of .isWrite,
+      of .site,
+      of .object,
+      of .isPending,
+      of .value,
+      of .isPresent,
+      of .position,
+      of .start,
+      of .return,
+      ← wide,
+      set-bytes-same (8 * length row) (h .sees e) (has row) (λ b l. of .sees b (omega arith)),
+    )
+
+module _ (x : Slot) (row : List ℕ) (v w : ℕ)
     (first : littleBytes 8 v ≡ bit (x .write) ∷ x .site ∷ x .object ∷ bit (x .pending) ∷ littleBytes 4 (x .value))
     (second : littleBytes 8 w ≡ bit (x .present) ∷ 0 ∷ (littleBytes 2 (x .position) ++ replicate 4 0)) where
-  slot-words : littleBytes 8 v ++ (littleBytes 8 w ++ (littleBytes 8 (x .start) ++ (littleBytes 8 (x .returned) ++ setBytes 32 (has (x .sees))))) ≡ slotBytes gcr2 h e
-  unfolding slotBytes
-  slot-words =
-      rw (
-        first,
-        second,
-        append-assoc,
-        of .isWrite,
-        of .site,
-        of .object,
-        of .isPending,
-        of .value,
-        of .isPresent,
-        of .position,
-        of .start,
-        of .return,
-        set-bytes-same 32 (h .sees e) (has (x .sees)) (of .sees),
-      )
+  abbrev set : List ℕ
+  set = setBytes (8 * length row) (has row)
+
+  slot-words : littleBytes 8 v ++ (littleBytes 8 w ++ (littleBytes 8 (x .start) ++ (littleBytes 8 (x .returned) ++ set))) ≡ slotFrom x row
+  unfolding slotFrom
+  slot-words = rw (first, second, append-assoc)
 
   -- stored one after the other
   pub slot-stored : (s s₁ s₂ s₃ s₄ s₅ : List ℕ) (at : ℕ) → s₁ ≡ sets s at (littleBytes 8 v) → s₂ ≡ sets s₁ (at + 8) (littleBytes 8 w)
       → s₃ ≡ sets s₂ (at + 16) (littleBytes 8 (x .start)) → s₄ ≡ sets s₃ (at + 24) (littleBytes 8 (x .returned))
-      → s₅ ≡ sets s₄ (at + 32) (setBytes 32 (has (x .sees))) → s₅ ≡ sets s at (slotBytes gcr2 h e)
+      → s₅ ≡ sets s₄ (at + 32) (setBytes (8 * length row) (has row)) → s₅ ≡ sets s at (slotFrom x row)
   slot-stored s s₁ s₂ s₃ s₄ s₅ at e₁ e₂ e₃ e₄ e₅ =
-      let sees : List ℕ = setBytes 32 (has (x .sees)) in
-      let d : List ℕ = littleBytes 8 (x .returned) ++ sees in
+      let d : List ℕ = littleBytes 8 (x .returned) ++ set in
       let c : List ℕ = littleBytes 8 (x .start) ++ d in
       let b : List ℕ = littleBytes 8 w ++ c in
       little-then 8 v b s s₁ s₅ at (at + 8) e₁
       (little-then 8 w c s₁ s₂ s₅ (at + 8) (at + 16) e₂
       (little-then 8 (x .start) d s₂ s₃ s₅ (at + 16) (at + 24) e₃
-      (little-then 8 (x .returned) sees s₃ s₄ s₅ (at + 24) (at + 32) e₄ e₅ (omega arith))
+      (little-then 8 (x .returned) set s₃ s₄ s₅ (at + 24) (at + 32) e₄ e₅ (omega arith))
       (omega arith))
       (omega arith))
       refl

@@ -123,9 +123,9 @@ module _ (L : Layout) (s : List ℕ) where
   unfolding setRows rowsOf
   set-rows-none l = refl
 
-  -- a row of w words that was loaded from the slot at `at`
-  pub set-row-loaded : (e at w : ℕ) (m : List ℕ) → m ≡ words (L .row) s (at + 32) ++ replicate (w - L .row) 0 → w ≡ rowWords → at ≡ slotAt L e → m ≡ setRow L s e
-  set-row-loaded e at w m q wide here = q ∙ ap₂ (λ (p k : ℕ). words (L .row) s (p + 32) ++ replicate (k - L .row) 0) here wide
+  -- a row of w words, of which k were loaded from the slot at `at`
+  pub set-row-loaded : (e at w k : ℕ) (m : List ℕ) → m ≡ words k s (at + 32) ++ replicate (w - k) 0 → k ≡ L .row → w ≡ rowWords → at ≡ slotAt L e → m ≡ setRow L s e
+  set-row-loaded e at w k m q set wide here = q ∙ rw (set, wide, here)
 
   module _ (narrow : L .row ≤ rowWords) where
     pub set-row-sized : (e : ℕ) → length (setRow L s e) ≡ rowWords

@@ -1,7 +1,7 @@
 -- Numbers and sets as bytes, put together: of a number's parts, of a set's words, and in a list by one store after the other. Assumes nothing.
 use mathlib.Core.Path.{_≡_, refl, sym, ap, ap₂, _∙_, subst}
 use mathlib.Core.Bool.{Bool}
-use mathlib.Core.List.{List, [], _∷_, _++_, append-nil}
+use mathlib.Core.List.{List, _∷_, _++_}
 use Prim.Native.Nat.{ℕ, zero, suc, _+_, _*_, _/_, _%_, _^_, _<_}
 use native.Mathlib.Nat.{zero-add, suc-add, mul-assoc, pow-succ', mod-add-div, mod-lt, one-le-pow}
 use native.Mathlib.Numerals.{add-one}
@@ -17,7 +17,7 @@ use Rattle.rows.proofs.Digits.{digit-zero, digit-suc, one-bit, none-bit}
 use Rattle.rows.proofs.RowLaws.{has-word}
 use Rattle.record.specs.Encode.{littleBytes, bit, bits, setBytes}
 use Rattle.record.proofs.StoresLaws.{sets-then, Stands, stands-cons, Bytes}
-use Rattle.record.proofs.NumberBytes.{length-little}
+use Rattle.record.proofs.NumberBytes.{length-little, length-set-bytes}
 
 -- ---- numbers
 
@@ -145,41 +145,26 @@ module _ (s : List ℕ) (bytes : Bytes s) where
       (sym (set-bytes-same k (λ b. hasByte s at (8 + b)) (hasByte s (at + 1)) (λ b l. next-bytes at b)))
       (stands-cons s at (bits 8 (hasByte s at)) (setBytes k (hasByte s (at + 1))) (first-byte at) (set-read k (at + 1)))
 
--- the bytes of a row's w words from word i on
-abbrev pub wordBytes : ℕ → ℕ → List ℕ → List ℕ
-wordBytes zero i row = []
-wordBytes (suc w) i row = littleBytes 8 (getD row i 0) ++ wordBytes w (suc i) row
+-- ---- a row stored, word by word
 
-words-from : (w i : ℕ) (row : List ℕ) → setBytes (8 * w) (λ b. has row (i * 64 + b)) ≡ wordBytes w i row
+-- the bytes of i words, and of one more
+row-more : (row : List ℕ) (i : ℕ) → setBytes (8 * (i + 1)) (has row) ≡ setBytes (8 * i) (has row) ++ littleBytes 8 (getD row i 0)
+row-more row i =
+    let more : 8 * (i + 1) ≡ 8 * i + 8 = omega arith in
+    ap (λ (n : ℕ). setBytes n (has row)) more
+    ∙ set-bytes-join (8 * i) 8 (has row)
+    ∙ ap (λ (l : List ℕ). setBytes (8 * i) (has row) ++ l)
+    (set-bytes-same 8 (λ b. has row (8 * (8 * i) + b)) (bitOf (getD row i 0))
+    (λ b l. let place : 8 * (8 * i) + b ≡ i * 64 + b = omega arith in ap (has row) place ∙ has-word row i b l)
+    ∙ set-bytes-word 8 (getD row i 0))
+
+pub row-none : (row s : List ℕ) (at : ℕ) → s ≡ sets s at (setBytes (8 * 0) (has row))
 unfolding setBytes
-words-from zero i row = refl
-words-from (suc w) i row =
-    let f : ℕ → Bool = λ b. has row (i * 64 + b) in
-    let more : 8 * suc w ≡ 8 + 8 * w = omega arith in
-    ap (λ (n : ℕ). setBytes n f) more
-    ∙ set-bytes-join 8 (8 * w) f
-    ∙ ap₂ _++_
-    (set-bytes-same 8 f (bitOf (getD row i 0)) (λ b l. has-word row i b l) ∙ set-bytes-word 8 (getD row i 0))
-    (set-bytes-same (8 * w) (λ b. f (64 + b)) (λ b. has row (suc i * 64 + b))
-    (λ b l. let next : i * 64 + (64 + b) ≡ suc i * 64 + b = omega arith in ap (has row) next)
-    ∙ words-from w (suc i) row)
+row-none row s at = refl
 
-pub set-bytes-row : (w : ℕ) (row : List ℕ) → setBytes (8 * w) (has row) ≡ wordBytes w 0 row
-set-bytes-row w row =
-    set-bytes-same (8 * w) (has row) (λ b. has row (0 * 64 + b)) (λ b l. let here : b ≡ 0 * 64 + b = omega arith in ap (has row) here)
-    ∙ words-from w 0 row
-
--- a row stored as four words
-pub row-stored : (row s s₁ s₂ s₃ s₄ : List ℕ) (at : ℕ) → s₁ ≡ sets s at (littleBytes 8 (getD row 0 0)) → s₂ ≡ sets s₁ (at + 8) (littleBytes 8 (getD row 1 0))
-    → s₃ ≡ sets s₂ (at + 16) (littleBytes 8 (getD row 2 0)) → s₄ ≡ sets s₃ (at + 24) (littleBytes 8 (getD row 3 0)) → s₄ ≡ sets s at (setBytes 32 (has row))
-row-stored row s s₁ s₂ s₃ s₄ at e₁ e₂ e₃ e₄ =
-    let d : List ℕ = littleBytes 8 (getD row 3 0) in
-    let c : List ℕ = littleBytes 8 (getD row 2 0) ++ d in
-    let b : List ℕ = littleBytes 8 (getD row 1 0) ++ c in
-    let words : wordBytes 4 0 row ≡ littleBytes 8 (getD row 0 0) ++ b = rw append-nil in
-    little-then 8 (getD row 0 0) b s s₁ s₄ at (at + 8) e₁
-    (little-then 8 (getD row 1 0) c s₁ s₂ s₄ (at + 8) (at + 16) e₂
-    (little-then 8 (getD row 2 0) d s₂ s₃ s₄ (at + 16) (at + 24) e₃ e₄ (omega arith))
-    (omega arith))
-    refl
-    ∙ ap (sets s at) (sym (set-bytes-row 4 row ∙ words))
+pub row-stored : (row s l m : List ℕ) (at i : ℕ) → l ≡ sets s at (setBytes (8 * i) (has row)) → m ≡ sets l (at + 8 * i) (littleBytes 8 (getD row i 0))
+    → m ≡ sets s at (setBytes (8 * (i + 1)) (has row))
+row-stored row s l m at i e f =
+    sets-then (setBytes (8 * i) (has row)) (littleBytes 8 (getD row i 0)) s l m at (at + 8 * i) e f
+    (ap (λ (n : ℕ). at + n) (sym (length-set-bytes (8 * i) (has row))))
+    ∙ ap (sets s at) (sym (row-more row i))

@@ -16,7 +16,7 @@ use Rattle.rows.proofs.Tests.{split}
 use Rattle.rows.proofs.Digits.{bit-of-zero}
 use Rattle.rows.proofs.ByteLaws.{little-join, little-lt, getD-words, has-words}
 use Rattle.rows.proofs.TableLaws.{getD-row}
-use Rattle.record.specs.Layout.{Layout, editionOf, countIn, slotAt, zeros, mostEvents, rowWords}
+use Rattle.record.specs.Layout.{Layout, editionOf, countIn, slotAt, zeros, mostEvents, rowWords, headLength, termsLength}
 use Rattle.record.specs.Terms.{none, termsIn, SameTerms, openingIn}
 use Rattle.record.specs.History.{historyOf, under, vis, Agree}
 use Rattle.record.specs.Questions.{termsRight}
@@ -52,26 +52,26 @@ module _ (s : List ℕ) (bytes : Bytes s) where
 
   words-difference : differenceFrom (termsWords s) ≡ little 4 s 8
   unfolding termsWords
-  words-difference = ap (λ (x : ℕ). x % 4294967296) (getD-words 17 s 8 0 (omega arith)) ∙ little-low 4 4 8
+  words-difference = ap (λ (x : ℕ). x % 4294967296) (getD-words termsLength s 8 0 (omega arith)) ∙ little-low 4 4 8
 
   zeros-even : zeros 501 s 7 ≡ true → little 4 s 8 ≡ 0
   unfolding little
   zeros-even z = little-same 4 s [] 8 (λ j l. let place : 8 + j ≡ 7 + (1 + j) = omega arith in rw place (zeros-byte 501 s 7 (1 + j) z (omega arith)))
 
   -- the word in which object o's value stands
-  figure-word : (o : ℕ) → o < 32 → figureIn (words 17 s 8) o ≡ little 4 s (12 + 4 + 4 * o)
+  figure-word : (o : ℕ) → o < 32 → figureIn (words termsLength s 8) o ≡ little 4 s (12 + 4 + 4 * o)
   figure-word o l =
       let at : ℕ = 8 + 8 * (1 + o / 2) in
-      let found : getD (words 17 s 8) (1 + o / 2) 0 ≡ little 8 s at = getD-words 17 s 8 (1 + o / 2) (omega arith) in
+      let found : getD (words termsLength s 8) (1 + o / 2) 0 ≡ little 8 s at = getD-words termsLength s 8 (1 + o / 2) (omega arith) in
       split (eqb (o % 2) 0)
       (λ e. rw (e, found) (little-low 4 4 at ∙ ap (little 4 s) (omega (arith, eqb-true (o % 2) 0 e))))
       (λ e.
       let odd : o % 2 ≡ 0 → ⊥ = eqb-false (o % 2) 0 e in
       rw (e, found) (little-high 4 4 at ∙ ap (little 4 s) (omega arith)))
 
-  opening-bit : (o : ℕ) → o < 32 → has (words 17 s 8) (32 + o) ≡ hasByte s 12 o
+  opening-bit : (o : ℕ) → o < 32 → has (words termsLength s 8) (32 + o) ≡ hasByte s 12 o
   unfolding hasByte
-  opening-bit o l = has-words s bytes 17 8 (32 + o) (omega arith) ∙ ap₂ (λ (p i : ℕ). bitOf (getD s p 0) i) (omega arith) (omega arith)
+  opening-bit o l = has-words s bytes termsLength 8 (32 + o) (omega arith) ∙ ap₂ (λ (p i : ℕ). bitOf (getD s p 0) i) (omega arith) (omega arith)
 
   words-opening : (o : ℕ) → openingFrom (termsWords s) o ≡ openingIn s 12 o
   unfolding openingFrom openingIn termsWords
@@ -98,14 +98,14 @@ module _ (L : Layout) (s : List ℕ) (bytes : Bytes s) where
     l = headWords L s ++ tail
 
     -- word i of event e, which is word p of the list, from byte `at` of the record
-    module _ (i p at : ℕ) (k : i < 4) (q : p ≡ e * 4 + i) (here : slotAt L e + 8 * i ≡ at) where
+    module _ (i p at : ℕ) (k : i < headLength) (q : p ≡ e * headLength + i) (here : slotAt L e + 8 * i ≡ at) where
       word : getD (headWords L s ++ tail) p 0 ≡ little 8 s at
       unfolding headWords
       word =
           let same : slotAt L e + 0 + 8 * i ≡ at = omega arith in
-          ap (λ (x : ℕ). getD l x 0) q ∙ sym (getD-row l 4 e i k)
-          ∙ ap (λ (r : List ℕ). getD r i 0) (row-slot-words L 0 4 s (countIn s) e tail h)
-          ∙ getD-words 4 s (slotAt L e + 0) i k ∙ ap (little 8 s) same
+          ap (λ (x : ℕ). getD l x 0) q ∙ sym (getD-row l headLength e i k)
+          ∙ ap (λ (r : List ℕ). getD r i 0) (row-slot-words L 0 headLength s (countIn s) e tail h)
+          ∙ getD-words headLength s (slotAt L e + 0) i k ∙ ap (little 8 s) same
 
       first-byte : getD (headWords L s ++ tail) p 0 % 256 ≡ getD s at 0
       first-byte = ap (λ (x : ℕ). x % 256) word ∙ little-low s bytes 1 7 at ∙ little-one s bytes at
@@ -150,14 +150,14 @@ module _ (L : Layout) (s : List ℕ) (bytes : Bytes s) where
   words-agree-at narrow right tail rest = record {
     events = record {
       count = refl;
-      isWrite = λ e h. sym (ap (λ (x : ℕ). eqb x 1) (first-byte tail e h 0 (4 * e) (slotAt L e) (omega arith) (omega arith) (omega arith)));
-      site = λ e h. sym (byte-part tail e h 0 (4 * e) (slotAt L e) (omega arith) (omega arith) (omega arith) 1 6 refl);
-      object = λ e h. sym (byte-part tail e h 0 (4 * e) (slotAt L e) (omega arith) (omega arith) (omega arith) 2 5 refl);
-      isPending = λ e h. sym (ap (λ (x : ℕ). eqb x 1) (byte-part tail e h 0 (4 * e) (slotAt L e) (omega arith) (omega arith) (omega arith) 3 4 refl));
-      isPresent = λ e h. sym (ap (λ (x : ℕ). eqb x 1) (first-byte tail e h 1 (4 * e + 1) (slotAt L e + 8) (omega arith) (omega arith) (omega arith)));
-      value = λ e h. sym (ap (λ (x : ℕ). x / 4294967296) (word tail e h 0 (4 * e) (slotAt L e) (omega arith) (omega arith) (omega arith)) ∙ little-high s bytes 4 4 (slotAt L e));
-      position = λ e h. sym (part tail e h 1 (4 * e + 1) (slotAt L e + 8) (omega arith) (omega arith) (omega arith) 2 2 4 refl ∙ ap (little 2 s) (omega arith));
-      start = λ e h. sym (word tail e h 2 (4 * e + 2) (slotAt L e + 16) (omega arith) (omega arith) refl);
+      isWrite = λ e h. sym (ap (λ (x : ℕ). eqb x 1) (first-byte tail e h 0 (headLength * e) (slotAt L e) (omega arith) (omega arith) (omega arith)));
+      site = λ e h. sym (byte-part tail e h 0 (headLength * e) (slotAt L e) (omega arith) (omega arith) (omega arith) 1 6 refl);
+      object = λ e h. sym (byte-part tail e h 0 (headLength * e) (slotAt L e) (omega arith) (omega arith) (omega arith) 2 5 refl);
+      isPending = λ e h. sym (ap (λ (x : ℕ). eqb x 1) (byte-part tail e h 0 (headLength * e) (slotAt L e) (omega arith) (omega arith) (omega arith) 3 4 refl));
+      isPresent = λ e h. sym (ap (λ (x : ℕ). eqb x 1) (first-byte tail e h 1 (headLength * e + 1) (slotAt L e + 8) (omega arith) (omega arith) (omega arith)));
+      value = λ e h. sym (ap (λ (x : ℕ). x / 4294967296) (word tail e h 0 (headLength * e) (slotAt L e) (omega arith) (omega arith) (omega arith)) ∙ little-high s bytes 4 4 (slotAt L e));
+      position = λ e h. sym (part tail e h 1 (headLength * e + 1) (slotAt L e + 8) (omega arith) (omega arith) (omega arith) 2 2 4 refl ∙ ap (little 2 s) (omega arith));
+      start = λ e h. sym (word tail e h 2 (headLength * e + 2) (slotAt L e + 16) (omega arith) (omega arith) refl);
       return = λ e h p. returned e h;
       sees = λ e b h k. sym (visible-vis narrow rest b e h);
     };
@@ -165,8 +165,8 @@ module _ (L : Layout) (s : List ℕ) (bytes : Bytes s) where
     terms = terms-agree right;
   }
     where
-      returned : (e : ℕ) → e < countIn s → little 8 s (slotAt L e + 24) ≡ getD (headWords L s ++ tail) (4 * e + 3) 0
-      returned e h = sym (word tail e h 3 (4 * e + 3) (slotAt L e + 24) (omega arith) (omega arith) refl)
+      returned : (e : ℕ) → e < countIn s → little 8 s (slotAt L e + 24) ≡ getD (headWords L s ++ tail) (headLength * e + 3) 0
+      returned e h = sym (word tail e h 3 (headLength * e + 3) (slotAt L e + 24) (omega arith) (omega arith) refl)
 
 -- a record's words, whatever follows them, say what it says
 pub words-agree : (s : List ℕ) → Bytes s → termsRight (editionOf s) s ≡ true → (tail rest : List ℕ)

@@ -7,7 +7,7 @@ use native.Mathlib.Numerals.{add-one}
 use native.Mathlib.Omega.{arith}
 use lib.ListN.{drop-of-length-le, length-drop, length, getD, set, take, drop, replicate, length-replicate}
 use lib.Seq.{sets, sets-eq, ext-getD, drop-drop, take-length, length-take-le}
-use Rattle.record.specs.Layout.{Layout, gcr2, slotAt}
+use Rattle.record.specs.Layout.{Layout, slotAt}
 use Rattle.record.specs.Terms.{Terms, openingIn, openingsRight}
 use Rattle.record.specs.History.{History}
 use Rattle.record.specs.Encode.{littleBytes, slotBytes, blocksFor, headerBytes, openingBytes, termsBytes, withTerms, withSlots, sealed, unsealed, recordBytes}
@@ -19,13 +19,14 @@ use Rattle.record.proofs.SealLaws.{sealed-front}
 use Rattle.record.proofs.SoundLayout.{Sound, slot-inside}
 use Rattle.record.proofs.ImageLaws.{slot-size, length-slots, length-header, length-blank, length-begun, length-unsealed}
 
--- block 0: the letters copied, the count stored, and then the sites
-pub header-stored : (letters s s₁ s₂ : List ℕ) (n sites : ℕ) → length letters ≡ 4 → 4 ≤ length s → s₁ ≡ letters ++ drop 4 s → s₂ ≡ sets s₁ 4 (littleBytes 2 n)
-    → set s₂ 6 sites ≡ sets s 0 (letters ++ (littleBytes 2 n ++ (sites ∷ [])))
-header-stored letters s s₁ s₂ n sites long fits e f =
+-- block 0: the letters copied from m, the count stored, and then the sites
+pub header-stored : (letters m s s₁ s₂ : List ℕ) (n sites : ℕ) → m ≡ letters → length letters ≡ 4 → 4 ≤ length s → s₁ ≡ take (length m) m ++ drop (length m) s
+    → s₂ ≡ sets s₁ 4 (littleBytes 2 n) → set s₂ 6 sites ≡ sets s 0 (letters ++ (littleBytes 2 n ++ (sites ∷ [])))
+header-stored letters m s s₁ s₂ n sites same long fits e f =
     let end : 0 + length letters ≡ 4 = omega arith in
     let copied : sets s 0 letters ≡ letters ++ drop 4 s = sets-eq letters s 0 (omega arith) ∙ ap (λ (k : ℕ). letters ++ drop k s) end in
-    sets-then letters (littleBytes 2 n ++ (sites ∷ [])) s s₁ (set s₂ 6 sites) 0 4 (e ∙ sym copied)
+    let put : s₁ ≡ letters ++ drop 4 s = e ∙ rw (same, take-length, long) in
+    sets-then letters (littleBytes 2 n ++ (sites ∷ [])) s s₁ (set s₂ 6 sites) 0 4 (put ∙ sym copied)
     (little-then 2 n (sites ∷ []) s₁ s₂ (set s₂ 6 sites) 4 6 f refl refl)
     (sym end)
 
@@ -52,13 +53,14 @@ openings-stored openings s d bytes long right room copied =
     ∙ ap (λ (r : List ℕ). take 12 s ++ (openings ++ r)) (sym (drop-drop 132 12 s)) ∙ ap (λ (r : List ℕ). take 12 s ++ (r ++ drop 132 (drop 12 s))) (sym e))
 
 -- behind a difference, which was stored from 8 on
-pub terms-stored : (openings s s₁ d : List ℕ) (difference : ℕ) → Bytes openings → length openings ≡ 132 → openingsRight openings 0 ≡ true → 144 ≤ length s₁
+pub terms-stored : (L : Layout) → L .terms ≡ true → (openings s s₁ d : List ℕ) (difference : ℕ) → Bytes openings → length openings ≡ 132 → openingsRight openings 0 ≡ true → 144 ≤ length s₁
     → s₁ ≡ sets s 8 (littleBytes 4 difference) → d ≡ take (length openings) openings ++ drop (length openings) (take 132 (drop 12 s₁))
-    → take 12 s₁ ++ (d ++ drop 132 (drop 12 s₁)) ≡ withTerms gcr2 (record { difference = difference; opening = openingIn openings 0 }) s
+    → take 12 s₁ ++ (d ++ drop 132 (drop 12 s₁)) ≡ withTerms L (record { difference = difference; opening = openingIn openings 0 }) s
 unfolding withTerms termsBytes
-terms-stored openings s s₁ d difference bytes long right room put copied =
-    little-then 4 difference (openingBytes (openingIn openings 0)) s s₁ (take 12 s₁ ++ (d ++ drop 132 (drop 12 s₁))) 8 12 put
-    (openings-stored openings s₁ d bytes long right room copied) refl
+terms-stored L had openings s s₁ d difference bytes long right room put copied =
+    rw had
+    (little-then 4 difference (openingBytes (openingIn openings 0)) s s₁ (take 12 s₁ ++ (d ++ drop 132 (drop 12 s₁))) 8 12 put
+    (openings-stored openings s₁ d bytes long right room copied) refl)
 
 terms-front : (L : Layout) (t : Terms) (p q : List ℕ) → 144 ≤ length p → withTerms L t (p ++ q) ≡ withTerms L t p ++ q
 unfolding withTerms

@@ -3,7 +3,7 @@ use mathlib.Core.Path.{_≡_}
 use mathlib.Core.Bool.{Bool, true, false, cond}
 use mathlib.Core.List.{List, [], _∷_, _++_}
 use Prim.Native.Nat.{ℕ, zero, suc, _+_, _*_, _-_, _/_, _%_, _<_}
-use lib.ListN.{replicate}
+use lib.ListN.{length, replicate}
 use lib.Seq.{sets}
 use Rattle.rows.specs.Row.{has}
 use Rattle.record.specs.declared.Slot.{Slot}
@@ -84,8 +84,18 @@ unsealed L sites h =
 unfoldable pub recordBytes : Layout → ℕ → History → List ℕ
 recordBytes L sites h = sealed (blocksFor L (h .count)) (unsealed L sites h)
 
--- x holds the fields of event e of h, and its visible set
-pub record SlotOf (h : History) (e : ℕ) (x : Slot) : Type 0 where
+-- ---- a slot from its fields and a row of words
+
+-- the slot with the fields x, and in its visible set the members of a row
+unfoldable pub slotFrom : Slot → List ℕ → List ℕ
+slotFrom x row =
+    bit (x .write) ∷ x .site ∷ x .object ∷ bit (x .pending) ∷
+    (littleBytes 4 (x .value) ++ (bit (x .present) ∷ 0 ∷
+    (littleBytes 2 (x .position) ++ (replicate 4 0 ++ (littleBytes 8 (x .start) ++ (littleBytes 8 (x .returned)
+    ++ setBytes (8 * length row) (has row)))))))
+
+-- these are event e's of h
+pub record SlotOf (h : History) (e : ℕ) (x : Slot) (row : List ℕ) : Type 0 where
   pub isWrite : h .isWrite e ≡ x .write
   pub site : h .site e ≡ x .site
   pub object : h .object e ≡ x .object
@@ -95,4 +105,4 @@ pub record SlotOf (h : History) (e : ℕ) (x : Slot) : Type 0 where
   pub position : h .position e ≡ x .position
   pub start : h .start e ≡ x .start
   pub return : h .return e ≡ x .returned
-  pub sees : (b : ℕ) → b < 256 → h .sees e b ≡ has (x .sees) b
+  pub sees : (b : ℕ) → b < 64 * length row → h .sees e b ≡ has row b

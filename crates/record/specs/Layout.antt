@@ -1,13 +1,14 @@
 -- Where things stand in a record ('The record'). An edition is a value of Layout, which has the numbers by which editions may differ. Those that they share
 -- stand where they are used: block 0's fields here, in Terms, Questions and Encode, the first 32 bytes of a slot in History, Slots, Words and Encode, a block's
--- check in Blocks and Encode. The house's own numbers, which hold whatever a record's edition is, stand at the end. The code has them as constants; its contracts
--- hold them to these.
+-- check in Blocks and Encode. The house's own numbers, which hold whatever a record's edition is, and a few of the shared ones that have names stand at the end.
+-- The code has all these as constants, an edition's as a value of the struct Edition; its contracts hold them to these.
 use mathlib.Core.Bool.{Bool, true, false, cond, _&&_}
 use mathlib.Core.List.{List, [], _∷_}
 use Prim.Native.Nat.{ℕ, zero, suc, _+_, _*_, _-_, _/_, _%_}
 use lib.Dec.{eqb}
 use lib.ListN.{getD, take}
 use Rattle.rows.specs.Octets.{little}
+use Rattle.record.specs.declared.Edition.{Edition}
 
 pub record Layout : Type 0 where
   -- the four letters that begin block 0
@@ -22,16 +23,20 @@ pub record Layout : Type 0 where
   -- whether block 0 has terms: a difference of clocks, and openings
   pub terms : Bool
 
--- the editions, which differ in their letters and in whether they have terms
-abbrev pub edition : Bool → Layout
-edition termed = record { letters = 71 ∷ 67 ∷ 82 ∷ cond termed 50 49 ∷ []; slot = 64; perBlock = 7; row = 4; events = 256; terms = termed }
+-- the editions that there are, by name, and each one's layout
+pub data EditionName : Type 0 where
+  GCR1 : EditionName
+  GCR2 : EditionName
 
--- `GCR1`, and `GCR2`
+abbrev pub edition : EditionName → Layout
+edition GCR1 = record { letters = 71 ∷ 67 ∷ 82 ∷ 49 ∷ []; slot = 64; perBlock = 7; row = 4; events = 256; terms = false }
+edition GCR2 = record { letters = 71 ∷ 67 ∷ 82 ∷ 50 ∷ []; slot = 64; perBlock = 7; row = 4; events = 256; terms = true }
+
 abbrev pub gcr1 : Layout
-gcr1 = edition false
+gcr1 = edition GCR1
 
 abbrev pub gcr2 : Layout
-gcr2 = edition true
+gcr2 = edition GCR2
 
 abbrev pub byte : List ℕ → ℕ → ℕ
 byte s at = getD s at 0
@@ -67,9 +72,24 @@ same [] (y ∷ m) = false
 same (x ∷ l) [] = false
 same (x ∷ l) (y ∷ m) = eqb x y && same l m
 
--- the edition of a record, by its letters: `GCR2`, or else `GCR1`, of which question 5 asks whether the letters are its own
+-- the edition that four letters name; those of none are taken for `GCR1`, and question 5 asks whether they are its own
+abbrev pub namedBy : List ℕ → EditionName
+namedBy letters = cond (same letters (gcr2 .letters)) GCR2 GCR1
+
 abbrev pub editionOf : List ℕ → Layout
-editionOf s = edition (same (take 4 s) (gcr2 .letters))
+editionOf s = edition (namedBy (take 4 s))
+
+-- a layout as the code has it: with the bytes from the start of a block's last slot to the next block
+abbrev pub numbersOf : Layout → Edition
+numbersOf L = record {
+  letters = L .letters;
+  slot = L .slot;
+  rest = 512 - L .slot * (L .perBlock - 1);
+  slots = L .perBlock;
+  row = L .row;
+  events = L .events;
+  terms = L .terms;
+}
 
 -- ---- the house's numbers
 
@@ -87,6 +107,22 @@ rowWords = 4
 abbrev pub workWords : ℕ
 workWords = mostEvents * rowWords
 
--- words of block 0's terms
+-- the edition in which a store leaves its record
+abbrev pub storeEdition : EditionName
+storeEdition = GCR2
+
+abbrev pub storeLayout : Layout
+storeLayout = edition storeEdition
+
+-- ---- numbers that all editions share
+
+-- the objects
+abbrev pub objectCount : ℕ
+objectCount = 256
+
+-- words of an event's fields, the first 32 bytes of its slot, and of block 0's terms
+abbrev pub headLength : ℕ
+headLength = 4
+
 abbrev pub termsLength : ℕ
 termsLength = 17

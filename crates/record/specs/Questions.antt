@@ -4,6 +4,7 @@ use mathlib.Core.List.{List}
 use Prim.Native.Nat.{ℕ, _+_, _*_, _-_, _/_, _%_}
 use lib.Dec.{eqb, leb}
 use lib.ListN.{length, take}
+use Rattle.packed.specs.Packed.{packedRefusal}
 use Rattle.rows.specs.Lowest.{lowest, some}
 use Rattle.rows.specs.Relation.{Rel, reaches}
 use Rattle.record.specs.Layout.{Layout, countIn, sitesIn, zeros, same, longestRecord, workWords}
@@ -107,6 +108,6 @@ questions L s = andThen (byteQuestions L s) (setQuestions L (countIn s) (vis (hi
 unfoldable pub reading : Layout → ℕ → List ℕ → Reading
 reading L w s = ask (leb workWords w) ShortWork (questions L s)
 
--- a reading as a host's number: 0 passed, 2,097,152 + 1,024 × number + place refused
+-- a reading as a host's number: 0 where it passed
 unfoldable pub packedReading : Reading → ℕ
-packedReading r = cond (eqb (numberOf r) 0) 0 (2097152 + 1024 * numberOf r + placeOf r)
+packedReading r = cond (eqb (numberOf r) 0) 0 (packedRefusal (numberOf r) (placeOf r))

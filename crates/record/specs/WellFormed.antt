@@ -3,14 +3,14 @@ use mathlib.Core.Path.{_≡_}
 use mathlib.Core.Bool.{true, false}
 use Prim.Native.Nat.{ℕ, _^_, _<_, _≤_}
 use Rattle.rows.specs.Relation.{reaches}
-use Rattle.record.specs.Layout.{Layout}
+use Rattle.record.specs.Layout.{Layout, objectCount}
 use Rattle.record.specs.Terms.{none, valueOr0, Terms}
 use Rattle.record.specs.History.{History, vis}
 
 -- the fields of event e
 pub record WellFormedEvent (sites : ℕ) (h : History) (e : ℕ) : Type 0 where
   pub site : h .site e < sites
-  pub object : h .object e < 256
+  pub object : h .object e < objectCount
   pub value : h .value e < 2 ^ 32
   pub absent : h .isPresent e ≡ false → h .value e ≡ 0
   pub written : h .isWrite e ≡ true → h .isPresent e ≡ true

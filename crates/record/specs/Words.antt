@@ -6,7 +6,7 @@ use lib.Dec.{eqb, ltb}
 use lib.ListN.{getD, drop, replicate}
 use Rattle.rows.specs.Octets.{words}
 use Rattle.rows.specs.Row.{has, rowAt}
-use Rattle.record.specs.Layout.{Layout, slotAt, countIn, mostEvents, rowWords, workWords, termsLength}
+use Rattle.record.specs.Layout.{Layout, slotAt, countIn, mostEvents, rowWords, workWords, headLength, termsLength}
 use Rattle.record.specs.Terms.{Held, none, value, Terms, bare}
 use Rattle.record.specs.History.{History}
 
@@ -38,39 +38,39 @@ workAfter L number s work =
     cond (eqb number 0) (visibleWords L s ++ drop workWords work)
     (cond (ltb number 3) work (replicate workWords 0 ++ drop workWords work))
 
--- the other 32 bytes of a slot, as four words an event
+-- the other 32 bytes of a slot, as words: a head for each event
 unfoldable pub headWords : Layout → List ℕ → List ℕ
-headWords L s = slotWords L 0 4 s (countIn s)
+headWords L s = slotWords L 0 headLength s (countIn s)
 
--- the fields of event e in its four words
+-- the fields of event e in its head
 abbrev pub isWriteIn : List ℕ → ℕ → Bool
-isWriteIn l e = eqb (getD l (4 * e) 0 % 256) 1
+isWriteIn l e = eqb (getD l (headLength * e) 0 % 256) 1
 
 abbrev pub siteIn : List ℕ → ℕ → ℕ
-siteIn l e = getD l (4 * e) 0 / 256 % 256
+siteIn l e = getD l (headLength * e) 0 / 256 % 256
 
 abbrev pub objectIn : List ℕ → ℕ → ℕ
-objectIn l e = getD l (4 * e) 0 / 65536 % 256
+objectIn l e = getD l (headLength * e) 0 / 65536 % 256
 
 abbrev pub isPendingIn : List ℕ → ℕ → Bool
-isPendingIn l e = eqb (getD l (4 * e) 0 / 16777216 % 256) 1
+isPendingIn l e = eqb (getD l (headLength * e) 0 / 16777216 % 256) 1
 
 abbrev pub valueIn : List ℕ → ℕ → ℕ
-valueIn l e = getD l (4 * e) 0 / 4294967296
+valueIn l e = getD l (headLength * e) 0 / 4294967296
 
 abbrev pub isPresentIn : List ℕ → ℕ → Bool
-isPresentIn l e = eqb (getD l (4 * e + 1) 0 % 256) 1
+isPresentIn l e = eqb (getD l (headLength * e + 1) 0 % 256) 1
 
 abbrev pub positionIn : List ℕ → ℕ → ℕ
-positionIn l e = getD l (4 * e + 1) 0 / 65536 % 65536
+positionIn l e = getD l (headLength * e + 1) 0 / 65536 % 65536
 
 abbrev pub startIn : List ℕ → ℕ → ℕ
-startIn l e = getD l (4 * e + 2) 0
+startIn l e = getD l (headLength * e + 2) 0
 
 abbrev pub returnIn : List ℕ → ℕ → ℕ
-returnIn l e = getD l (4 * e + 3) 0
+returnIn l e = getD l (headLength * e + 3) 0
 
--- n events read from words: four words l an event, and w words v of the events visible to it; they tell no terms
+-- n events read from words: heads l, and for each event w words v of the events visible to it; they tell no terms
 unfoldable pub historyFrom : ℕ → ℕ → List ℕ → List ℕ → History
 historyFrom n w l v = record {
   count = n;
@@ -87,7 +87,7 @@ historyFrom n w l v = record {
   terms = bare;
 }
 
--- block 0 from byte 8 on, as 17 words
+-- block 0 from byte 8 on, as words
 unfoldable pub termsWords : List ℕ → List ℕ
 termsWords s = words termsLength s 8
 

@@ -1,14 +1,31 @@
 // Where things stand in a record.
+use super::Edition;
 ghost use mathlib.Core.Path.{_≡_};
-ghost use mathlib.Core.Bool.{Bool};
 ghost use Prim.Native.Nat.{_+_, _≤_, _<_, _^_};
 ghost use lib.ListN.{length};
-ghost use Rattle.record.specs.Layout.{edition, nextSlot, zeros};
+ghost use Rattle.record.specs.Layout.{Layout, numbersOf, nextSlot, zeros};
+ghost use Rattle.record.specs.Encode.{blocksFor};
 
-// The letters of the editions.
-pub const GCR1: [u8; 4] = *b"GCR1";
+// The editions.
+pub const GCR1: Edition = Edition {
+    letters: *b"GCR1",
+    slot: 64,
+    rest: 128,
+    slots: 7,
+    row: 4,
+    events: 256,
+    terms: false,
+};
 
-pub const GCR2: [u8; 4] = *b"GCR2";
+pub const GCR2: Edition = Edition {
+    letters: *b"GCR2",
+    slot: 64,
+    rest: 128,
+    slots: 7,
+    row: 4,
+    events: 256,
+    terms: true,
+};
 
 // The house's numbers, whatever a record's edition is: the most events, the bytes of the longest record, and words of 64 bits of a row of the work slice and of
 // the whole slice.
@@ -20,26 +37,36 @@ pub const ROW: usize = 4;
 
 pub const WORK: usize = EVENTS * ROW;
 
-// Words of a visible set, in the editions that there are.
-pub const SET: usize = 4;
+// The edition in which a store leaves its record.
+pub const STORE: Edition = GCR2;
 
-// Words of the fields of an event, of those of all events, and of the terms in block 0.
+// Whatever the edition: the objects; words of the fields of an event, of those of all events, and of the terms in block 0.
+pub const OBJECTS: usize = 256;
+
 pub const HEAD: usize = 4;
 
 pub const HEADS: usize = EVENTS * HEAD;
 
 pub const TERMS: usize = 17;
 
-// Where the slot after the one at `at` starts, in every edition: behind it, or 128 bytes on where the next block starts there, as it does after a block's last slot.
-pub fn next_slot(at: usize) -> usize
-    requires { ⌜ at + 128 < 2 ^ 64 ⌝ }
-    ensures { λ r. ⌜ ((termed : Bool) → r ≡ nextSlot (edition termed) at) ⌝ }
+// Where the slot after the one at `at` starts: behind it, or in the next block where it is its block's last.
+pub fn next_slot(ed: Edition, at: usize) -> usize
+    requires { ⌜ (at + 512 < 2 ^ 64) × (ed .slot ≤ 512) × (0 < ed .rest) × (ed .rest ≤ 512) ⌝ }
+    ensures { λ r. ⌜ ((L : Layout) → ed ≡ numbersOf L → r ≡ nextSlot L at) ⌝ }
 {
-    let block = at + 128;
+    let block = at + ed.rest;
     if block % 512 == 0 {
         return block;
     }
-    at + 64
+    at + ed.slot
+}
+
+// How many blocks a record of n events has.
+pub fn blocks(ed: Edition, n: usize) -> usize
+    requires { ⌜ (0 < ed .slots) × (n + ed .slots < 2 ^ 64) ⌝ }
+    ensures { λ r. ⌜ ((L : Layout) → ed ≡ numbersOf L → r ≡ blocksFor L n) ⌝ }
+{
+    1 + (n + (ed.slots - 1)) / ed.slots
 }
 
 // Whether the k bytes from `at` on are zero.

@@ -1,6 +1,7 @@
 // What grain position records are: their format and the questions asked of them in specs/, what follows from these in proofs/. The code has their types, and where things stand in a record.
 pub mod layout;
 pub mod openings;
+pub mod sums;
 
 ghost use mathlib.Core.Path.{_≡_};
 ghost use Rattle.record.specs.Questions.{numberOf, placeOf};
@@ -19,7 +20,19 @@ pub enum Reading {
     OnRing(usize),
 }
 
-// The fields of a slot, and its visible set.
+// The numbers by which editions differ: a record's four letters, the bytes of a slot, those from the start of a block's last slot to the next block, the slots
+// of a block, the words of a visible set, the most events, and whether block 0 has terms.
+pub struct Edition {
+    pub letters: [u8; 4],
+    pub slot: usize,
+    pub rest: usize,
+    pub slots: usize,
+    pub row: usize,
+    pub events: usize,
+    pub terms: bool,
+}
+
+// The fields of a slot; its visible set is a row beside it.
 pub struct Slot {
     pub write: bool,
     pub site: u8,
@@ -30,7 +43,6 @@ pub struct Slot {
     pub position: u16,
     pub start: u64,
     pub returned: u64,
-    pub sees: [u64; 4],
 }
 
 // The question that got a no, or 0.
@@ -51,6 +63,7 @@ pub fn number(r: Reading) -> usize
     }
 }
 
+// Its place.
 pub fn place(r: Reading) -> usize
     ensures { λ p. ⌜ p ≡ placeOf r ⌝ }
 {

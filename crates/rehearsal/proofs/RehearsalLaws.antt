@@ -12,16 +12,16 @@ use Rattle.rows.specs.Count.{sum, howMany}
 use Rattle.rows.specs.Row.{has, onlyFirst, rowAt}
 use Rattle.rows.proofs.Tests.{and-left, and-right}
 use Rattle.rows.proofs.CountLaws.{sum-same, many-same, many-past}
-use Rattle.record.specs.Layout.{gcr2, editionOf, byte, mostEvents, rowWords, longestRecord}
+use Rattle.record.specs.Layout.{storeEdition, storeLayout, editionOf, byte, mostEvents, rowWords, longestRecord}
 use Rattle.record.specs.Terms.{openingIn, openingsRight}
 use Rattle.record.specs.History.{History, under}
 use Rattle.record.specs.Encode.{littleBytes, blocksFor, openingBytes, termsBytes, recordBytes}
 use Rattle.record.proofs.StoresLaws.{stands-front, zero-at, Bytes}
-use Rattle.record.proofs.SoundLayout.{edition-sound}
+use Rattle.record.proofs.SoundLayout.{store-sound}
 use Rattle.record.proofs.ImageLaws.{length-record, terms-stand, openings-stand}
 use Rattle.record.proofs.OpeningLaws.{length-openings}
 use Rattle.record.proofs.WrittenLaws.{openings-again}
-use Rattle.record.proofs.EncodedPasses.{gcr2-back}
+use Rattle.record.proofs.EncodedPasses.{edition-back}
 use Rattle.store.specs.Store.{Site, Store, fresh}
 use Rattle.store.specs.Calls.{callsOf}
 use Rattle.record.specs.Questions.{ask}
@@ -100,15 +100,15 @@ module _ (n : ℕ) (n≤8 : n ≤ 8) (openings script out out′ : List ℕ) (z 
       ∙ ap (λ (m : ℕ). howMany m (lacks st u)) (sym (store-count (termsOf openings) z))))
 
   -- the record of the store that the slices stand for is the script's
-  pub record-right : storeRecord gcr2 n (termsOf openings) st ≡ recordOf n openings script
+  pub record-right : storeRecord storeLayout n (termsOf openings) st ≡ recordOf n openings script
   unfolding recordOf
-  record-right = ap (storeRecord gcr2 n (termsOf openings)) left
+  record-right = ap (storeRecord storeLayout n (termsOf openings)) left
 
-  pub record-long : length (recordOf n openings script) ≡ 512 * blocksFor gcr2 (countIn (z .cells))
+  pub record-long : length (recordOf n openings script) ≡ 512 * blocksFor storeLayout (countIn (z .cells))
   unfolding recordOf storeRecord recorded
   record-long =
-      length-record gcr2 (edition-sound true) (under (termsOf openings) (recorded (storeAfter n openings script))) n
-      ∙ ap (λ (k : ℕ). 512 * blocksFor gcr2 k) (ap (λ (s : Store). s .count) (sym left) ∙ store-count (termsOf openings) z)
+      length-record storeLayout store-sound (under (termsOf openings) (recorded (storeAfter n openings script))) n
+      ∙ ap (λ (k : ℕ). 512 * blocksFor storeLayout k) (ap (λ (s : Store). s .count) (sym left) ∙ store-count (termsOf openings) z)
 
 -- ---- questions 20 to 23 and 40
 
@@ -147,18 +147,18 @@ accepted n openings script rec ans e =
 
 -- its record is a `GCR2`, by its letters
 pub record-edition : (n : ℕ) (openings script rec ans : List ℕ) → rehearsalRefusal n openings script rec ans ≡ 0 → Bytes openings → Bytes script
-    → editionOf (recordOf n openings script) ≡ gcr2
+    → editionOf (recordOf n openings script) ≡ storeLayout
 unfolding recordOf storeRecord
 record-edition n openings script rec ans ok opens bytes =
     let right = accepted n openings script rec ans ok in
-    gcr2-back n (under (termsOf openings) (recorded (storeAfter n openings script))) (script-formed n (right .least) (right .most) openings script opens bytes)
+    edition-back storeEdition n (under (termsOf openings) (recorded (storeAfter n openings script))) (script-formed n (right .least) (right .most) openings script opens bytes)
 
 -- says that clocks don't differ
 pub record-clocks : (n : ℕ) (openings script : List ℕ) (j : ℕ) → j < 4 → byte (recordOf n openings script) (8 + j) ≡ 0
 unfolding recordOf storeRecord termsBytes littleBytes
 record-clocks n openings script j l =
     let h : History = under (termsOf openings) (recorded (storeAfter n openings script)) in
-    stands-front (recordBytes gcr2 n h) 8 (littleBytes 4 0) (openingBytes (openingIn openings 0)) (terms-stand gcr2 (edition-sound true) h n refl) j l
+    stands-front (recordBytes storeLayout n h) 8 (littleBytes 4 0) (openingBytes (openingIn openings 0)) (terms-stand storeLayout store-sound h n refl) j l
     ∙ zero-at 4 j
 
 -- and has the openings as they were lent
@@ -168,7 +168,7 @@ unfolding recordOf storeRecord
 record-opened n openings script rec ans ok opens j l =
     let right = accepted n openings script rec ans ok in
     let h : History = under (termsOf openings) (recorded (storeAfter n openings script)) in
-    openings-stand gcr2 (edition-sound true) h n refl j (omega (arith, length-openings (openingIn openings 0)))
+    openings-stand storeLayout store-sound h n refl j (omega (arith, length-openings (openingIn openings 0)))
     ∙ ap (λ (s : List ℕ). byte s j) (openings-again openings opens (right .opened) (right .right))
 
 -- ---- the demand
@@ -214,19 +214,19 @@ module _ (n : ℕ) (openings script rec ans : List ℕ) where
     script-told = every-copy-told n n≤8 (termsOf openings) script
 
     pub accepted-rehearses : (rec′ ans′ : List ℕ) (z : Lent) → Ran n (termsOf openings) script ans ans′ z → (long copies : ℕ)
-        → rec′ ≡ storeRecord gcr2 n (termsOf openings) (storeIn (termsOf openings) z) ++ drop (512 * blocksFor gcr2 (countIn (z .cells))) rec
-        → long ≡ 512 * blocksFor gcr2 (countIn (z .cells))
+        → rec′ ≡ storeRecord storeLayout n (termsOf openings) (storeIn (termsOf openings) z) ++ drop (512 * blocksFor storeLayout (countIn (z .cells))) rec
+        → long ≡ 512 * blocksFor storeLayout (countIn (z .cells))
         → copies ≡ sum n (λ u. howMany mostEvents (onlyFirst (putsIn (z .known)) (rowAt (z .known) rowWords u)))
         → Rehearses n openings script rec ans rec′ ans′ (record { number = 0; length = long; outstanding = copies })
     unfolding recordAfter answersAfter lengthAfter outstandingAfter
     accepted-rehearses rec′ ans′ z ran long copies recorded lasts left =
         let answered = ran .answered in
-        let same : storeRecord gcr2 n (termsOf openings) (storeIn (termsOf openings) z) ≡ recordOf n openings script = record-right n n≤8 openings script ans ans′ z ran in
-        let sized : length (recordOf n openings script) ≡ 512 * blocksFor gcr2 (countIn (z .cells)) = record-long n n≤8 openings script ans ans′ z ran in
+        let same : storeRecord storeLayout n (termsOf openings) (storeIn (termsOf openings) z) ≡ recordOf n openings script = record-right n n≤8 openings script ans ans′ z ran in
+        let sized : length (recordOf n openings script) ≡ 512 * blocksFor storeLayout (countIn (z .cells)) = record-long n n≤8 openings script ans ans′ z ran in
         let yes : eqb (rehearsalRefusal n openings script rec ans) 0 ≡ true = eq-eqb (rehearsalRefusal n openings script rec ans) 0 ok in
         let right = accepted n openings script rec ans ok in
-        let whole : rec′ ≡ recordOf n openings script ++ drop (512 * blocksFor gcr2 (countIn (z .cells))) rec =
-        recorded ∙ ap (λ (s : List ℕ). s ++ drop (512 * blocksFor gcr2 (countIn (z .cells))) rec) same in
+        let whole : rec′ ≡ recordOf n openings script ++ drop (512 * blocksFor storeLayout (countIn (z .cells))) rec =
+        recorded ∙ ap (λ (s : List ℕ). s ++ drop (512 * blocksFor storeLayout (countIn (z .cells))) rec) same in
         let long-right : length (recordOf n openings script) ≡ long = sized ∙ sym lasts in
         let rest : List ℕ = drop (length script) ans in
         let calls : length script ≡ 8 * callCount script = omega (arith, right .whole) in
@@ -238,9 +238,9 @@ module _ (n : ℕ) (openings script rec ans : List ℕ) where
           answered = rw yes answered;
           copies = rw yes counted;
           kept = λ some. absurd (some refl);
-          front = λ q. ap (take long) whole ∙ take-at (recordOf n openings script) (drop (512 * blocksFor gcr2 (countIn (z .cells))) rec) long long-right;
+          front = λ q. ap (take long) whole ∙ take-at (recordOf n openings script) (drop (512 * blocksFor storeLayout (countIn (z .cells))) rec) long long-right;
           beyond =
-              ap (drop long) whole ∙ drop-at (recordOf n openings script) (drop (512 * blocksFor gcr2 (countIn (z .cells))) rec) long long-right
+              ap (drop long) whole ∙ drop-at (recordOf n openings script) (drop (512 * blocksFor storeLayout (countIn (z .cells))) rec) long long-right
               ∙ ap (λ (i : ℕ). drop i rec) (sym lasts);
           edition = λ q. record-edition n openings script rec ans ok opens bytes;
           clocks = λ q. record-clocks n openings script;

@@ -8,10 +8,10 @@ use native.Mathlib.Omega.{arith}
 use lib.Dec.{eqb, leb}
 use lib.ListN.{length, drop, length-append}
 use borrow.Author.Tests.{eqb-true}
-use Rattle.record.specs.Layout.{gcr2, mostEvents, longestRecord}
+use Rattle.record.specs.Layout.{storeLayout, mostEvents, longestRecord}
 use Rattle.record.specs.Terms.{openingsRight}
 use Rattle.record.specs.History.{under}
-use Rattle.record.proofs.SoundLayout.{edition-sound}
+use Rattle.record.proofs.SoundLayout.{store-sound}
 use Rattle.record.proofs.ImageLaws.{length-record}
 use Rattle.store.specs.Store.{Store, fresh}
 use Rattle.store.specs.Calls.{callsOf}
@@ -59,7 +59,7 @@ module _ (n : ℕ) (openings script rec ans : List ℕ) where
 
   record-most : length (recordOf n openings script) ≤ longestRecord
   unfolding recordOf storeRecord recorded
-  record-most = omega (arith, length-record gcr2 (edition-sound true) (under (termsOf openings) (recorded (storeAfter n openings script))) n, store-few n openings script)
+  record-most = omega (arith, length-record storeLayout store-sound (under (termsOf openings) (recorded (storeAfter n openings script))) n, store-few n openings script)
 
   length-most : lengthAfter n openings script rec ans ≤ longestRecord
   unfolding lengthAfter

@@ -1,16 +1,15 @@
 // What the record says of an event.
 use calls::lent;
 use record::Slot;
-use record::layout;
 ghost use mathlib.Core.Path.{_≡_};
 ghost use Prim.Native.Nat.{_<_};
 ghost use Rattle.record.specs.Layout.{mostEvents};
 ghost use Rattle.rehearsal.specs.Runs.{slotFor};
 
-// Event k, with its word, a put or not, which sees the events of a row, at its position in ar. It starts at 2 × k and returns at 2 × k + 1; none is pending.
-pub fn slot(k: usize, word: u64, put: bool, sees: [u64; layout::SET], position: u16) -> Slot
+// Event k, with its word, a put or not, at its position in ar. It starts at 2 × k and returns at 2 × k + 1; none is pending.
+pub fn slot(k: usize, word: u64, put: bool, position: u16) -> Slot
     requires { ⌜ k < mostEvents ⌝ }
-    ensures { λ r. ⌜ r ≡ slotFor k word put sees position ⌝ }
+    ensures { λ r. ⌜ r ≡ slotFor k word put position ⌝ }
 {
     let present = lent::present(word);
     let mut value: u32 = 0;
@@ -27,6 +26,5 @@ pub fn slot(k: usize, word: u64, put: bool, sees: [u64; layout::SET], position: 
         position: position,
         start: 2 * k as u64,
         returned: 2 * k as u64 + 1,
-        sees: sees,
     }
 }

@@ -1,6 +1,7 @@
 // Rehearses a script: standard input has one byte, the sites, then 132 bytes of openings, and then the script. Writes the record, or `refused` with the question's number.
 use libc::STDIN_FILENO;
 use libc::STDOUT_FILENO;
+use record::layout;
 
 fn refused(number: usize) {
     io::write_all(STDOUT_FILENO, b"refused ");
@@ -43,7 +44,7 @@ fn main() {
     // One byte more than the sites, the openings and the longest script, so that a longer input is refused and not cut.
     let mut input = [0u8; 32902];
     let length = io::read_full(STDIN_FILENO, &mut input);
-    let mut rec = [0u8; 19456];
+    let mut rec = [0u8; layout::LONGEST];
     let mut answers = [0u8; 32768];
     answer(&input[..length], &mut rec, &mut answers);
 }

@@ -80,3 +80,9 @@ pub record RowPut (w c : ℕ) (m old new : List ℕ) : Type 0 where
   pub size : length new ≡ length old
   pub same : rowAt new w c ≡ m
   pub other : (d : ℕ) → (d ≡ c → ⊥) → rowAt new w d ≡ rowAt old w d
+
+-- row c became m, whatever else stands in the slice
+pub record RowChanged (w c : ℕ) (m old new : List ℕ) : Type 0 where
+  pub size : length new ≡ length old
+  pub same : rowAt new w c ≡ m
+  pub other : (d : ℕ) → (d ≡ c → ⊥) → rowAt new w d ≡ rowAt old w d

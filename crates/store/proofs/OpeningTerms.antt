@@ -4,13 +4,13 @@ use mathlib.Core.Bool.{true≢false}
 use mathlib.Core.List.{List}
 use Prim.Native.Nat.{ℕ}
 use native.Mathlib.Omega.{arith}
-use Rattle.record.specs.Layout.{gcr2}
+use Rattle.record.specs.Layout.{storeLayout}
 use Rattle.record.specs.WellFormed.{WellFormedTerms}
 use Rattle.record.proofs.StoresLaws.{Bytes}
 use Rattle.record.proofs.OpeningLaws.{opening-above, opening-small}
 use Rattle.store.specs.Rehearsal.{termsOf}
 
-pub openings-formed : (openings : List ℕ) → Bytes openings → WellFormedTerms gcr2 (termsOf openings)
+pub openings-formed : (openings : List ℕ) → Bytes openings → WellFormedTerms storeLayout (termsOf openings)
 openings-formed openings bytes = record {
   even = λ e. refl;
   difference = omega arith;

@@ -8,6 +8,7 @@ use native.Mathlib.Nat.{le-refl}
 use lib.Dec.{leb, ltb, eqb}
 use borrow.Author.Tests.{ltb-true, leb-true, le-leb, eqb-true, not-true}
 use Rattle.rows.proofs.Tests.{and-both, and-left, and-right}
+use Rattle.record.specs.Layout.{mostEvents}
 use Rattle.record.specs.Terms.{value, Terms}
 use Rattle.store.specs.Store.{cellValue, Store, fresh}
 use Rattle.store.specs.Calls.{Call, put, get, deliver, close, malformed}
@@ -46,18 +47,18 @@ reached-true (suc k) needs held h =
 pub record Doable (n : ℕ) (st : Store) (s o : ℕ) : Type 0 where
   pub site : s < n
   pub object : o ≤ 31
-  pub room : st .count < 256
+  pub room : st .count < mostEvents
 
-doable : (n : ℕ) (st : Store) (s o : ℕ) → ask {A = ℕ} (ltb s n) 32 (ask (leb o 31) 33 (ask (ltb (st .count) 256) 34 0)) ≡ 0 → Doable n st s o
+doable : (n : ℕ) (st : Store) (s o : ℕ) → ask {A = ℕ} (ltb s n) 32 (ask (leb o 31) 33 (ask (ltb (st .count) mostEvents) 34 0)) ≡ 0 → Doable n st s o
 doable n st s o r =
-    let q₃ : ℕ = ask (ltb (st .count) 256) 34 0 in
+    let q₃ : ℕ = ask (ltb (st .count) mostEvents) 34 0 in
     let q₂ : ℕ = ask (leb o 31) 33 q₃ in
     let r₂ : q₂ ≡ 0 = ask-next (ltb s n) 31 q₂ r in
     let r₃ : q₃ ≡ 0 = ask-next (leb o 31) 32 q₃ r₂ in
     record {
       site = ltb-true s n (ask-yes (ltb s n) 31 q₂ r);
       object = leb-true o 31 (ask-yes (leb o 31) 32 q₃ r₂);
-      room = ltb-true (st .count) 256 (ask-yes (ltb (st .count) 256) 33 0 r₃);
+      room = ltb-true (st .count) mostEvents (ask-yes (ltb (st .count) mostEvents) 33 0 r₃);
     }
 
 pub put-doable : (n : ℕ) (st : Store) (s o v : ℕ) → refusal n st (put s o v) ≡ 0 → Doable n st s o

@@ -9,7 +9,7 @@ use lib.ListN.{length}
 use Rattle.rows.specs.Octets.{little}
 use Rattle.rows.proofs.Tests.{split}
 use Rattle.rows.proofs.ByteLaws.{little-lt}
-use Rattle.record.specs.Layout.{byte}
+use Rattle.record.specs.Layout.{byte, mostEvents}
 use Rattle.record.specs.Terms.{Held, value, valueOr0, Terms}
 use Rattle.record.proofs.StoresLaws.{Bytes}
 use Rattle.store.specs.Store.{upd, Cell, untouched, full, cellValue, Event, Store, fresh}
@@ -29,7 +29,7 @@ one-more P st x h p e l =
 
 -- what questions 33 and 34 see to
 pub record Limits (st : Store) : Type 0 where
-  pub count : st .count ≤ 256
+  pub count : st .count ≤ mostEvents
   pub object : (e : ℕ) → e < st .count → st .event e .object ≤ 31
 
 effect-limits : (n : ℕ) (st : Store) → Limits st → (c : Call) → refusal n st c ≡ 0 → Limits (effect n st c)

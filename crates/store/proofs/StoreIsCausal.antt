@@ -10,7 +10,7 @@ use borrow.Author.Tests.{ltb-true, ltb-false, lt-ltb, eqb-true, eq-eqb, not-true
 use Rattle.rows.specs.Relation.{reaches, Steps, one, more}
 use Rattle.rows.proofs.Tests.{split, never, or-elim, and-both, and-left, and-right}
 use Rattle.rows.proofs.ReachLaws.{reaches-sound}
-use Rattle.record.specs.Layout.{gcr2}
+use Rattle.record.specs.Layout.{storeLayout}
 use Rattle.record.specs.Terms.{value, isValue, Terms}
 use Rattle.record.specs.History.{History, under, vis}
 use Rattle.record.proofs.OpeningLaws.{held-again, none-zero}
@@ -170,7 +170,7 @@ module _ (n : ℕ) (n≤8 : n ≤ 8) {T : Terms} (st : Store) (ok : StoreInv n T
 
   -- ---- what the questions ask
 
-  module _ (terms : WellFormedTerms gcr2 T) (limits : Limits st) (values : Values st) where
+  module _ (terms : WellFormedTerms storeLayout T) (limits : Limits st) (values : Values st) where
     event-formed : (e : ℕ) → e < st .count → WellFormedEvent n history e
     unfolding recorded
     event-formed e l = record {
@@ -186,7 +186,7 @@ module _ (n : ℕ) (n≤8 : n ≤ 8) {T : Terms} (st : Store) (ok : StoreInv n T
       returned = λ p. omega arith;
     }
 
-    pub well-formed : 1 ≤ n → WellFormed gcr2 n history
+    pub well-formed : 1 ≤ n → WellFormed storeLayout n history
     unfolding recorded
     well-formed least = record {
       least = least;
@@ -203,8 +203,8 @@ module _ (n : ℕ) (n≤8 : n ≤ 8) {T : Terms} (st : Store) (ok : StoreInv n T
 
 -- ---- for all terms, and every list of calls
 
-pub store-well-formed : (n : ℕ) → 1 ≤ n → n ≤ 8 → (T : Terms) → WellFormedTerms gcr2 T → (cs : List Call) → AllFit cs
-    → WellFormed gcr2 n (under T (recorded (run n (fresh T) cs)))
+pub store-well-formed : (n : ℕ) → 1 ≤ n → n ≤ 8 → (T : Terms) → WellFormedTerms storeLayout T → (cs : List Call) → AllFit cs
+    → WellFormed storeLayout n (under T (recorded (run n (fresh T) cs)))
 store-well-formed n least n≤8 T terms cs f =
     well-formed n n≤8 (run n (fresh T) cs) (every-run n n≤8 T cs) terms (every-limits n T cs) (every-values n n≤8 T (terms .value) cs f) least
 

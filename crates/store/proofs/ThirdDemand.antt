@@ -2,14 +2,15 @@
 use mathlib.Core.Path.{_≡_, sym, _∙_, subst}
 use mathlib.Core.List.{List}
 use Prim.Native.Nat.{ℕ, _≤_}
-use Rattle.record.specs.Layout.{Layout, gcr2, editionOf, countIn}
+use Rattle.record.specs.Layout.{Layout, storeEdition, storeLayout, editionOf, countIn}
 use Rattle.record.specs.History.{History, historyOf, under, vis}
 use Rattle.record.specs.Answers.{Passes}
 use Rattle.record.specs.Encode.{recordBytes}
 use Rattle.record.specs.WellFormed.{WellFormed}
 use Rattle.record.proofs.StoresLaws.{Bytes}
 use Rattle.record.proofs.QuestionsAnswered.{passed-right, ring-iff-steps}
-use Rattle.record.proofs.EncodedPasses.{gcr2-encoded, gcr2-back}
+use Rattle.record.proofs.EncodedPasses.{encoded, edition-back}
+use Rattle.record.proofs.SoundLayout.{store-sound}
 use Rattle.consistency.specs.Holds.{Holds}
 use Rattle.consistency.specs.declared.Predicate.{Predicate}
 use Rattle.consistency.specs.declared.Predicate.the-variants.{RVal, CausalVisibility, CausalArbitration}
@@ -27,21 +28,21 @@ use Rattle.store.proofs.StoreIsCausal.{store-well-formed, store-causal-
 use Rattle.store.proofs.OpeningTerms.{openings-formed}
 
 -- the record of a history of well-formed events is a `GCR2` by its letters, passes, and has what the history has
-module _ (n : ℕ) (h : History) (good : WellFormed gcr2 n h) where
+module _ (n : ℕ) (h : History) (good : WellFormed storeLayout n h) where
   abbrev s : List ℕ
-  s = recordBytes gcr2 n h
+  s = recordBytes storeLayout n h
 
-  back : gcr2 ≡ editionOf s
-  back = sym (gcr2-back n h good)
+  back : storeLayout ≡ editionOf s
+  back = sym (edition-back storeEdition n h good)
 
   record-passes : Passes (editionOf s) s
-  record-passes = subst (λ (L : Layout). Passes L s) back (passed-right gcr2 s (gcr2-encoded n h good .passes))
+  record-passes = subst (λ (L : Layout). Passes L s) back (passed-right storeLayout s (encoded storeLayout store-sound n h good .passes))
 
   holds-in-record : (p : Predicate) → Holds p h → Holds p (historyOf (editionOf s) s)
   holds-in-record p holds =
-      let r : History = historyOf gcr2 s in
+      let r : History = historyOf storeLayout s in
       subst (λ (L : Layout). Holds p (historyOf L s)) back
-      (met-holds p r (sym (verdict-same h r (gcr2-encoded n h good .agrees) p) ∙ holds-met p h (good .distinct) holds))
+      (met-holds p r (sym (verdict-same h r (encoded storeLayout store-sound n h good .agrees) p) ∙ holds-met p h (good .distinct) holds))
 
 -- ---- every list of calls that fit
 
@@ -50,13 +51,13 @@ module _ (n : ℕ) (least : 1 ≤ n) (most : n ≤ 8) (openings : List ℕ) (ope
   abbrev left : History
   left = under (termsOf openings) (recorded (run n (fresh (termsOf openings)) cs))
 
-  pub calls-formed : WellFormed gcr2 n (under (termsOf openings) (recorded (run n (fresh (termsOf openings)) cs)))
+  pub calls-formed : WellFormed storeLayout n (under (termsOf openings) (recorded (run n (fresh (termsOf openings)) cs)))
   calls-formed = store-well-formed n least most (termsOf openings) (openings-formed openings opens) cs fit
 
-  pub calls-demand : CausalRecord (storeRecord gcr2 n (termsOf openings) (run n (fresh (termsOf openings)) cs))
+  pub calls-demand : CausalRecord (storeRecord storeLayout n (termsOf openings) (run n (fresh (termsOf openings)) cs))
   unfolding storeRecord
   calls-demand =
-      let s : List ℕ = recordBytes gcr2 n left in
+      let s : List ℕ = recordBytes storeLayout n left in
       record {
         passes = record-passes n left calls-formed;
         visibility = holds-in-record n left calls-formed CausalVisibility (store-causal-visibility n most (termsOf openings) cs);
@@ -69,7 +70,7 @@ module _ (n : ℕ) (least : 1 ≤ n) (most : n ≤ 8) (openings : List ℕ) (ope
 -- ---- every script
 
 pub script-formed : (n : ℕ) → 1 ≤ n → n ≤ 8 → (openings script : List ℕ) → Bytes openings → Bytes script
-    → WellFormed gcr2 n (under (termsOf openings) (recorded (storeAfter n openings script)))
+    → WellFormed storeLayout n (under (termsOf openings) (recorded (storeAfter n openings script)))
 unfolding storeAfter
 script-formed n least most openings script opens bytes = calls-formed n least most openings opens (callsOf script) (calls-fit script bytes)
 

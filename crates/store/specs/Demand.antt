@@ -6,7 +6,7 @@ use mathlib.Core.List.{List, _∷_, _++_}
 use Prim.Native.Nat.{ℕ, _+_, _*_, _<_}
 use lib.ListN.{take, drop}
 use Rattle.rows.specs.Relation.{Steps}
-use Rattle.record.specs.Layout.{gcr2, editionOf, byte, countIn}
+use Rattle.record.specs.Layout.{storeLayout, editionOf, byte, countIn}
 use Rattle.record.specs.History.{historyOf, vis}
 use Rattle.record.specs.Questions.{onRing}
 use Rattle.record.specs.Answers.{Passes}
@@ -44,7 +44,7 @@ pub record Rehearses (n : ℕ) (openings script rec ans rec′ ans′ : List ℕ
   -- the record is the first bytes of its buffer as left, as many as the result's length; those beyond it stay
   pub front : r .number ≡ 0 → take (r .length) rec′ ≡ recordOf n openings script
   pub beyond : drop (r .length) rec′ ≡ drop (r .length) rec
-  pub edition : r .number ≡ 0 → editionOf (recordOf n openings script) ≡ gcr2
+  pub edition : r .number ≡ 0 → editionOf (recordOf n openings script) ≡ storeLayout
   pub clocks : r .number ≡ 0 → (j : ℕ) → j < 4 → byte (recordOf n openings script) (8 + j) ≡ 0
   pub opened : r .number ≡ 0 → (j : ℕ) → j < 132 → byte (recordOf n openings script) (12 + j) ≡ byte openings j
   pub causal : r .number ≡ 0 → CausalRecord (recordOf n openings script)

@@ -3,7 +3,7 @@ use mathlib.Core.Path.{_≡_}
 use mathlib.Core.List.{List, _++_}
 use Prim.Native.Nat.{ℕ, _*_, _/_, _<_}
 use lib.ListN.{length, drop}
-use Rattle.record.specs.Layout.{gcr2}
+use Rattle.record.specs.Layout.{storeLayout}
 use Rattle.store.specs.Store.{Store, fresh}
 use Rattle.store.specs.Calls.{Call, close}
 use Rattle.store.specs.Rules.{run}
@@ -28,7 +28,7 @@ unfoldable pub itemsStore : ℕ → List ℕ → List ℕ → Store
 itemsStore n openings script = run n (fresh (termsOf openings)) (remaining n (termsOf openings) (itemsOf script))
 
 unfoldable pub itemsRecord : ℕ → List ℕ → List ℕ → List ℕ
-itemsRecord n openings script = storeRecord gcr2 n (termsOf openings) (itemsStore n openings script)
+itemsRecord n openings script = storeRecord storeLayout n (termsOf openings) (itemsStore n openings script)
 
 -- the answers are those of every item; the record, the count and the account are about the calls that remain
 pub record RehearsesItems (n : ℕ) (openings script rec ans rec′ ans′ : List ℕ) (left : ℕ) : Type 0 where

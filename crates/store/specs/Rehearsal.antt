@@ -4,7 +4,7 @@ use mathlib.Core.List.{List, _++_}
 use Prim.Native.Nat.{ℕ, _*_, _/_, _%_}
 use lib.Dec.{eqb, leb}
 use lib.ListN.{length, take, drop}
-use Rattle.record.specs.Layout.{gcr2, longestRecord}
+use Rattle.record.specs.Layout.{storeLayout, longestRecord}
 use Rattle.record.specs.Terms.{Terms, openingIn, openingsRight}
 use Rattle.store.specs.Store.{Store, fresh}
 use Rattle.store.specs.Calls.{Call, callAt, callsFrom, callsOf}
@@ -46,7 +46,7 @@ answerIn ans k = take 8 (drop (8 * k) ans)
 
 -- its record is a `GCR2`, with the openings in block 0
 unfoldable pub recordOf : ℕ → List ℕ → List ℕ → List ℕ
-recordOf n openings script = storeRecord gcr2 n (termsOf openings) (storeAfter n openings script)
+recordOf n openings script = storeRecord storeLayout n (termsOf openings) (storeAfter n openings script)
 
 -- both buffers beyond what is written stay; a refusal changes neither
 unfoldable pub recordAfter : ℕ → List ℕ → List ℕ → List ℕ → List ℕ → List ℕ

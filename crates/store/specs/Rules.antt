@@ -4,6 +4,7 @@ use mathlib.Core.List.{List, [], _∷_, _++_}
 use Prim.Native.Nat.{ℕ, zero, suc, _+_, max}
 use lib.Dec.{leb, ltb, eqb}
 use lib.ListN.{replicate}
+use Rattle.record.specs.Layout.{mostEvents}
 use Rattle.record.specs.Questions.{ask}
 use Rattle.record.specs.Encode.{bit, littleBytes}
 use Rattle.record.specs.Terms.{Held, none, value, valueOr0}
@@ -17,8 +18,8 @@ reached (suc k) needs held = reached k needs held && leb (needs k) (held k)
 
 -- 0, or the number that refuses a call at n sites. There are eight counts; those of sites that aren't there stay 0
 unfoldable pub refusal : ℕ → Store → Call → ℕ
-refusal n st (put s o v) = ask (ltb s n) 32 (ask (leb o 31) 33 (ask (ltb (st .count) 256) 34 0))
-refusal n st (get s o) = ask (ltb s n) 32 (ask (leb o 31) 33 (ask (ltb (st .count) 256) 34 0))
+refusal n st (put s o v) = ask (ltb s n) 32 (ask (leb o 31) 33 (ask (ltb (st .count) mostEvents) 34 0))
+refusal n st (get s o) = ask (ltb s n) 32 (ask (leb o 31) 33 (ask (ltb (st .count) mostEvents) 34 0))
 refusal n st (deliver w t) =
     ask (ltb t n) 32
     (ask (ltb w (st .count) && st .event w .isPut) 33

@@ -13,27 +13,28 @@ use lib.Seq.{length-take-le, take-at, drop-at, drop-drop}
 use Rattle.rows.specs.Row.{has, insert, rowAt, Row, RowPut}
 use Rattle.rows.proofs.RowLaws.{length-insert, has-cleared, row-of, row-none, row-has, row-in, row-set, row-skip}
 use Rattle.rows.proofs.TableLaws.{row-room, length-row, has-row, row-within, has-row-cleared, row-insert-same, row-insert-other, row-front}
+use Rattle.record.specs.Layout.{objectCount}
 use Rattle.record.specs.Words.{objectIn, isWriteIn}
-use Rattle.events.specs.Given.{Groups}
+use Rattle.events.specs.Given.{groupRows, Groups}
 use Rattle.tables.proofs.LentLaws.{row-first, row-back}
 
 -- ---- a table whose row k has the events with key k, filled event by event
 
 abbrev pub KeyRows : ℕ → ℕ → (ℕ → ℕ) → List ℕ → Type 0
-KeyRows n w key g = (k : ℕ) → k < 256 → Row n (λ e. eqb (key e) k) (rowAt g w k)
+KeyRows n w key g = (k : ℕ) → k < objectCount → Row n (λ e. eqb (key e) k) (rowAt g w k)
 
 module _ (w : ℕ) (key : ℕ → ℕ) where
   pub keys-none : (m : ℕ) (g : List ℕ) → g ≡ replicate m 0 → KeyRows 0 w key g
   keys-none m g e k h x = rw e (has-row-cleared m w k x ∙ sym (ap (λ (t : Bool). t && eqb (key x) k) (le-ltb x 0 (omega arith))))
 
   -- event e is put into the row of its key k
-  pub keys-more : (e : ℕ) (g : List ℕ) (k : ℕ) (g' : List ℕ) → KeyRows e w key g → e < 64 * w → 256 * w ≤ length g → k ≡ key e → k < 256
+  pub keys-more : (e : ℕ) (g : List ℕ) (k : ℕ) (g' : List ℕ) → KeyRows e w key g → e < 64 * w → objectCount * w ≤ length g → k ≡ key e → k < objectCount
       → g' ≡ insert g (64 * (k * w) + e) → KeyRows (e + 1) w key g'
   keys-more e g k g' i h room q l p c b = elim (ℕ-discrete c k) [ yes s ↦ same s | no ne ↦ other ne ]
     where
       same : c ≡ k → Row (e + 1) (λ x. eqb (key x) c) (rowAt g' w c)
       same s = rw (p, s, row-insert-same g w k e h)
-          (row-set e (λ x. eqb (key x) k) (rowAt g w k) (i k l) (omega (arith, length-row g w k (row-room 256 w k (length g) l room))) (eq-eqb (key e) k (sym q)))
+          (row-set e (λ x. eqb (key x) k) (rowAt g w k) (i k l) (omega (arith, length-row g w k (row-room objectCount w k (length g) l room))) (eq-eqb (key e) k (sym q)))
 
       other : (c ≡ k → ⊥) → Row (e + 1) (λ x. eqb (key x) c) (rowAt g' w c)
       other ne = rw (p, row-insert-other g w k e h c ne)
@@ -92,48 +93,48 @@ kinds-of n w f writes reads every h r s t p q u = (
 -- ---- the groups, in two parts that are filled one after the other
 
 -- of empty rows for all groups, those for objects
-pub empty-front : (w : ℕ) → take {A = ℕ} (256 * w) (replicate (259 * w) 0) ≡ replicate (256 * w) 0
+pub empty-front : (w : ℕ) → take {A = ℕ} (objectCount * w) (replicate (groupRows * w) 0) ≡ replicate (objectCount * w) 0
 empty-front w =
-    let all : 259 * w ≡ 256 * w + 3 * w = omega arith in
-    ap (λ (k : ℕ). take {A = ℕ} (256 * w) (replicate k 0)) all ∙ ap (take {A = ℕ} (256 * w)) (sym (replicate-append-replicate (256 * w) (3 * w) 0))
-    ∙ take-at (replicate (256 * w) 0) (replicate (3 * w) 0) (256 * w) (length-replicate (256 * w) 0)
+    let all : groupRows * w ≡ objectCount * w + 3 * w = omega arith in
+    ap (λ (k : ℕ). take {A = ℕ} (objectCount * w) (replicate k 0)) all ∙ ap (take {A = ℕ} (objectCount * w)) (sym (replicate-append-replicate (objectCount * w) (3 * w) 0))
+    ∙ take-at (replicate (objectCount * w) 0) (replicate (3 * w) 0) (objectCount * w) (length-replicate (objectCount * w) 0)
 
-module _ (n w : ℕ) (l g m k : List ℕ) (room : 259 * w ≤ length g) (fits : length m ≡ length (take (256 * w) g))
-    (fits-next : length k ≡ length (take (259 * w - 256 * w) (drop (256 * w) (m ++ drop (256 * w) g)))) where
+module _ (n w : ℕ) (l g m k : List ℕ) (room : groupRows * w ≤ length g) (fits : length m ≡ length (take (objectCount * w) g))
+    (fits-next : length k ≡ length (take (groupRows * w - objectCount * w) (drop (objectCount * w) (m ++ drop (objectCount * w) g)))) where
   abbrev first : List ℕ
-  first = m ++ drop (256 * w) g
+  first = m ++ drop (objectCount * w) g
 
   abbrev second : List ℕ
-  second = take (256 * w) first ++ (k ++ drop (259 * w - 256 * w) (drop (256 * w) first))
+  second = take (objectCount * w) first ++ (k ++ drop (groupRows * w - objectCount * w) (drop (objectCount * w) first))
 
-  size : length m ≡ 256 * w
-  size = fits ∙ length-take-le (256 * w) g (omega arith)
+  size : length m ≡ objectCount * w
+  size = fits ∙ length-take-le (objectCount * w) g (omega arith)
 
   size-next : length k ≡ 3 * w
-  size-next = omega (arith, fits-next, length-take (259 * w - 256 * w) (drop (256 * w) first), length-drop (256 * w) first, length-append m (drop (256 * w) g), length-drop (256 * w) g, size)
+  size-next = omega (arith, fits-next, length-take (groupRows * w - objectCount * w) (drop (objectCount * w) first), length-drop (objectCount * w) first, length-append m (drop (objectCount * w) g), length-drop (objectCount * w) g, size)
 
-  parts : second ≡ m ++ (k ++ drop (259 * w) g)
+  parts : second ≡ m ++ (k ++ drop (groupRows * w) g)
   parts =
-      let past : 256 * w + (259 * w - 256 * w) ≡ 259 * w = omega arith in
-      rw (take-at m (drop (256 * w) g) (256 * w) size, drop-at m (drop (256 * w) g) (256 * w) size, drop-drop (259 * w - 256 * w) (256 * w) g, past)
+      let past : objectCount * w + (groupRows * w - objectCount * w) ≡ groupRows * w = omega arith in
+      rw (take-at m (drop (objectCount * w) g) (objectCount * w) size, drop-at m (drop (objectCount * w) g) (objectCount * w) size, drop-drop (groupRows * w - objectCount * w) (objectCount * w) g, past)
 
   kept : length second ≡ length g
   kept =
-      let t : List ℕ = drop (259 * w) g in
-      omega (arith, ap length (parts ∙ sym (append-assoc m k t)), length-append (m ++ k) t, length-append m k, size, size-next, length-drop (259 * w) g)
+      let t : List ℕ = drop (groupRows * w) g in
+      omega (arith, ap length (parts ∙ sym (append-assoc m k t)), length-append (m ++ k) t, length-append m k, size, size-next, length-drop (groupRows * w) g)
 
-  row-second : (b : ℕ) → b < 3 → rowAt second w (256 + b) ≡ rowAt k w b
+  row-second : (b : ℕ) → b < 3 → rowAt second w (objectCount + b) ≡ rowAt k w b
   row-second b h =
-      ap (λ (x : List ℕ). rowAt x w (256 + b)) parts
-      ∙ row-back m (k ++ drop (259 * w) g) w 256 b size
-      ∙ row-front k (drop (259 * w) g) w b (row-room 3 w b (length k) h (omega (arith, size-next)))
+      ap (λ (x : List ℕ). rowAt x w (objectCount + b)) parts
+      ∙ row-back m (k ++ drop (groupRows * w) g) w objectCount b size
+      ∙ row-front k (drop (groupRows * w) g) w b (row-room 3 w b (length k) h (omega (arith, size-next)))
 
   pub groups-of : KeyRows n w (objectIn l) m → Row n (isWriteIn l) (rowAt k w 0) → Row n (λ e. not (isWriteIn l e)) (rowAt k w 1) → Row n (λ e. true) (rowAt k w 2)
       → Groups n w l second × (length second ≡ length g)
   groups-of o r s t = (
     record {
       size = omega (arith, kept);
-      objects = λ b h. rw (parts, row-front m (k ++ drop (259 * w) g) w b (row-room 256 w b (length m) h (omega (arith, size)))) (o b h);
+      objects = λ b h. rw (parts, row-front m (k ++ drop (groupRows * w) g) w b (row-room objectCount w b (length m) h (omega (arith, size)))) (o b h);
       writes = rw (row-second 0 (omega arith)) r;
       reads = rw (row-second 1 (omega arith)) s;
       every = rw (row-second 2 (omega arith)) t;

@@ -8,7 +8,7 @@ use native.Mathlib.Omega.{arith}
 use native.Mathlib.Decide.{decLt}
 use lib.ListN.{length, getD, take, drop, length-append, length-take, length-drop}
 use lib.Seq.{length-take-le, drop-at, drop-drop, getD-take, getD-drop, ext-getD, take-append-le, drop-append-le}
-use Rattle.rows.specs.Row.{rowAt, RowPut}
+use Rattle.rows.specs.Row.{rowAt, RowPut, RowChanged}
 use Rattle.rows.proofs.TableLaws.{row-room, length-row-le, getD-row}
 use Rattle.tables.specs.Tables.{part}
 
@@ -78,12 +78,6 @@ places-apart n k j b c p q ne e = elim (decLt k j) [
 ]
 
 -- ---- a row that is changed where it stands
-
--- the rows of a table in which row c became m
-pub record RowChanged (w c : ℕ) (m old new : List ℕ) : Type 0 where
-  pub size : length new ≡ length old
-  pub same : rowAt new w c ≡ m
-  pub other : (d : ℕ) → (d ≡ c → ⊥) → rowAt new w d ≡ rowAt old w d
 
 -- it was changed twice
 pub put-again : (w c : ℕ) (m m' g g' g'' : List ℕ) → RowPut w c m g g' → RowPut w c m' g' g'' → RowChanged w c m' g g''

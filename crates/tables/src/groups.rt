@@ -5,14 +5,15 @@ ghost use Prim.Native.Nat.{ℕ, _+_, _*_, _^_, _<_, _≤_};
 ghost use lib.Dec.{eqb};
 ghost use lib.ListN.{length, take, replicate};
 ghost use Rattle.rows.specs.Row.{rowAt, Row, RowPut};
+ghost use Rattle.record.specs.Layout.{objectCount};
 ghost use Rattle.record.specs.Words.{objectIn, isWriteIn};
 ghost use Rattle.events.specs.Given.{groupRows, Groups};
 
 // Row o of g, of w words and empty, comes to have the events on object o.
 fn fill_objects(l: &[u64], n: usize, w: usize, g: &mut [u64])
     requires { ⌜ (4 * n ≤ length (now l)) × (n ≤ 64 * w) × (64 * length (now g) < 2 ^ 64) ⌝ }
-    requires { ⌜ now g ≡ replicate (256 * w) 0 ⌝ }
-    ensures { λ _. ⌜ ((o : ℕ) → o < 256 → Row n (λ e. eqb (objectIn (now (l .entry)) e) o) (rowAt (now (g .exit)) w o)) ⌝ }
+    requires { ⌜ now g ≡ replicate (objectCount * w) 0 ⌝ }
+    ensures { λ _. ⌜ ((o : ℕ) → o < objectCount → Row n (λ e. eqb (objectIn (now (l .entry)) e) o) (rowAt (now (g .exit)) w o)) ⌝ }
     ensures { λ _. ⌜ length (now (g .exit)) ≡ length (now (g .entry)) ⌝ }
 {
     for e in 0..n {

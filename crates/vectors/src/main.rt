@@ -1,5 +1,5 @@
-// Reads each file that an argument names, over work slices of 1,023, 1,024 and 1,030 words, and writes the reading and
-// what the slice holds afterwards.
+// Reads each file that an argument names, over work slices one word too short, just long enough, and six words longer, and
+// writes the reading and what the slice holds afterwards.
 use libc::STDOUT_FILENO;
 use record::layout;
 
@@ -46,7 +46,9 @@ fn report(s: &[u8], work: &mut [u64]) {
     if kept {
         io::write_all(STDOUT_FILENO, b", all kept\n");
     } else if rest {
-        io::write_all(STDOUT_FILENO, b", words from 1024 on kept\n");
+        io::write_all(STDOUT_FILENO, b", words from ");
+        io::print_decimal(STDOUT_FILENO, layout::WORK as u64);
+        io::write_all(STDOUT_FILENO, b" on kept\n");
     } else {
         io::write_all(STDOUT_FILENO, b", later words changed\n");
     }
@@ -60,7 +62,8 @@ fn vector(path: &[u8]) {
         os::fail(path);
         return;
     }
-    let mut input = [0u8; layout::LONGEST + 1024];
+    // Two blocks more than the longest record, so that a longer input is refused and not cut.
+    let mut input = [0u8; layout::LONGEST + 2 * 512];
     let length = io::read_full(fd, &mut input);
     libc::close(fd);
     let mut short = [0u64; layout::WORK - 1];

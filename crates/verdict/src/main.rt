@@ -12,9 +12,9 @@ fn write_judgment(predicate: usize, judgment: u64) {
         return;
     }
     io::write_all(STDOUT_FILENO, b" broken ");
-    io::print_decimal(STDOUT_FILENO, judgment / 1024 % 1024);
+    io::print_decimal(STDOUT_FILENO, judgment / packed::PLACES % packed::PLACES);
     io::write_all(STDOUT_FILENO, b" ");
-    io::print_decimal(STDOUT_FILENO, judgment % 1024);
+    io::print_decimal(STDOUT_FILENO, judgment % packed::PLACES);
     io::write_all(STDOUT_FILENO, b"\n");
 }
 

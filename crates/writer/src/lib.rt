@@ -1,18 +1,17 @@
 // A record written in place: zero bytes, block 0, slots, and the blocks' checks.
-use reader::blocks;
+use record::Edition;
 use record::Slot;
-use record::layout;
+use record::sums;
 ghost use mathlib.Core.Path.{_≡_};
 ghost use mathlib.Core.Bool.{true};
 ghost use mathlib.Core.List.{_∷_, _++_};
-ghost use Prim.Native.Nat.{ℕ, _+_, _*_, _≤_, _<_};
+ghost use Prim.Native.Nat.{_+_, _*_, _≤_, _<_};
 ghost use lib.ListN.{length, drop, replicate};
 ghost use lib.Seq.{sets};
 ghost use Rattle.rows.specs.Row.{has};
-ghost use Rattle.record.specs.Layout.{gcr2};
+ghost use Rattle.record.specs.Layout.{Layout, numbersOf};
 ghost use Rattle.record.specs.Terms.{openingIn, openingsRight};
-ghost use Rattle.record.specs.History.{History};
-ghost use Rattle.record.specs.Encode.{littleBytes, bit, setBytes, slotBytes, headerBytes, withTerms, sealed, SlotOf};
+ghost use Rattle.record.specs.Encode.{littleBytes, bit, setBytes, slotFrom, headerBytes, withTerms, sealed};
 
 fn put_u16(s: &mut [u8], at: usize, x: u16)
     requires { ⌜ at + 2 ≤ length (now s) ⌝ }
@@ -49,22 +48,25 @@ pub fn clear(s: &mut [u8], k: usize)
 }
 
 // What every edition has in block 0, of n events.
-pub fn header(s: &mut [u8], n: usize, sites: u8)
+pub fn header(s: &mut [u8], ed: Edition, n: usize, sites: u8)
     requires { ⌜ (512 ≤ length (now s)) × (n < 65536) ⌝ }
-    ensures { λ _. ⌜ now (s .exit) ≡ sets (now (s .entry)) 0 (headerBytes gcr2 n sites) ⌝ }
+    ensures { λ _. ⌜ ((L : Layout) → ed ≡ numbersOf L → now (s .exit) ≡ sets (now (s .entry)) 0 (headerBytes L n sites)) ⌝ }
 {
-    bytes::copy(&layout::GCR2, s);
+    let letters = ed.letters;
+    bytes::copy(&letters, s);
     put_u16(s, 4, n as u16);
     s[6] = sites;
 }
 
-// What block 0 says beside: the difference of clocks, and the openings, which stand there as they are lent.
-pub fn terms(s: &mut [u8], difference: u32, openings: &[u8])
+// What block 0 says beside, where the edition has it: the difference of clocks, and the openings, which stand there as they are lent.
+pub fn terms(s: &mut [u8], ed: Edition, difference: u32, openings: &[u8])
     requires { ⌜ (512 ≤ length (now s)) × (length (now openings) ≡ 132) × (openingsRight (now openings) 0 ≡ true) ⌝ }
-    ensures { λ _. ⌜ now (s .exit) ≡ withTerms gcr2 (record { difference = difference; opening = openingIn (now (openings .entry)) 0 }) (now (s .entry)) ⌝ }
+    ensures { λ _. ⌜ ((L : Layout) → ed ≡ numbersOf L → now (s .exit) ≡ withTerms L (record { difference = difference; opening = openingIn (now (openings .entry)) 0 }) (now (s .entry))) ⌝ }
 {
-    put_u32(s, 8, difference);
-    bytes::copy(openings, &mut s[12..144]);
+    if ed.terms {
+        put_u32(s, 8, difference);
+        bytes::copy(openings, &mut s[12..144]);
+    }
 }
 
 // Bytes 0 to 7 of a slot: kind, site, object, state and value.
@@ -87,28 +89,26 @@ fn second_word(x: Slot) -> u64
     x.present as u64 + 0x1_0000 * x.position as u64
 }
 
-// A visible set: its bytes are those of its four words.
-fn put_row(s: &mut [u8], at: usize, row: [u64; 4])
-    requires { ⌜ at + 32 ≤ length (now s) ⌝ }
-    ensures { λ _. ⌜ now (s .exit) ≡ sets (now (s .entry)) at (setBytes 32 (has row)) ⌝ }
+// A visible set: its bytes are those of its words.
+fn put_row(s: &mut [u8], at: usize, row: &[u64])
+    requires { ⌜ at + 8 * length (now row) ≤ length (now s) ⌝ }
+    ensures { λ _. ⌜ now (s .exit) ≡ sets (now (s .entry)) at (setBytes (8 * length (now (row .entry))) (has (now (row .entry)))) ⌝ }
 {
-    put_u64(s, at, row[0]);
-    put_u64(s, at + 8, row[1]);
-    put_u64(s, at + 16, row[2]);
-    put_u64(s, at + 24, row[3]);
+    for i in 0..row.len() {
+        put_u64(s, at + 8 * i, row[i]);
+    }
 }
 
-// A slot, at its place. Its bytes are written as eight words.
-pub fn put_slot(s: &mut [u8], at: usize, x: Slot)
-    requires { ⌜ at + 64 ≤ length (now s) ⌝ }
-    ensures { λ _. ⌜ ((h : History) (e : ℕ) → SlotOf h e x → now (s .exit) ≡ sets (now (s .entry)) at (slotBytes gcr2 h e)) ⌝ }
+// A slot, at its place, and in its visible set the members of a row, which has as many words as the edition's sets.
+pub fn put_slot(s: &mut [u8], at: usize, x: Slot, row: &[u64])
+    requires { ⌜ at + (32 + 8 * length (now row)) ≤ length (now s) ⌝ }
+    ensures { λ _. ⌜ now (s .exit) ≡ sets (now (s .entry)) at (slotFrom x (now (row .entry))) ⌝ }
 {
     put_u64(s, at, first_word(x));
     put_u64(s, at + 8, second_word(x));
     put_u64(s, at + 16, x.start);
     put_u64(s, at + 24, x.returned);
-    let sees = x.sees;
-    put_row(s, at + 32, sees);
+    put_row(s, at + 32, row);
 }
 
 // The checks of the first k blocks.
@@ -117,7 +117,7 @@ pub fn seal(s: &mut [u8], k: usize)
     ensures { λ _. ⌜ now (s .exit) ≡ sealed k (now (s .entry)) ⌝ }
 {
     for i in 0..k {
-        let check = blocks::sums(s, i);
+        let check = sums::of_block(s, i);
         put_u16(s, 512 * i + 508, check.a as u16);
         put_u16(s, 512 * i + 510, check.b as u16);
     }

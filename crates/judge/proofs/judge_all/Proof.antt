@@ -4,6 +4,7 @@ use mathlib.Core.List.{List}
 use Prim.Native.Nat.{ℕ, _<_}
 use native.Mathlib.Omega.{arith}
 use lib.ListN.{length, replicate}
+use Rattle.packed.specs.Packed.{places}
 use Rattle.record.specs.Questions.{numberOf, placeOf}
 use Rattle.record.specs.declared.Reading.{Reading}
 use Rattle.record.proofs.QuestionsAnswered.{place-small}
@@ -42,7 +43,7 @@ pack-requires : tie.Need-pack-requires
 pack-requires c κs =
     let n = c .before in
     let a = reader n .read in
-    fitting-small (Refused (a .result)) (subst (λ (r : Reading). placeOf r < 1024) (sym (a .ensures .0)) (place-small (length-of-work n) (bytes n)))
+    fitting-small (Refused (a .result)) (subst (λ (r : Reading). placeOf r < places) (sym (a .ensures .0)) (place-small (length-of-work n) (bytes n)))
 
 same-length : tie.Need-same-length
 same-length c = search needs

@@ -15,7 +15,7 @@ use Rattle.reader.proofs.ask.Statement.{statement}
 use Rattle.reader.proofs.ask.Tie as tie
 
 abbrev start : tie.After-ask-bytes → tie.Start
-start c = c .before .before .before
+start c = c .before .before .before .before
 
 abbrev bytes : tie.After-ask-bytes → List ℕ
 bytes c = start c .args .s .now
@@ -30,11 +30,14 @@ none c = sym (c .before .number .ensures) ∙ c .if1 .left
 right : (c : tie.Else1) → BytesRight (editionOf (bytes (asked c))) (bytes (asked c))
 right c = bytes-right (editionOf (bytes (asked c))) (bytes (asked c)) (asked c .ask-bytes .result) (asked c .ask-bytes .ensures) (none c)
 
-few : (c : tie.Else1) → countIn (bytes (asked c)) ≤ 256
+few : (c : tie.Else1) → countIn (bytes (asked c)) ≤ editionOf (bytes (asked c)) .events
 few c = header-says (editionOf (bytes (asked c))) (bytes (asked c)) (right c .header)
 
+edition-requires : tie.Need-edition-requires
+edition-requires c κs = search needs
+
 ask-bytes-requires : tie.Need-ask-bytes-requires
-ask-bytes-requires c κs = search needs
+ask-bytes-requires c κs = c .edition .ensures
 
 number-requires : tie.Need-number-requires
 number-requires c κs = search needs
@@ -74,8 +77,8 @@ ask-requires : tie.Need-ask-requires
 ask-requires c κs =
     let n = c .before in
     let e = n .before in (
-      (n .count .ensures, omega (arith, n .count .ensures, few e)),
-      (omega (arith, n .count .ensures, blocks-say (editionOf (bytes (asked e))) (bytes (asked e)) (right e .blocks)), search needs),
+      (n .count .ensures, asked e .before .edition .ensures, omega (arith, n .count .ensures, few e)),
+      (rw (n .count .ensures) (omega (arith, blocks-say (editionOf (bytes (asked e))) (bytes (asked e)) (right e .blocks))), search needs),
     )
 
 same-length-2 : tie.Need-same-length-2
@@ -97,6 +100,7 @@ pub ask-spec : {M : Type 1} → statement M
 ask-spec =
     tie.close
     (tie.spec
+    edition-requires
     ask-bytes-requires
     number-requires
     sub-clear

@@ -1,4 +1,4 @@
--- `writer::put_slot` meets its contract: eight words, one after the other. Assumes nothing.
+-- `writer::put_slot` meets its contract: the words of the fields, and then those of the row. Assumes nothing.
 use borrow.Author.Needs.{needs}
 use Rattle.record.proofs.SlotStored.{slot-stored}
 use Rattle.writer.proofs.put_slot.Statement.{statement}
@@ -42,14 +42,13 @@ same-length c = search needs
 
 returns : tie.Need-returns
 returns c =
-    λ h e of.
     let sees = c .before .before in
-    let fourth = sees .before .before .before .before .before in
+    let fourth = sees .before .before .before .before in
     let third = fourth .before .before .before .before in
     let second = third .before .before .before .before in
     let first = second .before .before .before .before .before in
-    let a = first .before .before .before .before .args in
-    slot-stored h e (a .x) of (first .before .first-word .result) (second .before .second-word .result) (first .before .first-word .ensures) (second .before .second-word .ensures)
+    let a = first .before .before .before .before .before .args in
+    slot-stored (a .x) (a .row .now) (first .before .first-word .result) (second .before .second-word .result) (first .before .first-word .ensures) (second .before .second-word .ensures)
     (a .s .now) _ _ _ _ _ (a .at)
     (first .put-u64 .ensures) (second .put-u642 .ensures) (third .put-u643 .ensures) (fourth .put-u644 .ensures) (sees .put-row .ensures)
 

@@ -18,8 +18,8 @@ abbrev μ-loop : tie.MeasureT-loop
 loop-holds : tie.Need-loop-holds Inv-loop μ-loop
 loop-holds c = (search needs, search needs, sealed-none (c .before .args .s .now))
 
-sums-requires : tie.Need-sums-requires Inv-loop μ-loop
-sums-requires c κs = search needs
+of-block-requires : tie.Need-of-block-requires Inv-loop μ-loop
+of-block-requires c κs = search needs
 
 mul-put-u16 : tie.Need-mul-put-u16 Inv-loop μ-loop
 mul-put-u16 c = search needs
@@ -31,7 +31,7 @@ cast-put-u16 : tie.Need-cast-put-u16 Inv-loop μ-loop
 cast-put-u16 c =
     let check = c .before .before in
     let l = check .before .before .before .loop in
-    omega (arith, check .sums .ensures .0, sumA-lt 253 (l .s) (l .i))
+    omega (arith, check .of-block .ensures .0, sumA-lt 253 (l .s) (l .i))
 
 put-u16-requires : tie.Need-put-u16-requires Inv-loop μ-loop
 put-u16-requires c κs = search needs
@@ -46,7 +46,7 @@ cast-put-u16-2 : tie.Need-cast-put-u16-2 Inv-loop μ-loop
 cast-put-u16-2 c =
     let check = c .before .before .before .before .before .before .before in
     let l = check .before .before .before .loop in
-    omega (arith, check .sums .ensures .1, sumB-lt 253 (l .s) (l .i))
+    omega (arith, check .of-block .ensures .1, sumB-lt 253 (l .s) (l .i))
 
 put-u16-requires-2 : tie.Need-put-u16-requires-2 Inv-loop μ-loop
 put-u16-requires-2 c κs = search needs
@@ -66,7 +66,7 @@ loop-again c =
     let a = check .before .before .before .before .before .args in (
       search needs,
       search needs,
-      sealed-more (a .s .now) (l .s) _ _ (l .i) _ _ (l .inv .2) (check .sums .ensures .0) (check .sums .ensures .1) (first .put-u16 .ensures) (second .put-u162 .ensures),
+      sealed-more (a .s .now) (l .s) _ _ (l .i) _ _ (l .inv .2) (check .of-block .ensures .0) (check .of-block .ensures .1) (first .put-u16 .ensures) (second .put-u162 .ensures),
     )
 
 same-length : tie.Need-same-length Inv-loop μ-loop
@@ -86,7 +86,7 @@ seal-spec =
     Inv-loop
     μ-loop
     loop-holds
-    sums-requires
+    of-block-requires
     mul-put-u16
     add-put-u16
     cast-put-u16

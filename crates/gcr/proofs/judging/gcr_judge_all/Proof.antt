@@ -4,6 +4,7 @@ use mathlib.Core.Logic.{_≢_}
 use mathlib.Core.List.{List}
 use Prim.Native.Nat.{ℕ, _<_}
 use borrow.Author.Needs.{needs}
+use Rattle.packed.specs.Packed.{places}
 use Rattle.record.specs.Layout.{editionOf, workWords}
 use Rattle.record.specs.Questions.{numberOf, placeOf, reading}
 use Rattle.record.specs.declared.Reading.{Reading}
@@ -29,8 +30,8 @@ same c = c .before .before .before .before .before .before .before .before .judg
 put : (c : tie.After-number) → c .before .before .before .put-over .last .1 .0 ≡ laidOver (packedJudgments (editionOf (start c .args .s .now)) workWords 13 (start c .args .s .now)) (start c .args .out .now)
 put c = c .before .before .before .put-over .ensures ∙ ap (λ (v : List ℕ). laidOver v (start c .args .out .now)) (c .before .before .before .before .before .before .before .before .judge-all .ensures .1 .0)
 
-exact : (c : tie.After-number) → ExactThirteen 1024 (start c .args .s .now) (c .before .before .before .put-over .last .1 .0)
-exact c = laid-hosts 1024 (start c .args .s .now) (start c .args .out .now) (put c)
+exact : (c : tie.After-number) → ExactThirteen workWords (start c .args .s .now) (c .before .before .before .put-over .last .1 .0)
+exact c = laid-hosts workWords (start c .args .s .now) (start c .args .out .now) (put c)
 
 -- src/judging.rt:45:35
 slice-aggregate-judge-all : tie.Need-slice-aggregate-judge-all
@@ -66,7 +67,7 @@ returns c =
 pack-requires : tie.Need-pack-requires
 pack-requires c κs =
     let n = c .before in
-    fitting-small (Refused (n .before .before .before .before .before .before .before .before .judge-all .result .reading)) (subst (λ (r : Reading). placeOf r < 1024) (sym (same n)) (place-small workWords (start n .args .s .now)))
+    fitting-small (Refused (n .before .before .before .before .before .before .before .before .judge-all .result .reading)) (subst (λ (r : Reading). placeOf r < places) (sym (same n)) (place-small workWords (start n .args .s .now)))
 
 -- src/judging.rt:39:1
 same-length-2 : tie.Need-same-length-2

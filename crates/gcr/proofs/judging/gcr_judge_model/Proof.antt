@@ -24,7 +24,7 @@ returns : tie.Need-returns
 returns c =
     let q = c .pack .ensures ∙ ap packedJudgment (c .before .before .judge-model .ensures .0) in
     let a = c .before .before .before .before .before .args in
-    (q, (model-host 1024 (a .s .now) (a .model) q, tells-hosts (a .model) (a .s .now) q))
+    (q, (model-host workWords (a .s .now) (a .model) q, tells-hosts (a .model) (a .s .now) q))
 
 pub gcr-judge-model-spec : {M : Type 1} → statement M
 gcr-judge-model-spec =

@@ -23,7 +23,7 @@ returns : tie.Need-returns
 returns c =
     let q = c .pack .ensures ∙ ap packedJudgment (c .before .before .judge-predicate .ensures .0) in
     let a = c .before .before .before .before .before .args in
-    (q, predicate-host 1024 (a .s .now) (a .predicate) q)
+    (q, predicate-host workWords (a .s .now) (a .predicate) q)
 
 pub gcr-judge-predicate-spec : {M : Type 1} → statement M
 gcr-judge-predicate-spec =

@@ -2,6 +2,7 @@
 use mathlib.Core.Path.{refl}
 use native.Mathlib.Omega.{arith}
 use borrow.Author.Needs.{needs}
+use Rattle.record.specs.Layout.{gcr2}
 use Rattle.lattice.proofs.RecordLaws.{zeros-right, record-written}
 use Rattle.lattice.proofs.records.write.Statement.{statement}
 use Rattle.lattice.proofs.records.write.Tie as tie
@@ -40,7 +41,7 @@ returns c =
     let n = clear .before .before .count in
     let start = clear .before .before .before .before in
     record-written (start .args .k) (start .pre .0) (start .pre .1) (n .result) (n .ensures .0) (start .args .rec .now) _ _ _ _ _ (start .pre .2)
-    (clear .clear .ensures) (header .header .ensures) (terms .terms .ensures) (slots .put-slots .ensures) (seal .seal .ensures)
+    (clear .clear .ensures) (header .header .ensures gcr2 refl) (terms .terms .ensures gcr2 refl) (slots .put-slots .ensures) (seal .seal .ensures)
 
 pub write-spec : {M : Type 1} → statement M
 write-spec =

@@ -5,8 +5,8 @@ use Rattle.record.specs.Blocks.{blockRight}
 use Rattle.reader.proofs.blocks.block_holds.Statement.{statement}
 use Rattle.reader.proofs.blocks.block_holds.Tie as tie
 
-sums-requires : tie.Need-sums-requires
-sums-requires c κs = search needs
+of-block-requires : tie.Need-of-block-requires
+of-block-requires c κs = search needs
 
 mul-u16-at : tie.Need-mul-u16-at
 mul-u16-at c = search needs
@@ -24,7 +24,7 @@ returns : tie.Need-returns
 unfolding blockRight
 returns c =
     let d = c .before .before .before in
-    search (tests, ← (d .sums .ensures .0), ← (c .before .before .u16-at .ensures))
+    search (tests, ← (d .of-block .ensures .0), ← (c .before .before .u16-at .ensures))
 
 mul-u16-at-2 : tie.Need-mul-u16-at-2
 mul-u16-at-2 c = search needs
@@ -42,13 +42,13 @@ returns-2 : tie.Need-returns-2
 unfolding blockRight
 returns-2 c =
     let d = c .before .before .before .before .before in
-    search (tests, ← (d .sums .ensures .0), ← (d .sums .ensures .1), ← (c .before .before .before .before .u16-at .ensures), ← (c .before .u16-at2 .ensures))
+    search (tests, ← (d .of-block .ensures .0), ← (d .of-block .ensures .1), ← (c .before .before .before .before .u16-at .ensures), ← (c .before .u16-at2 .ensures))
 
 pub block-holds-spec : {M : Type 1} → statement M
 block-holds-spec =
     tie.close
     (tie.spec
-    sums-requires
+    of-block-requires
     mul-u16-at
     add-u16-at
     u16-at-requires

@@ -2,41 +2,38 @@
 use mathlib.Core.Path.{sym, _∙_}
 use borrow.Author.Needs.{needs}
 use Rattle.rows.proofs.Tests.{told-false, told-true}
-use Rattle.record.proofs.QuestionLaws.{terms-first, terms-second}
+use Rattle.record.proofs.QuestionLaws.{terms-lacked, terms-had}
 use Rattle.reader.proofs.header.terms_hold.Statement.{statement}
 use Rattle.reader.proofs.header.terms_hold.Tie as tie
-
-has-letters-requires : tie.Need-has-letters-requires
-has-letters-requires c κs = search needs
 
 is-zero-requires : tie.Need-is-zero-requires
 is-zero-requires c κs = search needs
 
 returns : tie.Need-returns
-returns c =
+returns c = λ L q.
     let e = c .before in
-    c .is-zero .ensures ∙ sym (terms-first (e .before .before .before .args .s .now) (told-false (e .before .has-letters .ensures) (e .if1 .taken)))
+    c .is-zero .ensures ∙ sym (terms-lacked L (e .before .before .args .s .now) (told-false q (e .if1 .taken)))
 
 is-zero-requires-2 : tie.Need-is-zero-requires-2
 is-zero-requires-2 c κs = search needs
 
 returns-2 : tie.Need-returns-2
-returns-2 c =
+returns-2 c = λ L q.
     let z = c .before in
     let e = z .before in
-    rw (terms-second (e .before .before .before .args .s .now) (told-true (e .before .has-letters .ensures) (e .if1 .left)), told-false (z .is-zero2 .ensures) (c .if2 .taken))
+    rw (terms-had L (e .before .before .args .s .now) (told-true q (e .if1 .left)), told-false (z .is-zero2 .ensures) (c .if2 .taken))
 
 hold-requires : tie.Need-hold-requires
 hold-requires c κs = search needs
 
 returns-3 : tie.Need-returns-3
-returns-3 c =
+returns-3 c = λ L q.
     let h = c .before in
     let y = h .before in
     let z = y .before in
     let e = z .before in
     rw (
-      terms-second (e .before .before .before .args .s .now) (told-true (e .before .has-letters .ensures) (e .if1 .left)),
+      terms-had L (e .before .before .args .s .now) (told-true q (e .if1 .left)),
       told-true (z .is-zero2 .ensures) (y .if2 .left),
       told-false (h .hold .ensures) (c .if3 .taken),
     )
@@ -45,14 +42,14 @@ is-zero-requires-3 : tie.Need-is-zero-requires-3
 is-zero-requires-3 c κs = search needs
 
 returns-4 : tie.Need-returns-4
-returns-4 c =
+returns-4 c = λ L q.
     let x = c .before in
     let h = x .before in
     let y = h .before in
     let z = y .before in
     let e = z .before in
     rw (
-      terms-second (e .before .before .before .args .s .now) (told-true (e .before .has-letters .ensures) (e .if1 .left)),
+      terms-had L (e .before .before .args .s .now) (told-true q (e .if1 .left)),
       told-true (z .is-zero2 .ensures) (y .if2 .left),
       told-true (h .hold .ensures) (x .if3 .left),
     )
@@ -62,7 +59,6 @@ pub terms-hold-spec : {M : Type 1} → statement M
 terms-hold-spec =
     tie.close
     (tie.spec
-    has-letters-requires
     is-zero-requires
     returns
     is-zero-requires-2

@@ -10,14 +10,14 @@ use lib.ListN.{length, take, drop, replicate}
 use Rattle.rows.specs.Lowest.{lowest}
 use Rattle.rows.specs.Relation.{Rel}
 use Rattle.record.specs.declared.Reading.the-variants.{Passed, WrongSet, OnRing}
-use Rattle.record.specs.Layout.{editionOf, rowWords, workWords}
+use Rattle.record.specs.Layout.{editionOf, mostEvents, rowWords, workWords}
 use Rattle.record.specs.History.{historyOf, vis}
 use Rattle.record.specs.Questions.{wrongSet, onRing, askEach, setQuestions}
 use Rattle.record.specs.Words.{setRows, workAfter}
 use Rattle.record.proofs.StoresLaws.{Bytes}
 use Rattle.record.proofs.AskLaws.{each-yes, each-found, each-past, none-past}
 use Rattle.record.proofs.SlotWords.{length-set-rows}
-use Rattle.record.proofs.SoundLayout.{sound-of}
+use Rattle.record.proofs.SoundLayout.{sound-of, Numbers, numbers-of}
 use Rattle.record.proofs.SetLaws.{loaded-graph, loaded-ring}
 use Rattle.record.proofs.WorkLaws.{zero-first, loaded-past, visible-cleared, work-refused, work-passed}
 use Rattle.reader.proofs.sets.ask.Statement.{statement}
@@ -36,9 +36,16 @@ sees c = vis (historyOf (editionOf (bytes c)) (bytes c))
 range : (c : tie.After-load-sets) → Bytes (bytes c)
 range c i = c .before .before .before .shared-slice-known .given i .fits
 
+-- there is room for all of the edition's events
+sizes : (c : tie.Start) → Numbers (editionOf (c .args .s .now)) (c .args .ed)
+sizes c = numbers-of (c .args .s .now) (c .args .ed) (c .pre .0 .1)
+
+few : (c : tie.Start) → c .args .n ≤ mostEvents
+few c = omega (arith, sizes c, c .pre .0 .2)
+
 -- the table with the sets, as far as they are loaded: the words behind are as they were
 abbrev table : tie.After-load-sets → List ℕ
-table c = c .load-sets .last .1 .1 .0
+table c = c .load-sets .last .1 .1 .1 .0
 
 long : (c : tie.After-load-sets) → workWords ≤ length (table c)
 long c = search needs
@@ -47,7 +54,7 @@ past : (c : tie.After-load-sets) → drop workWords (table c) ≡ drop workWords
 past c =
     let k : ℕ = min (start c .args .n) (c .load-sets .result + 1) in
     loaded-past (setRows (editionOf (bytes c)) (bytes c) k) (start c .args .table .now) (table c) (k * rowWords) workWords (c .load-sets .ensures .1)
-    (length-set-rows (editionOf (bytes c)) (bytes c) (sound-of (bytes c) .narrow) k) (omega arith)
+    (length-set-rows (editionOf (bytes c)) (bytes c) (sound-of (bytes c) .narrow) k) (omega (arith, few (start c)))
 
 -- a no: all words cleared
 cleared : (c : tie.After-load-sets) (number : ℕ) (z : List ℕ) → 3 ≤ number → z ≡ replicate (length (take workWords (table c))) 0
@@ -84,10 +91,10 @@ ring : (c : tie.After-lowest-on-ring)
 ring c =
     let e = c .before .before in
     let l = loaded e in
-    c .lowest-on-ring .ensures ∙ loaded-ring (editionOf (bytes l)) (bytes l) (sound-of (bytes l) .narrow) (range l) (start l .args .n) _ (table l) (all e) (search needs) (right e)
+    c .lowest-on-ring .ensures ∙ loaded-ring (editionOf (bytes l)) (bytes l) (sound-of (bytes l) .narrow) (range l) (start l .args .n) _ (table l) (all e) (omega (arith, few (start l))) (right e)
 
 load-sets-requires : tie.Need-load-sets-requires
-load-sets-requires c κs = search needs
+load-sets-requires c κs = let a = c .before .before .before in ((a .pre .0 .1, a .pre .0 .2), (a .pre .1 .0, omega (arith, few a, a .pre .1 .1)))
 
 sub-clear : tie.Need-sub-clear
 sub-clear c = search needs
@@ -116,7 +123,7 @@ lowest-on-ring-requires : tie.Need-lowest-on-ring-requires
 lowest-on-ring-requires c κs =
     let e = c .before in
     let l = loaded e in
-    (loaded-graph (editionOf (bytes l)) (bytes l) (sound-of (bytes l) .narrow) (range l) (start l .args .n) _ (table l) (all e) (omega arith) (right e), omega arith)
+    (loaded-graph (editionOf (bytes l)) (bytes l) (sound-of (bytes l) .narrow) (range l) (start l .args .n) _ (table l) (all e) (omega (arith, few (start l))) (right e), omega (arith, few (start l)))
 
 sub-clear-2 : tie.Need-sub-clear-2
 sub-clear-2 c = search needs
@@ -143,19 +150,19 @@ returns-2 c =
     (sym (to-rings e ∙ each-found n (onRing n (sees l)) OnRing Passed (r .lowest-on-ring .result) (ring r) (t .if2 .taken)), cleared l 10 _ (omega arith) (c .before .before .clear2 .ensures))
 
 mul-at : tie.Need-mul-at
-mul-at c = search needs
+mul-at c = omega (arith, few (c .before .before .before .before .before .before .before .before .before .before))
 
 mul-clear : tie.Need-mul-clear
-mul-clear c = search needs
+mul-clear c = omega (arith, few (c .before .before .before .before .before .before .before .before .before .before))
 
 sub-clear-3 : tie.Need-sub-clear-3
-sub-clear-3 c = search needs
+sub-clear-3 c = omega (arith, few (c .before .before .before .before .before .before .before .before .before .before))
 
 part-clear-start-3 : tie.Need-part-clear-start-3
-part-clear-start-3 c = search needs
+part-clear-start-3 c = omega (arith, few (c .before .before .before .before .before .before .before .before .before .before))
 
 part-clear-end-3 : tie.Need-part-clear-end-3
-part-clear-end-3 c = search needs
+part-clear-end-3 c = omega (arith, few (c .before .before .before .before .before .before .before .before .before .before))
 
 clear-requires-3 : tie.Need-clear-requires-3
 clear-requires-3 c κs = search needs
@@ -173,7 +180,7 @@ returns-3 c =
     let n = a .n in (
       sym (to-rings e ∙ each-past n (onRing n (sees l)) OnRing Passed (r .lowest-on-ring .result) (ring r) (k .if2 .left)),
       work-passed (editionOf (bytes l)) 0 (bytes l) (a .table .now) _ refl
-          (visible-cleared (editionOf (bytes l)) (bytes l) (sound-of (bytes l) .narrow) (omega arith) n (a .table .now) (table l) _ (start l .pre .0 .0) (all e) (long l) (c .before .before .clear3 .ensures)),
+          (visible-cleared (editionOf (bytes l)) (bytes l) (sound-of (bytes l) .narrow) (omega (arith, few (start l), start l .pre .0 .0)) n (a .table .now) (table l) _ (start l .pre .0 .0) (all e) (long l) (c .before .before .clear3 .ensures)),
     )
 
 pub ask-spec : {M : Type 1} → statement M

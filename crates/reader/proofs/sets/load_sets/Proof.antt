@@ -1,7 +1,7 @@
 -- `reader::sets::load_sets` meets its contract: the sets of the events passed are loaded and right, and slot e starts at `slot`. Assumes nothing.
 use mathlib.Core.Path.{_≡_, refl, sym, _∙_}
 use mathlib.Core.List.{List, _++_}
-use Prim.Native.Nat.{ℕ, _+_, _*_, _-_, min}
+use Prim.Native.Nat.{ℕ, _+_, _*_, _-_, _≤_, _<_, min}
 use native.Mathlib.Nat.{add-sub-cancel-left}
 use native.Mathlib.Omega.{arith}
 use borrow.Author.Needs.{needs}
@@ -13,17 +13,17 @@ use Rattle.record.specs.Layout.{editionOf, slotAt, rowWords}
 use Rattle.record.specs.History.{historyOf, vis}
 use Rattle.record.specs.Questions.{wrongSet}
 use Rattle.record.specs.Words.{setRows}
-use Rattle.record.proofs.SoundLayout.{sound-of, slot-step}
+use Rattle.record.proofs.SoundLayout.{sound-of, Numbers, numbers-of, next-of, slot-first, slot-inside}
 use Rattle.record.proofs.SlotWords.{set-row-loaded, set-rows-none, set-rows-put}
 use Rattle.record.proofs.SetLaws.{byte-itself, loaded-outside, loaded-right}
 use Rattle.reader.proofs.sets.load_sets.Statement.{statement}
 use Rattle.reader.proofs.sets.load_sets.Tie as tie
 
 abbrev Inv-loop : tie.InvT-loop
-Inv-loop s n table₀ below slot₀ e₀ table slot e = Searched n (wrongSet (editionOf s .row) n (vis (historyOf (editionOf s) s))) e × (length table ≡ length table₀) × (table ≡ setRows (editionOf s) s e ++ drop (e * rowWords) table₀) × (slot ≡ slotAt (editionOf s) e)
+Inv-loop s ed n table₀ below slot₀ e₀ table slot e = Searched n (wrongSet (editionOf s .row) n (vis (historyOf (editionOf s) s))) e × (length table ≡ length table₀) × (table ≡ setRows (editionOf s) s e ++ drop (e * rowWords) table₀) × (slot ≡ slotAt (editionOf s) e)
 
 abbrev μ-loop : tie.MeasureT-loop
-μ-loop s n table₀ below slot₀ e₀ table slot e = n - e
+μ-loop s ed n table₀ below slot₀ e₀ table slot e = n - e
 
 -- the places on the way, by name
 abbrev at-loop : tie.After-load-row Inv-loop μ-loop → tie.At-loop Inv-loop μ-loop
@@ -34,6 +34,32 @@ entry c = at-loop c .before .before .before .before .before
 
 abbrev loaded : tie.After-is-subset Inv-loop μ-loop → tie.After-load-row Inv-loop μ-loop
 loaded c = c .before .before .before .before .before .before
+
+-- the edition's numbers, and where slot e ends
+abbrev start : tie.At-loop Inv-loop μ-loop → tie.Start Inv-loop μ-loop
+start l = l .before .before .before .before .before .before
+
+sizes : (c : tie.Start Inv-loop μ-loop) → Numbers (editionOf (c .args .s .now)) (c .args .ed)
+sizes c = numbers-of (c .args .s .now) (c .args .ed) (c .pre .0 .0)
+
+record Placed (slot bytes long e words n : ℕ) : Type 0 where
+  room : slot + bytes ≤ long
+  wide : bytes ≡ 32 + 8 * words
+  seen : e < 64 * words
+  below : e < n
+
+placed : (c : tie.In-loop Inv-loop μ-loop)
+    → let a = start (c .before) .args in Placed (c .before .loop .slot) (a .ed .slot) (length (a .s .now)) (c .before .loop .e) (a .ed .row) (a .n)
+placed c =
+    let l = c .before in
+    let a = start l in
+    let s = a .args .s .now in
+    record {
+      room = omega (arith, sizes a, l .loop .inv .3, a .pre .1 .0, slot-inside (editionOf s) (sound-of s) (a .args .n) (l .loop .e) (c .loop-test .taken));
+      wide = omega (arith, sizes a);
+      seen = omega (arith, sizes a, a .pre .0 .1, c .loop-test .taken);
+      below = c .loop-test .taken;
+    }
 
 -- the table with the set of event e
 abbrev table : tie.After-load-row Inv-loop μ-loop → List ℕ
@@ -47,17 +73,17 @@ put c =
     let a = entry c .before .args in
     let l = at-loop c .loop in
     set-rows-put (editionOf (a .s .now)) (a .s .now) (sound-of (a .s .now) .narrow) (l .e) (a .table .now) (l .table) (c .load-row .last .0) (l .inv .2)
-    (set-row-loaded (editionOf (a .s .now)) (a .s .now) (l .e) (l .slot) (length (take (l .e * rowWords + rowWords - l .e * rowWords) (drop (l .e * rowWords) (l .table)))) (c .load-row .last .0)
-    (c .load-row .ensures) (rw add-sub-cancel-left (length-row (l .table) rowWords (l .e) (search needs))) (l .inv .3))
+    (set-row-loaded (editionOf (a .s .now)) (a .s .now) (l .e) (l .slot) (length (take (l .e * rowWords + rowWords - l .e * rowWords) (drop (l .e * rowWords) (l .table)))) (a .ed .row) (c .load-row .last .0)
+    (c .load-row .ensures) (sizes (entry c .before) .row) (rw add-sub-cancel-left (length-row (l .table) rowWords (l .e) (search needs))) (l .inv .3))
 
 slice-aggregate-fill-below : tie.Need-slice-aggregate-fill-below Inv-loop μ-loop
 slice-aggregate-fill-below c = search needs
 
 fill-below-requires : tie.Need-fill-below-requires Inv-loop μ-loop
-fill-below-requires c κs = search needs
+fill-below-requires c κs = let a = c .before .before .before in omega (arith, sizes a, a .pre .0 .1)
 
 loop-holds : tie.Need-loop-holds Inv-loop μ-loop
-loop-holds c = (searched-start _ _, refl, set-rows-none _ _ _, refl)
+loop-holds c = (searched-start _ _, refl, set-rows-none _ _ _, slot-first (editionOf (c .before .before .before .before .before .args .s .now)) (sound-of (c .before .before .before .before .before .args .s .now)))
 
 mul-at : tie.Need-mul-at Inv-loop μ-loop
 mul-at c = search needs
@@ -78,10 +104,15 @@ part-load-row-end : tie.Need-part-load-row-end Inv-loop μ-loop
 part-load-row-end c = search needs
 
 add-load-row : tie.Need-add-load-row Inv-loop μ-loop
-add-load-row c = search needs
+add-load-row c = omega (arith, start (c .before .before) .good, placed (c .before))
 
 load-row-requires : tie.Need-load-row-requires Inv-loop μ-loop
-load-row-requires c κs = search needs
+load-row-requires c κs =
+    let i = c .before in
+    let l = i .before .loop in
+    let size : length (take (l .e * rowWords + rowWords - l .e * rowWords) (drop (l .e * rowWords) (l .table))) ≡ rowWords =
+    rw add-sub-cancel-left (length-row (l .table) rowWords (l .e) (search needs)) in
+    (omega (arith, size, sizes (start (i .before))), omega (arith, placed i))
 
 mul-is-subset : tie.Need-mul-is-subset Inv-loop μ-loop
 mul-is-subset c = search needs
@@ -120,10 +151,10 @@ returns c =
     )
 
 add-test : tie.Need-add-test Inv-loop μ-loop
-add-test c = search needs
+add-test c = let i = c .before .before .before .before .before .before .before .before .before in omega (arith, start (i .before) .good, placed i)
 
 test-requires : tie.Need-test-requires Inv-loop μ-loop
-test-requires c κs = search needs
+test-requires c κs = omega (arith, placed (c .before .before .before .before .before .before .before .before .before))
 
 same-length-2 : tie.Need-same-length-2 Inv-loop μ-loop
 same-length-2 c = search needs
@@ -136,12 +167,15 @@ returns-2 c =
     let e = l .loop .e in
     let m : min (a .n) (e + 1) ≡ e + 1 = omega arith in (
       searched-hit (l .loop .inv .0) (d .before .before .loop-test .taken)
-          (byte-itself (editionOf (a .s .now)) (a .s .now) (a .n) e (omega arith) (rw (l .loop .inv .3) at (sym (c .before .test .ensures) ∙ c .if2 .taken))),
+          (byte-itself (editionOf (a .s .now)) (a .s .now) (a .n) e (omega (arith, sizes (start l), placed (d .before .before))) (rw (l .loop .inv .3) at (sym (c .before .test .ensures) ∙ c .if2 .taken))),
       rw (add-sub-cancel-left, m) (put d),
     )
 
 next-slot-requires : tie.Need-next-slot-requires Inv-loop μ-loop
-next-slot-requires c κs = search needs
+next-slot-requires c κs =
+    let i = c .before .before .before .before .before .before .before .before .before .before .before in
+    let a = start (i .before) in
+    omega (arith, a .good, sizes a, placed i)
 
 add-e : tie.Need-add-e Inv-loop μ-loop
 add-e c = search needs
@@ -160,11 +194,11 @@ loop-again c =
       searched-more (l .loop .inv .0) (d .before .before .loop-test .taken)
           (loaded-right (editionOf (a .s .now)) (a .s .now) (sound-of (a .s .now) .narrow) (λ b. entry d .shared-slice-known .given b .fits) (e + 1) _ (table d) (put d) (a .n) e
           (f .fill-below .last .0) (f .fill-below .ensures .0) (omega arith)
-          (rw add-sub-cancel-left at (told-true (k .before .is-subset .ensures) (k .if1 .left))) (omega arith)
+          (rw add-sub-cancel-left at (told-true (k .before .is-subset .ensures) (k .if1 .left))) (omega (arith, sizes (start l), placed (d .before .before)))
           (rw (l .loop .inv .3) at (sym (c .before .before .test .ensures) ∙ c .before .if2 .left))),
       omega (arith, k .before .before .before .before .before .before .table .given),
       rw add-sub-cancel-left (put d),
-      slot-step _ (sound-of (a .s .now)) e (l .loop .slot) _ (l .loop .inv .3) (c .next-slot .ensures (editionOf (a .s .now) .terms)),
+      next-of (a .s .now) (a .ed) (entry d .before .pre .0 .0) e (l .loop .slot) _ (l .loop .inv .3) (c .next-slot .ensures),
     )
 
 same-length-3 : tie.Need-same-length-3 Inv-loop μ-loop

@@ -1,34 +1,43 @@
 -- `reader::slots::tail_holds` meets its contract: only a block's last slot has a tail. Assumes nothing.
-use mathlib.Core.Path.{_≡_}
-use Prim.Native.Nat.{_+_, _/_, _%_}
+use mathlib.Core.Path.{sym, ap₂, _∙_}
+use Prim.Native.Nat.{ℕ, _+_, _-_}
 use native.Mathlib.Omega.{arith}
-use borrow.Author.Tests.{eq-eqb, ne-eqb}
-use borrow.Author.Needs.{needs}
-use Rattle.record.specs.Layout.{editionOf, tailAt}
-use Rattle.record.specs.Slots.{tailRight}
+use Rattle.record.specs.Layout.{editionOf, zeros}
+use Rattle.record.proofs.SlotLaws.{tail-last, tail-none}
+use Rattle.record.proofs.SoundLayout.{sound-of, Numbers, numbers-of}
 use Rattle.reader.proofs.slots.tail_holds.Statement.{statement}
 use Rattle.reader.proofs.slots.tail_holds.Tie as tie
 
+-- the edition's numbers
+sizes : (c : tie.Start) → Numbers (editionOf (c .args .s .now)) (c .args .ed)
+sizes c = numbers-of (c .args .s .now) (c .args .ed) (c .pre .0)
+
 add-if1 : tie.Need-add-if1
-add-if1 c = search needs
+add-if1 c = let a = c .before .before in omega (arith, a .good, sizes a, a .pre .1)
 
 returns : tie.Need-returns
-unfolding tailRight
-returns c = λ e q. rw (ne-eqb (e % 7) 6 (λ f. omega arith))
+returns c = λ e q.
+    let a = c .before .before .before in
+    sym (tail-none (editionOf (a .args .s .now)) (sound-of (a .args .s .now)) (a .args .s .now) e (a .args .at) q (λ z. c .if1 .taken (omega (arith, sizes a .rest, z))))
 
 add-is-zero : tie.Need-add-is-zero
-add-is-zero c = search needs
+add-is-zero c = let a = c .before .before .before .before in omega (arith, a .good, sizes a, a .pre .1)
+
+sub-is-zero : tie.Need-sub-is-zero
+sub-is-zero c = omega (arith, sizes (c .before .before .before .before .before))
+
+sub-is-zero-2 : tie.Need-sub-is-zero-2
+sub-is-zero-2 c = omega (arith, sizes (c .before .before .before .before .before))
 
 is-zero-requires : tie.Need-is-zero-requires
-is-zero-requires c κs = search needs
+is-zero-requires c κs = let a = c .before .before .before .before .before in omega (arith, sizes a, a .pre .1, c .before .before .if1 .left)
 
 returns-2 : tie.Need-returns-2
-unfolding tailRight
 returns-2 c = λ e q.
-    let block : c .before .before .before .args .at / 512 ≡ 1 + e / 7 = omega arith in
-    let last : e % 7 ≡ 6 = omega arith in
-    let next : c .before .before .before .args .at + 64 ≡ tailAt (editionOf (c .before .before .before .args .s .now)) e = omega arith in
-    rw (eq-eqb _ _ last, ← next) (c .is-zero .ensures)
+    let a = c .before .before .before .before .before .before in
+    let d = sizes a in
+    c .is-zero .ensures ∙ ap₂ (λ (r b : ℕ). zeros (r - b - 4) (a .args .s .now) (a .args .at + b)) (d .rest) (d .slot)
+    ∙ sym (tail-last (editionOf (a .args .s .now)) (sound-of (a .args .s .now)) (a .args .s .now) e (a .args .at) q (omega (arith, d .rest, c .before .before .before .if1 .left)))
 
 pub tail-holds-spec : {M : Type 1} → statement M
-tail-holds-spec = tie.close (tie.spec add-if1 returns add-is-zero is-zero-requires returns-2)
+tail-holds-spec = tie.close (tie.spec add-if1 returns add-is-zero sub-is-zero sub-is-zero-2 is-zero-requires returns-2)

@@ -16,20 +16,20 @@ value-requires c κs = search needs
 site-requires : tie.Need-site-requires
 site-requires c κs = search needs
 
-cast-t10 : tie.Need-cast-t10
-cast-t10 c = search needs
+cast-t9 : tie.Need-cast-t9
+cast-t9 c = search needs
 
 object-requires : tie.Need-object-requires
 object-requires c κs = search needs
 
-mul-t13 : tie.Need-mul-t13
-mul-t13 c = search needs
+mul-t12 : tie.Need-mul-t12
+mul-t12 c = search needs
 
-mul-t15 : tie.Need-mul-t15
-mul-t15 c = search needs
+mul-t14 : tie.Need-mul-t14
+mul-t14 c = search needs
 
-add-t16 : tie.Need-add-t16
-add-t16 c = search needs
+add-t15 : tie.Need-add-t15
+add-t15 c = search needs
 
 returns : tie.Need-returns
 returns c =
@@ -46,9 +46,9 @@ slot-spec =
     present-requires
     value-requires
     site-requires
-    cast-t10
+    cast-t9
     object-requires
-    mul-t13
-    mul-t15
-    add-t16
+    mul-t12
+    mul-t14
+    add-t15
     returns)

@@ -4,6 +4,7 @@ use Prim.Native.Nat.{_*_}
 use native.Mathlib.Omega.{arith}
 use lib.ListN.{length, take, length-take, length-replicate}
 use lib.Seq.{length-take-le}
+use Rattle.record.specs.Layout.{objectCount}
 use Rattle.events.specs.Given.{groupRows}
 use Rattle.tables.proofs.GroupLaws.{empty-front, groups-of}
 use borrow.Author.Needs.{needs}
@@ -23,13 +24,13 @@ slice-relend-prefix-fill-objects : tie.Need-slice-relend-prefix-fill-objects
 slice-relend-prefix-fill-objects c = omega (arith, full (c .before .before))
 
 slice-aggregate-fill-objects : tie.Need-slice-aggregate-fill-objects
-slice-aggregate-fill-objects c = let s = c .before .before .before in sym (length-take-le (256 * s .args .w) (s .args .g .now) (omega (arith, full s)))
+slice-aggregate-fill-objects c = let s = c .before .before .before in sym (length-take-le (objectCount * s .args .w) (s .args .g .now) (omega (arith, full s)))
 
 fill-objects-requires : tie.Need-fill-objects-requires
 fill-objects-requires c κs =
     let s = c .before .before .before in
     let a = s .pre .0 in
-    ((a .0, a .1, omega (arith, a .3, length-take (256 * s .args .w) (s .args .g .now))), ap (take (256 * s .args .w)) (s .pre .1) ∙ empty-front (s .args .w))
+    ((a .0, a .1, omega (arith, a .3, length-take (objectCount * s .args .w) (s .args .g .now))), ap (take (objectCount * s .args .w)) (s .pre .1) ∙ empty-front (s .args .w))
 
 mul-fill-kinds : tie.Need-mul-fill-kinds
 mul-fill-kinds c = search needs

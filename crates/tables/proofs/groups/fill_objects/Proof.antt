@@ -3,6 +3,7 @@ use Prim.Native.Nat.{_+_, _-_, _*_, _^_, _<_, _≤_}
 use mathlib.Core.Path.{_≡_, refl, ap, _∙_}
 use native.Mathlib.Omega.{arith}
 use lib.ListN.{length, length-replicate}
+use Rattle.record.specs.Layout.{objectCount}
 use Rattle.record.specs.Words.{objectIn}
 use Rattle.rows.proofs.TableLaws.{row-room}
 use Rattle.tables.proofs.GroupLaws.{KeyRows, keys-none, keys-more, keys-all}
@@ -16,19 +17,19 @@ Inv-loop l n w g₀ e₀ g e = (e ≤ n) × (length g ≡ length g₀) × KeyRow
 abbrev μ-loop : tie.MeasureT-loop
 μ-loop l n w g₀ e₀ g e = n - e
 
-full : (s : tie.Start Inv-loop μ-loop) → length (s .args .g .now) ≡ 256 * s .args .w
-full s = ap length (s .pre .1) ∙ length-replicate (256 * s .args .w) 0
+full : (s : tie.Start Inv-loop μ-loop) → length (s .args .g .now) ≡ objectCount * s .args .w
+full s = ap length (s .pre .1) ∙ length-replicate (objectCount * s .args .w) 0
 
 sized : (c : tie.At-loop Inv-loop μ-loop) → length (c .loop .g) ≡ length (c .before .before .before .args .g .now)
 sized c = search needs
 
-small : (c : tie.After-object Inv-loop μ-loop) → c .object .result < 256
+small : (c : tie.After-object Inv-loop μ-loop) → c .object .result < objectCount
 small c = omega (arith, c .object .ensures)
 
 place : (c : tie.After-object Inv-loop μ-loop) → c .object .result * c .before .before .before .before .before .args .w + c .before .before .before .before .before .args .w ≤ length (c .before .before .loop .g)
 place c =
     let s = c .before .before .before .before .before in
-    row-room 256 (s .args .w) (c .object .result) (length (c .before .before .loop .g)) (small c) (omega (arith, full s, sized (c .before .before)))
+    row-room objectCount (s .args .w) (c .object .result) (length (c .before .before .loop .g)) (small c) (omega (arith, full s, sized (c .before .before)))
 
 -- the words that hold the rows, and so the place in bits, fit
 short : (c : tie.After-object Inv-loop μ-loop) → 64 * length (c .before .before .loop .g) < 2 ^ 64
@@ -40,7 +41,7 @@ inside c = omega (arith, c .before .loop-test .taken, c .before .before .before 
 loop-holds : tie.Need-loop-holds Inv-loop μ-loop
 loop-holds c =
     let s = c .before .before in
-    (omega arith, refl, keys-none (s .args .w) (objectIn (s .args .l .now)) (256 * s .args .w) (s .args .g .now) (s .pre .1))
+    (omega arith, refl, keys-none (s .args .w) (objectIn (s .args .l .now)) (objectCount * s .args .w) (s .args .g .now) (s .pre .1))
 
 object-requires : tie.Need-object-requires Inv-loop μ-loop
 object-requires c κs = search needs

@@ -1,11 +1,11 @@
--- `reader::blocks::sums` meets its contract. The loop's invariant: the lanes hold the sums of the rows passed, and are too small to wrap. Assumes nothing.
+-- `record::sums::of_block` meets its contract. The loop's invariant: the lanes hold the sums of the rows passed, and are too small to wrap. Assumes nothing.
 use mathlib.Core.Path.{_≡_, refl, _∙_}
 use Prim.Native.Nat.{_≤_, _-_}
 use native.Mathlib.Omega.{arith}
 use borrow.Author.Needs.{needs}
 use Rattle.record.proofs.SumLaws.{Lanes, lanes-start, lanes-more, lanes-end}
-use Rattle.reader.proofs.blocks.sums.Statement.{statement}
-use Rattle.reader.proofs.blocks.sums.Tie as tie
+use Rattle.record.proofs.sums.of_block.Statement.{statement}
+use Rattle.record.proofs.sums.of_block.Tie as tie
 
 abbrev Inv-loop : tie.InvT-loop
 Inv-loop s k at first a0₀ a1₀ a2₀ a3₀ b0₀ b1₀ b2₀ b3₀ r₀ a0 a1 a2 a3 b0 b1 b2 b3 r = (r ≤ 63) × Lanes s k r a0 a1 a2 a3 b0 b1 b2 b3
@@ -194,8 +194,8 @@ returns c =
     let ends = lanes-end _ _ (rw e at (l .inv .1)) (w .before .u16-at5 .ensures) (w .u16-at6 .ensures) in
     (c .before .remainder .ensures ∙ ends .0, c .remainder2 .ensures ∙ ends .1)
 
-pub sums-spec : {M : Type 1} → statement M
-sums-spec =
+pub of-block-spec : {M : Type 1} → statement M
+of-block-spec =
     tie.close
     (tie.spec
     Inv-loop

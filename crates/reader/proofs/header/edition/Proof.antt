@@ -1,0 +1,26 @@
+-- `reader::header::edition` meets its contract: the letters are compared with each edition's. Assumes nothing.
+use mathlib.Core.Path.{sym, ap, _∙_}
+use borrow.Author.Needs.{needs}
+use Rattle.record.specs.Layout.{GCR2, numbersOf}
+use Rattle.record.proofs.LayoutLaws.{letters-name, edition-first, edition-short}
+use Rattle.reader.proofs.header.edition.Statement.{statement}
+use Rattle.reader.proofs.header.edition.Tie as tie
+
+returns : tie.Need-returns
+returns c = sym (ap numbersOf (edition-short (c .before .before .args .s .now) (c .if1 .taken)))
+
+has-letters-requires : tie.Need-has-letters-requires
+has-letters-requires c κs = search needs
+
+returns-2 : tie.Need-returns-2
+returns-2 c =
+    let l = c .before in
+    sym (ap numbersOf (letters-name GCR2 (l .before .before .before .before .args .s .now) (sym (l .has-letters .ensures) ∙ c .if2 .taken)))
+
+returns-3 : tie.Need-returns-3
+returns-3 c =
+    let l = c .before in
+    sym (ap numbersOf (edition-first (l .before .before .before .before .args .s .now) (sym (l .has-letters .ensures) ∙ c .if2 .left)))
+
+pub edition-spec : {M : Type 1} → statement M
+edition-spec = tie.close (tie.spec returns has-letters-requires returns-2 returns-3)
