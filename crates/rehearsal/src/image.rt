@@ -18,7 +18,14 @@ ghost use Rattle.calls.specs.Lent.{countIn, lent, storeIn};
 ghost use Rattle.rehearsal.specs.Runs.{Recordable};
 
 // The slot of each event.
-fn put_slots(ed: Edition, known: &[u64], sees: &[u64], cells: &[u64], events: &[u64], rec: &mut [u8])
+fn put_slots(
+    ed: Edition,
+    known: &[u64],
+    sees: &[u64],
+    cells: &[u64],
+    events: &[u64],
+    rec: &mut [u8],
+)
     requires { ⌜ ed ≡ numbersOf storeLayout ⌝ }
     requires { ⌜ Recordable (now known) (now sees) (now cells) (now events) ⌝ }
     requires { ⌜ 512 * blocksFor storeLayout (countIn (now cells)) ≤ length (now rec) ⌝ }
