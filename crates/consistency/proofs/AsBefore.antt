@@ -1,16 +1,18 @@
--- Records of letters other than those of `GCR2`, so every `GCR1`, are read and judged as before there was a second edition. Assumes nothing.
+-- Records of letters other than those of `GCR2` and `GCR3`, so every `GCR1`, are judged as before there was a second edition, and up to 19,456 bytes read as then. Assumes nothing.
 use mathlib.Core.Path.{_≡_, refl, sym, ap, subst, _∙_}
 use mathlib.Core.Bool.{Bool, true, false, not, cond, _&&_}
 use mathlib.Core.List.{List, [], _∷_}
-use Prim.Native.Nat.{ℕ}
+use Prim.Native.Nat.{ℕ, _≤_}
 use lib.Dec.{eqb, leb, ltb}
-use lib.ListN.{take}
+use lib.ListN.{length, take}
 use Rattle.rows.specs.Relation.{Rel}
-use Rattle.record.specs.Layout.{Layout, GCR1, gcr1, gcr2, editionOf, countIn, sitesIn, zeros, same}
+use Rattle.record.specs.Layout.{Layout, GCR1, gcr1, gcr2, gcr3, editionOf, countIn, sitesIn, zeros, same}
 use Rattle.record.specs.Terms.{Held, none, value, Terms}
 use Rattle.record.specs.History.{History, historyOf, under}
-use Rattle.record.specs.Questions.{termsRight, headerRight}
+use Rattle.record.specs.Questions.{lengthRight, termsRight, headerRight}
+use Rattle.record.specs.BeforeHarvest.{longestBefore, layoutBefore, lengthBefore}
 use Rattle.record.proofs.LayoutLaws.{letters-name, edition-first}
+use Rattle.record.proofs.BeforeHarvest.{length-kept}
 use Rattle.consistency.specs.FirstPair.{first}
 use Rattle.consistency.specs.Relations.{rb, ar, write, read, from}
 use Rattle.consistency.specs.Reads.{lastWrite, sameHeld, held, leftBy, expected, wrongRead, lastOr, wrong}
@@ -25,9 +27,9 @@ use Rattle.consistency.proofs.SameVerdict.{SameFor, verdict-under}
 
 -- ---- what was asked of block 0, and what a read was held to, before
 
--- the edition that there was, in numbers
+-- the edition that there was
 abbrev pub before : Layout
-before = record { letters = 71 ∷ 67 ∷ 82 ∷ 49 ∷ []; slot = 64; perBlock = 7; row = 4; events = 256; terms = false }
+before = layoutBefore false
 
 abbrev pub headerBefore : List ℕ → Bool
 headerBefore s = same (take 4 s) (71 ∷ 67 ∷ 82 ∷ 49 ∷ []) && (leb (countIn s) 256 && (leb 1 (sitesIn s) && (leb (sitesIn s) 8 && zeros 501 s 7)))
@@ -48,8 +50,10 @@ wrongBefore h e w =
 -- ---- as before
 
 pub record AsBefore (s : List ℕ) : Type 0 where
-  -- so every other question, and predicates 2 and 13, of which no definition moved, are asked in the edition that there was
+  -- so every other question but 3, and predicates 2 and 13, of which no definition moved, are asked in the edition that there was
   pub edition : editionOf s ≡ before
+  -- question 3, up to the longest record that there was
+  pub length : length s ≤ longestBefore → lengthRight s ≡ lengthBefore s
   -- question 5
   pub header : headerRight (editionOf s) s ≡ headerBefore s
   -- predicate 1
@@ -109,6 +113,7 @@ first-count s = refl
 pub first-as-before : (s : List ℕ) → editionOf s ≡ gcr1 → AsBefore s
 first-as-before s first-one = record {
   edition = first-one;
+  length = length-kept s;
   header = ap (λ (L : Layout). headerRight L s) first-one ∙ header-before s;
   reads = subst (λ (L : Layout). verdict RVal (historyOf L s) ≡ first (countIn s) (wrongBefore (historyOf L s))) (sym first-one)
       (reads-before (historyOf gcr1 s) (none-before s) ∙ ap (λ (n : ℕ). first n (wrongBefore (historyOf gcr1 s))) (first-count s));
@@ -121,8 +126,8 @@ first-as-before s first-one = record {
 }
 
 -- as every record is whose letters are no other edition's
-pub as-before : (s : List ℕ) → same (take 4 s) (gcr2 .letters) ≡ false → AsBefore s
-as-before s e = first-as-before s (edition-first s e)
+pub as-before : (s : List ℕ) → same (take 4 s) (gcr3 .letters) ≡ false → same (take 4 s) (gcr2 .letters) ≡ false → AsBefore s
+as-before s d e = first-as-before s (edition-first s d e)
 
 -- and every `GCR1`
 pub gcr1-as-before : (s : List ℕ) → same (take 4 s) (gcr1 .letters) ≡ true → AsBefore s

@@ -13,12 +13,12 @@ use Rattle.rows.specs.Row.{digit, bitOf}
 use Rattle.rows.specs.Octets.{hasByte, little}
 use Rattle.rows.specs.Relation.{via, reaches}
 use Rattle.rows.specs.Shortest.{leads, distance, stepsFrom, shortestChain}
-use Rattle.record.specs.Layout.{zeros, same}
+use Rattle.record.specs.Layout.{zeros, same, mostEvents, longestRecord}
 use Rattle.record.specs.Terms.{openingIn, openingsRight}
 use Rattle.record.specs.Blocks.{sumA, sumB, blockRight}
 use Rattle.record.specs.History.{historyOf, vis}
 use Rattle.record.specs.Slots.{placeRight, valueRight, timesRight, gapsRight, eventRight, tailRight, slotRight}
-use Rattle.record.specs.Questions.{ask, lengthRight, termsRight, headerRight, blocksRight, wrongPosition, wrongSet, onRing, byteQuestions, setQuestions, questions}
+use Rattle.record.specs.Questions.{ask, lengthRight, termsRight, headerRight, blocksRight, wrongPosition, wrongSet, onRing, byteQuestions, afterLength, setQuestions, questions}
 use Rattle.record.specs.Encode.{littleBytes, bits, setBytes, slotBytes, figureBytes, openingBytes, termsBytes, withTerms, withSlots, sealed, unsealed, recordBytes}
 use Rattle.consistency.specs.FirstPair.{firstLeft, first}
 use Rattle.consistency.specs.Relations.{ss, ob, rb, so, ar, step, hb, through}
@@ -35,7 +35,7 @@ use Rattle.store.specs.Outstanding.{outstanding, puts, toldDone, toldCopies}
 use Rattle.store.specs.Recorded.{rank, recorded, storeRecord}
 use Rattle.store.specs.Rehearsal.{rehearsalRefusal, termsOf, storeAfter, recordOf}
 use Rattle.record.specs.Listed.{member, historyOfEvents}
-use Rattle.edges.specs.Cases.{Case, calledAfter, admitted, noOpenings, putsOf, right, allRight, ofEmpty, ofRing, ofHistories, ofBreaks, ofClocks, ofLargest, ofListing, ofDeliveries, ofCloses, ofCopies, ofBlock0, ofZeros, ofLacking, ofDifference, ofExceeded, ofSecond, ofPast, ofFirst, ofOpenings, ofRefusals, ofModels, ofRoom, ofScripts, edges}
+use Rattle.edges.specs.Cases.{Case, calledAfter, admitted, noOpenings, putsOf, right, allRight, ofEmpty, ofRing, ofHistories, ofBreaks, ofClocks, ofLargest, ofListing, ofDeliveries, ofCloses, ofCopies, ofBlock0, ofZeros, ofLacking, ofCounts, ofDifference, ofExceeded, ofSecond, ofThird, ofPast, ofFirst, ofOpenings, ofRefusals, ofModels, ofRoom, ofScripts, edges}
 
 also : (l m : List Case) → allRight l ≡ true → allRight m ≡ true → allRight (l ++ m) ≡ true
 unfolding allRight
@@ -48,7 +48,7 @@ also (c ∷ l) m e f = go (right c) (allRight l) (allRight (l ++ m)) e (λ g. al
 
 -- the test of a part: to unfold it is to unfold all that the cases ask
 unfoldable test : List Case → Bool
-unfolding searchFrom lowest some sum leads distance stepsFrom shortestChain digit bitOf hasByte little via reaches zeros same sumA sumB blockRight historyOf vis placeRight valueRight timesRight gapsRight eventRight tailRight slotRight lengthRight openingIn openingsRight termsRight headerRight blocksRight wrongPosition wrongSet onRing byteQuestions setQuestions questions littleBytes bits setBytes slotBytes figureBytes openingBytes termsBytes withTerms withSlots sealed unsealed recordBytes firstLeft first ss ob rb so ar step hb through candidate lastBelow lastWrite expected wrongRead wrong rule breaks verdict numbered firstBroken admission judgedList judged predicateJudgment packedJudgments middleOf toldBy explainedRecord explanation callAt callsFrom callsOf reached refusal copiesOf allCopies afterCopy afterCopies copied effect afterCall run total doneAnswer answer answers rank recorded storeRecord rehearsalRefusal storeAfter recordOf outstanding puts toldDone toldCopies member historyOfEvents right allRight
+unfolding searchFrom lowest some sum leads distance stepsFrom shortestChain digit bitOf hasByte little via reaches zeros same sumA sumB blockRight historyOf vis placeRight valueRight timesRight gapsRight eventRight tailRight slotRight lengthRight openingIn openingsRight termsRight headerRight blocksRight wrongPosition wrongSet onRing byteQuestions afterLength setQuestions questions littleBytes bits setBytes slotBytes figureBytes openingBytes termsBytes withTerms withSlots sealed unsealed recordBytes firstLeft first ss ob rb so ar step hb through candidate lastBelow lastWrite expected wrongRead wrong rule breaks verdict numbered firstBroken admission judgedList judged predicateJudgment packedJudgments middleOf toldBy explainedRecord explanation callAt callsFrom callsOf reached refusal copiesOf allCopies afterCopy afterCopies copied effect afterCall run total doneAnswer answer answers rank recorded storeRecord rehearsalRefusal storeAfter recordOf outstanding puts toldDone toldCopies member historyOfEvents right allRight
 test cs = allRight cs
 
 empty-hold : allRight ofEmpty ≡ true
@@ -103,6 +103,10 @@ lacking-hold : allRight ofLacking ≡ true
 unfolding test
 lacking-hold = refl
 
+counts-hold : allRight ofCounts ≡ true
+unfolding test
+counts-hold = refl
+
 difference-hold : allRight ofDifference ≡ true
 unfolding test
 difference-hold = refl
@@ -114,6 +118,10 @@ exceeded-hold = refl
 second-hold : allRight ofSecond ≡ true
 unfolding test
 second-hold = refl
+
+third-hold : allRight ofThird ≡ true
+unfolding test
+third-hold = refl
 
 past-hold : allRight ofPast ≡ true
 unfolding test
@@ -146,17 +154,17 @@ unfolding allRight
 one c e cs f = rw (e, f) refl
 
 -- as many puts at one site as there is room for are as many events
-puts-count : (st : Store) (k : ℕ) → st .count + k ≤ 256 → run 1 st (putsOf k) .count ≡ st .count + k
+puts-count : (st : Store) (k : ℕ) → st .count + k ≤ mostEvents → run 1 st (putsOf k) .count ≡ st .count + k
 unfolding run afterCall refusal effect
 puts-count st zero h = omega arith
 puts-count st (suc k) h =
-    let room : st .count < 256 = omega arith in
-    let free : refusal 1 st (put 0 0 1) ≡ 0 = rw (lt-ltb (st .count) 256 room) in
+    let room : st .count < mostEvents = omega arith in
+    let free : refusal 1 st (put 0 0 1) ≡ 0 = rw (lt-ltb (st .count) mostEvents room) in
     let next : Store = effect 1 st (put 0 0 1) in
     let done : afterCall 1 st (put 0 0 1) ≡ next = rw free in
     ap (λ (x : Store). run 1 x (putsOf k) .count) done ∙ puts-count next k (omega arith) ∙ omega arith
 
-module _ (k number : ℕ) (h : k ≤ 256) (e : eqb (ask (ltb k 256) 34 0) number ≡ true) where
+module _ (k number : ℕ) (h : k ≤ mostEvents) (e : eqb (ask (ltb k mostEvents) 34 0) number ≡ true) where
   many : run 1 (fresh (termsOf noOpenings)) (putsOf k) .count ≡ k
   many = puts-count (fresh (termsOf noOpenings)) k (omega arith) ∙ omega arith
 
@@ -170,23 +178,23 @@ module _ (k number : ℕ) (h : k ≤ 256) (e : eqb (ask (ltb k 256) 34 0) number
 
 room-hold : allRight ofRoom ≡ true
 room-hold =
-    one (calledAfter 1 (putsOf 255) (put 0 0 1) 0) (put-asked 255 0 (omega arith) refl) _
-    (one (calledAfter 1 (putsOf 255) (get 0 0) 0) (get-asked 255 0 (omega arith) refl) _
-    (one (calledAfter 1 (putsOf 256) (put 0 0 1) 34) (put-asked 256 34 (omega arith) refl) _
-    (one (calledAfter 1 (putsOf 256) (get 0 0) 34) (get-asked 256 34 (omega arith) refl) [] none-hold)))
+    one (calledAfter 1 (putsOf 383) (put 0 0 1) 0) (put-asked 383 0 (omega arith) refl) _
+    (one (calledAfter 1 (putsOf 383) (get 0 0) 0) (get-asked 383 0 (omega arith) refl) _
+    (one (calledAfter 1 (putsOf 384) (put 0 0 1) 34) (put-asked 384 34 (omega arith) refl) _
+    (one (calledAfter 1 (putsOf 384) (get 0 0) 34) (get-asked 384 34 (omega arith) refl) [] none-hold)))
 
 -- 21 is asked of a script's length
-module _ (openings script rec ans : List ℕ) (k : ℕ) (long : length script ≡ k) (room : 19456 ≤ length rec) (answers : k ≤ length ans)
+module _ (openings script rec ans : List ℕ) (k : ℕ) (long : length script ≡ k) (room : longestRecord ≤ length rec) (answers : k ≤ length ans)
     (fine : (eqb (length openings) 132 && openingsRight openings 0) ≡ true) where
   length-asked : rehearsalRefusal 1 openings script rec ans ≡ ask (eqb (k % 8) 0 && leb k 32768) 21 0
   unfolding rehearsalRefusal
-  length-asked = rw (long, le-leb 19456 (length rec) room, le-leb k (length ans) answers, fine)
+  length-asked = rw (long, le-leb longestRecord (length rec) room, le-leb k (length ans) answers, fine)
 
 no-openings : (eqb (length noOpenings) 132 && openingsRight noOpenings 0) ≡ true
 unfolding test
 no-openings = refl
 
-script-asked : (k room number : ℕ) → 19456 ≤ room → eqb (ask (eqb (k % 8) 0 && leb k 32768) 21 0) number ≡ true → right (admitted noOpenings 1 (replicate k 0) room k number) ≡ true
+script-asked : (k room number : ℕ) → longestRecord ≤ room → eqb (ask (eqb (k % 8) 0 && leb k 32768) 21 0) number ≡ true → right (admitted noOpenings 1 (replicate k 0) room k number) ≡ true
 unfolding right
 script-asked k room number h e =
     ap (λ (x : ℕ). eqb x number)
@@ -194,8 +202,8 @@ script-asked k room number h e =
 
 scripts-hold : allRight ofScripts ≡ true
 scripts-hold =
-    one (admitted noOpenings 1 (replicate 32768 0) 19456 32768 0) (script-asked 32768 19456 0 (omega arith) refl) _
-    (one (admitted noOpenings 1 (replicate 32776 0) 19456 32776 21) (script-asked 32776 19456 21 (omega arith) refl) [] none-hold)
+    one (admitted noOpenings 1 (replicate 32768 0) 33280 32768 0) (script-asked 32768 33280 0 (omega arith) refl) _
+    (one (admitted noOpenings 1 (replicate 32776 0) 33280 32776 21) (script-asked 32776 33280 21 (omega arith) refl) [] none-hold)
 
 pub edges-hold : allRight edges ≡ true
 edges-hold =
@@ -212,12 +220,14 @@ edges-hold =
     (also ofBlock0 _ block0-hold
     (also ofZeros _ zeros-hold
     (also ofLacking _ lacking-hold
+    (also ofCounts _ counts-hold
     (also ofDifference _ difference-hold
     (also ofExceeded _ exceeded-hold
     (also ofSecond _ second-hold
+    (also ofThird _ third-hold
     (also ofPast _ past-hold
     (also ofFirst _ first-hold
     (also ofOpenings _ openings-hold
     (also ofRefusals _ refusals-hold
     (also ofModels _ models-hold
-    (also ofRoom ofScripts room-hold scripts-hold)))))))))))))))))))))
+    (also ofRoom ofScripts room-hold scripts-hold)))))))))))))))))))))))

@@ -6,7 +6,7 @@ use lib.Dec.{eqb}
 use lib.ListN.{drop, take, replicate}
 use lib.Seq.{sets}
 use Rattle.rows.specs.Octets.{little}
-use Rattle.record.specs.Layout.{Layout, gcr1, gcr2, same, workWords}
+use Rattle.record.specs.Layout.{Layout, gcr1, gcr2, gcr3, same, workWords}
 use Rattle.record.specs.History.{History, under}
 use Rattle.record.specs.Encode.{openingBytes, sealed, unsealed, recordBytes}
 use Rattle.record.specs.Terms.{Held, none, value, Terms}
@@ -371,13 +371,13 @@ ofBreaks =
     ∷ told twoMiddles 5 (1 ∷ 3 ∷ [])
     ∷ told byASite 9 (3 ∷ [])
     ∷ told forgetful 9 []
-    ∷ explainedBy [] 1023 0 0 (refused 1 0)
-    ∷ explainedBy [] 1024 0 0 (refused 2 0)
-    ∷ explainedBy [] 1024 0 14 (refused 2 0)
-    ∷ explainedBy [] 1024 255 13 (refused 41 0)
-    ∷ explainedBy [] 1024 256 13 (refused 3 0)
-    ∷ explainedBy (recordBytes gcr1 1 noEvents) 1024 256 1 (refused 42 0)
-    ∷ explainedBy (recordBytes gcr1 1 noEvents) 1024 255 1 (refused 41 0)
+    ∷ explainedBy [] 2303 0 0 (refused 1 0)
+    ∷ explainedBy [] 2304 0 0 (refused 2 0)
+    ∷ explainedBy [] 2304 0 14 (refused 2 0)
+    ∷ explainedBy [] 2304 383 13 (refused 41 0)
+    ∷ explainedBy [] 2304 384 13 (refused 3 0)
+    ∷ explainedBy (recordBytes gcr1 1 noEvents) 2304 384 1 (refused 42 0)
+    ∷ explainedBy (recordBytes gcr1 1 noEvents) 2304 383 1 (refused 41 0)
     ∷ []
 
 -- whether event 0 is rb before event 1 on a difference of clocks, and with that 3 and 4, which are broken where it is
@@ -486,7 +486,8 @@ ofZeros =
     ruled (block0 gcr2 7 (1 ∷ [])) 1 (refused 5 0)
     ∷ ruled (block0 gcr2 8 (255 ∷ 255 ∷ 255 ∷ 255 ∷ [])) 1 met
     ∷ ruled (block0 gcr2 144 (1 ∷ [])) 1 (refused 5 0)
-    ∷ ruled (block0 gcr2 3 (51 ∷ [])) 1 (refused 5 0)
+    ∷ ruled (block0 gcr2 3 (51 ∷ [])) 1 met
+    ∷ ruled (block0 gcr3 3 (52 ∷ [])) 1 (refused 5 0)
     ∷ []
 
 -- the first edition has zeros where the second has the difference
@@ -494,6 +495,14 @@ abbrev pub ofLacking : List Case
 ofLacking =
     ruled (block0 gcr1 8 (1 ∷ [])) 1 (refused 5 0)
     ∷ ruled (block0 gcr1 11 (1 ∷ [])) 1 (refused 5 0)
+    ∷ []
+
+-- n 257 in an older edition, and 384 and 385 in the third: where n is right, the next question is how many blocks there are
+abbrev pub ofCounts : List Case
+ofCounts =
+    ruled (block0 gcr2 4 (1 ∷ 1 ∷ [])) 1 (refused 5 0)
+    ∷ ruled (block0 gcr3 4 (128 ∷ 1 ∷ [])) 1 (refused 6 0)
+    ∷ ruled (block0 gcr3 4 (129 ∷ 1 ∷ [])) 1 (refused 5 0)
     ∷ []
 
 -- four bytes of a difference that all count: 67,305,985 is 1, 2, 3, 4, lowest first
@@ -505,9 +514,12 @@ abbrev pub ofExceeded : List Case
 ofExceeded =
     ruled (recordBytes gcr2 2 (under (record { difference = 67305985; opening = opening 0 7 }) (reversed (returned 0 5) 1 67305991))) 3 (broken 0 1) ∷ []
 
--- one event in either edition, of which the first has no room for the opening
+-- one event in each edition, of which the first has no room for the opening
 abbrev pub ofSecond : List Case
 ofSecond = ruled (recordBytes gcr2 1 (under (opened 31 7) (readOf7 31))) 1 met ∷ []
+
+abbrev pub ofThird : List Case
+ofThird = ruled (recordBytes gcr3 1 (under (opened 31 7) (readOf7 31))) 1 met ∷ []
 
 abbrev pub ofFirst : List Case
 ofFirst = ruled (recordBytes gcr1 1 (under (opened 31 7) (readOf7 31))) 1 (broken 0 0) ∷ []
@@ -526,12 +538,12 @@ ofOpenings =
 
 abbrev pub ofRefusals : List Case
 ofRefusals =
-    admitted (openingBytes (opening 31 7)) 1 lonePut 19456 16 0
-    ∷ admitted (sets noOpenings 131 (1 ∷ [])) 1 lonePut 19456 16 40
-    ∷ admitted (replicate 131 0) 1 lonePut 19456 16 40
-    ∷ admitted (replicate 133 0) 1 lonePut 19456 15 23
-    ∷ admitted (replicate 133 0) 1 lonePut 19455 16 22
-    ∷ admitted (replicate 133 0) 9 lonePut 19456 16 20
+    admitted (openingBytes (opening 31 7)) 1 lonePut 33280 16 0
+    ∷ admitted (sets noOpenings 131 (1 ∷ [])) 1 lonePut 33280 16 40
+    ∷ admitted (replicate 131 0) 1 lonePut 33280 16 40
+    ∷ admitted (replicate 133 0) 1 lonePut 33280 15 23
+    ∷ admitted (replicate 133 0) 1 lonePut 33279 16 22
+    ∷ admitted (replicate 133 0) 9 lonePut 33280 16 20
     ∷ []
 
 -- the order of each model's list, by records that break two of it; and that each asks RVal, by one that breaks nothing else
@@ -568,19 +580,19 @@ putsOf k = replicate k (put 0 0 1)
 -- the last event that there is room for, and the next
 abbrev pub ofRoom : List Case
 ofRoom =
-    calledAfter 1 (putsOf 255) (put 0 0 1) 0
-    ∷ calledAfter 1 (putsOf 255) (get 0 0) 0
-    ∷ calledAfter 1 (putsOf 256) (put 0 0 1) 34
-    ∷ calledAfter 1 (putsOf 256) (get 0 0) 34
+    calledAfter 1 (putsOf 383) (put 0 0 1) 0
+    ∷ calledAfter 1 (putsOf 383) (get 0 0) 0
+    ∷ calledAfter 1 (putsOf 384) (put 0 0 1) 34
+    ∷ calledAfter 1 (putsOf 384) (get 0 0) 34
     ∷ []
 
 -- the longest script, and one of a call more
 abbrev pub ofScripts : List Case
 ofScripts =
-    admitted noOpenings 1 (replicate 32768 0) 19456 32768 0
-    ∷ admitted noOpenings 1 (replicate 32776 0) 19456 32776 21
+    admitted noOpenings 1 (replicate 32768 0) 33280 32768 0
+    ∷ admitted noOpenings 1 (replicate 32776 0) 33280 32776 21
     ∷ []
 
 -- the table, in parts that the checker computes one by one, or by laws where parts are long
 abbrev pub edges : List Case
-edges = ofEmpty ++ (ofRing ++ (ofHistories ++ (ofBreaks ++ (ofClocks ++ (ofLargest ++ (ofListing ++ (ofDeliveries ++ (ofCloses ++ (ofCopies ++ (ofBlock0 ++ (ofZeros ++ (ofLacking ++ (ofDifference ++ (ofExceeded ++ (ofSecond ++ (ofPast ++ (ofFirst ++ (ofOpenings ++ (ofRefusals ++ (ofModels ++ (ofRoom ++ ofScripts)))))))))))))))))))))
+edges = ofEmpty ++ (ofRing ++ (ofHistories ++ (ofBreaks ++ (ofClocks ++ (ofLargest ++ (ofListing ++ (ofDeliveries ++ (ofCloses ++ (ofCopies ++ (ofBlock0 ++ (ofZeros ++ (ofLacking ++ (ofCounts ++ (ofDifference ++ (ofExceeded ++ (ofSecond ++ (ofThird ++ (ofPast ++ (ofFirst ++ (ofOpenings ++ (ofRefusals ++ (ofModels ++ (ofRoom ++ ofScripts)))))))))))))))))))))))

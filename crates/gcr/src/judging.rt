@@ -10,6 +10,7 @@ ghost use Rattle.consistency.specs.Models.{listOf};
 ghost use Rattle.judge.specs.Judgments.{predicateJudgmentOf, modelJudgmentOf, packedJudgment, packedJudgmentsOf, laidOver};
 ghost use Rattle.judge.specs.Hosts.{ExactHost, ExactThirteen};
 ghost use Rattle.judge.specs.Covers.{TellsHosts};
+ghost use Rattle.judge.specs.Kept.{KeepsNumber, KeepsThirteen};
 
 // Judges a model, with the work memory inside.
 #[no_mangle]
@@ -17,6 +18,7 @@ pub extern "C" fn gcr_judge_model(model: u32, s: &[u8]) -> u64
     ensures { λ r. ⌜ r ≡ packedJudgment (modelJudgmentOf workWords model (now (s .entry))) ⌝ }
     ensures { λ r. ⌜ ExactHost workWords model (listOf model) (now (s .entry)) r ⌝ }
     ensures { λ r. ⌜ TellsHosts model (now (s .entry)) r ⌝ }
+    ensures { λ r. ⌜ KeepsNumber model (listOf model) (now (s .entry)) r ⌝ }
 {
     let mut work = [0u64; layout::WORK];
     packing::pack(judge::judge_model(model as usize, s, &mut work))
@@ -27,6 +29,7 @@ pub extern "C" fn gcr_judge_model(model: u32, s: &[u8]) -> u64
 pub extern "C" fn gcr_judge_predicate(predicate: u32, s: &[u8]) -> u64
     ensures { λ r. ⌜ r ≡ packedJudgment (predicateJudgmentOf workWords predicate (now (s .entry))) ⌝ }
     ensures { λ r. ⌜ ExactHost workWords predicate (predicate ∷ []) (now (s .entry)) r ⌝ }
+    ensures { λ r. ⌜ KeepsNumber predicate (predicate ∷ []) (now (s .entry)) r ⌝ }
 {
     let mut work = [0u64; layout::WORK];
     packing::pack(judge::judge_predicate(predicate as usize, s, &mut work))
@@ -49,6 +52,7 @@ pub extern "C" fn gcr_judge_all(s: &[u8], out: &mut [u64]) -> u64
     ensures { λ r. ⌜ r ≡ packedReading (reading (editionOf (now (s .entry))) workWords (now (s .entry))) ⌝ }
     ensures { λ _. ⌜ now (out .exit) ≡ laidOver (packedJudgmentsOf workWords (now (s .entry))) (now (out .entry)) ⌝ }
     ensures { λ _. ⌜ ExactThirteen workWords (now (s .entry)) (now (out .exit)) ⌝ }
+    ensures { λ _. ⌜ KeepsThirteen workWords (now (s .entry)) (now (out .exit)) ⌝ }
 {
     let mut work = [0u64; layout::WORK];
     let all = judge::judge_all(s, &mut work);

@@ -71,16 +71,21 @@ module _ (words : ℕ) (s : List ℕ) where
       let back : p - 1 + 1 ≡ p = omega arith in
       number-at 13 (p - 1) (omega arith) ∙ ap packed-of back
 
+  pub thirteen-at : {out : List ℕ} → out ≡ numbers 13 → (p : ℕ) → 1 ≤ p → p ≤ 13 → getD out (p - 1) 0 ≡ packed-of p
+  thirteen-at e p i j = ap (λ (v : List ℕ). getD v (p - 1) 0) e ∙ predicate-at p i j
+
   pub thirteen-hosts : {out : List ℕ} → out ≡ numbers 13 → ExactThirteen words s out
-  thirteen-hosts e p i j l = predicate-host p (ap (λ (v : List ℕ). getD v (p - 1) 0) e ∙ predicate-at p i j)
+  thirteen-hosts e p i j l = predicate-host p (thirteen-at e p i j)
 
   -- in a host's buffer
-  pub laid-hosts : (out : List ℕ) {after : List ℕ} → after ≡ laidOver (numbers 13) out → ExactThirteen words s after
-  laid-hosts out e p i j l =
+  pub laid-at : (out : List ℕ) {after : List ℕ} → after ≡ laidOver (numbers 13) out → (p : ℕ) → 1 ≤ p → p ≤ 13 → p ≤ length after → getD after (p - 1) 0 ≡ packed-of p
+  laid-at out e p i j l =
       let v : List ℕ = numbers 13 in
       let front : List ℕ = take (length out) v in
       let rest : List ℕ = drop (length v) out in
       let below : p ≤ length out = omega (arith, ap length e, length-append front rest, length-take (length out) v, length-drop (length v) out, numbers-long 13) in
       let within : p - 1 < length front = omega (arith, length-take (length out) v, numbers-long 13) in
-      predicate-host p
-      (ap (λ (x : List ℕ). getD x (p - 1) 0) e ∙ List·getD-append front rest 0 (p - 1) within ∙ getD-take (length out) v (p - 1) 0 (omega arith) ∙ predicate-at p i j)
+      ap (λ (x : List ℕ). getD x (p - 1) 0) e ∙ List·getD-append front rest 0 (p - 1) within ∙ getD-take (length out) v (p - 1) 0 (omega arith) ∙ predicate-at p i j
+
+  pub laid-hosts : (out : List ℕ) {after : List ℕ} → after ≡ laidOver (numbers 13) out → ExactThirteen words s after
+  laid-hosts out e p i j l = predicate-host p (laid-at out e p i j l)

@@ -15,7 +15,7 @@ use Rattle.judge.specs.declared.Judgment.the-variants.{Judged}
 pub data IsBroken : Judgment → Type 0 where
   broken-at : {p a b : ℕ} → IsBroken (Judged (BrokenAt p a b))
 
--- the judge's answer about model m of a record, of whatever edition, over a work slice of 1,024 words
+-- the judge's answer about model m of a record, of whatever edition, over as many words as question 1 asks for
 abbrev pub answer : List ℕ → ℕ → Judgment
 answer s m = modelJudgmentOf workWords m s
 

@@ -19,6 +19,7 @@ ghost use Rattle.judge.specs.Judgments.{admission, judgedList, predicate
 ghost use Rattle.judge.specs.Means.{ExactOf};
 ghost use Rattle.judge.specs.Hosts.{ExactThirteen};
 ghost use Rattle.judge.specs.Clocks.{ByClocks};
+ghost use Rattle.judge.specs.Kept.{KeepsVerdict, KeepsThirteen};
 ghost use Rattle.judge.specs.Covers.{TellsOthers};
 ghost use Rattle.judge.specs.Lists.{upToZero, Numbers};
 
@@ -76,6 +77,7 @@ pub fn judge_predicate(number: usize, s: &[u8], work: &mut [u64]) -> Judgment
     ensures { λ r. ⌜ r ≡ predicateJudgmentOf (length (now (work .entry))) number (now (s .entry)) ⌝ }
     ensures { λ r. ⌜ ExactOf (length (now (work .entry))) number (number ∷ []) (now (s .entry)) r ⌝ }
     ensures { λ r. ⌜ ByClocks (length (now (work .entry))) number (number ∷ []) (now (s .entry)) r ⌝ }
+    ensures { λ r. ⌜ KeepsVerdict (length (now (work .entry))) number (number ∷ []) (now (s .entry)) r ⌝ }
     ensures { λ r. ⌜ now (work .exit) ≡ workAfterJudgment r (now (s .entry)) (now (work .entry)) ⌝ }
 {
     match admit(work.len(), number) {
@@ -90,6 +92,7 @@ pub fn judge_model(number: usize, s: &[u8], work: &mut [u64]) -> Judgment
     ensures { λ r. ⌜ r ≡ modelJudgmentOf (length (now (work .entry))) number (now (s .entry)) ⌝ }
     ensures { λ r. ⌜ ExactOf (length (now (work .entry))) number (listOf number) (now (s .entry)) r ⌝ }
     ensures { λ r. ⌜ ByClocks (length (now (work .entry))) number (listOf number) (now (s .entry)) r ⌝ }
+    ensures { λ r. ⌜ KeepsVerdict (length (now (work .entry))) number (listOf number) (now (s .entry)) r ⌝ }
     ensures { λ r. ⌜ TellsOthers (length (now (work .entry))) number (now (s .entry)) r ⌝ }
     ensures { λ r. ⌜ now (work .exit) ≡ workAfterJudgment r (now (s .entry)) (now (work .entry)) ⌝ }
 {
@@ -106,6 +109,7 @@ pub fn judge_all(s: &[u8], work: &mut [u64]) -> AllJudged
     ensures { λ r. ⌜ r .judgments ≡ packedJudgmentsOf (length (now (work .entry))) (now (s .entry)) ⌝ }
     ensures { λ r. ⌜ ExactThirteen (length (now (work .entry))) (now (s .entry)) (r .judgments) ⌝ }
     ensures { λ r. ⌜ now (work .exit) ≡ workAfter (editionOf (now (s .entry))) (numberOf (r .reading)) (now (s .entry)) (now (work .entry)) ⌝ }
+    ensures { λ r. ⌜ KeepsThirteen (length (now (work .entry))) (now (s .entry)) (r .judgments) ⌝ }
 {
     let reading = reader::read(s, work);
     if record::number(reading) != 0 {

@@ -59,6 +59,11 @@ pub fn edition(s: &[u8]) -> Edition
     if s.len() < 4 {
         return layout::GCR1;
     }
+    let third = layout::GCR3;
+    let letters = third.letters;
+    if has_letters(s, letters) {
+        return third;
+    }
     let second = layout::GCR2;
     let letters = second.letters;
     if has_letters(s, letters) {

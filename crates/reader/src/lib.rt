@@ -14,6 +14,7 @@ ghost use Prim.Native.Nat.{_≤_};
 ghost use lib.ListN.{length};
 ghost use Rattle.record.specs.Layout.{editionOf, numbersOf, workWords};
 ghost use Rattle.record.specs.Questions.{numberOf, byteQuestions, questions, reading};
+ghost use Rattle.record.specs.BeforeHarvest.{KeepsReading};
 ghost use Rattle.record.specs.Words.{workAfter};
 
 // Questions 3 to 8, asked of the bytes alone.
@@ -67,6 +68,7 @@ pub fn ask(s: &[u8], work: &mut [u64]) -> Reading
 pub fn read(s: &[u8], work: &mut [u64]) -> Reading
     ensures { λ r. ⌜ r ≡ reading (editionOf (now (s .entry))) (length (now (work .entry))) (now (s .entry)) ⌝ }
     ensures { λ r. ⌜ now (work .exit) ≡ workAfter (editionOf (now (s .entry))) (numberOf r) (now (s .entry)) (now (work .entry)) ⌝ }
+    ensures { λ r. ⌜ KeepsReading (length (now (work .entry))) (now (s .entry)) r ⌝ }
 {
     if work.len() < layout::WORK {
         return Reading::ShortWork;

@@ -21,8 +21,13 @@ fn load_row(row: &mut [u64], s: &[u8], at: usize, k: usize)
     requires { ⌜ (k ≤ length (now row)) × (at + 8 * k ≤ length (now s)) ⌝ }
     ensures { λ _. ⌜ now (row .exit) ≡ words k (now (s .entry)) at ++ replicate (length (now (row .entry)) - k) 0 ⌝ }
 {
-    octets::load(&mut row[0..k], s, at);
-    rows::clear(&mut row[k..]);
+    for i in 0..row.len() {
+        let mut word: u64 = 0;
+        if i < k {
+            word = octets::u64_at(s, at + 8 * i);
+        }
+        row[i] = word;
+    }
 }
 
 // Loads the sets of n events up to the lowest that has an event from n on, or its own: that event, or n. The first is asked of the set's

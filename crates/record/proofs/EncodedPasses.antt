@@ -21,7 +21,7 @@ use Rattle.record.specs.Terms.{none, openingIn, openingsRight, termsIn, 
 use Rattle.record.specs.Blocks.{blockRight}
 use Rattle.record.specs.History.{History, historyOf, vis, Agree}
 use Rattle.record.specs.Slots.{eventRight, tailRight, slotRight}
-use Rattle.record.specs.Questions.{lengthRight, termsRight, headerRight, blocksRight, slotsIn, wrongPosition, wrongSet, onRing, andThen, byteQuestions, setQuestions, questions}
+use Rattle.record.specs.Questions.{lengthRight, termsRight, headerRight, blocksRight, slotsIn, wrongPosition, wrongSet, onRing, andThen, byteQuestions, afterLength, setQuestions, questions}
 use Rattle.record.specs.Encode.{littleBytes, blocksFor, recordBytes}
 use Rattle.record.specs.WellFormed.{WellFormed}
 use Rattle.record.proofs.AskLaws.{ask-yes, each-yes}
@@ -235,7 +235,7 @@ module _ (L : Layout) (ok : Sound L) (sites : ℕ) (h : History) (good : WellFor
   -- ---- all of them
 
   byte-questions : byteQuestions L (recordBytes L sites h) ≡ Passed
-  unfolding byteQuestions
+  unfolding byteQuestions afterLength
   byte-questions =
       ask-yes (lengthRight s) WrongLength _ length-yes
       ∙ each-yes (length s / 512) (λ k. not (blockRight s k)) WrongCheck _ checks-yes

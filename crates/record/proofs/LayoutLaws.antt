@@ -10,7 +10,7 @@ use lib.Bits.{bitOr, or-zero-l, or-add-and, and-le-r}
 use lib.Dec.{eqb}
 use lib.ListN.{length, take, length-take}
 use Rattle.rows.proofs.Tests.{never, and-left, and-right}
-use Rattle.record.specs.Layout.{EditionName, GCR1, GCR2, edition, gcr1, gcr2, namedBy, editionOf, byte, zeros, same}
+use Rattle.record.specs.Layout.{EditionName, GCR1, GCR2, GCR3, edition, gcr1, gcr2, gcr3, namedBy, editionOf, byte, zeros, same}
 
 -- ---- a loop's turn: `all` is the bytes passed, put together, and k - i are left
 
@@ -73,6 +73,7 @@ named-back : (e : EditionName) → namedBy (edition e .letters) ≡ e
 unfolding same
 named-back GCR1 = refl
 named-back GCR2 = refl
+named-back GCR3 = refl
 
 pub letters-name : (e : EditionName) (s : List ℕ) → same (take 4 s) (edition e .letters) ≡ true → editionOf s ≡ edition e
 letters-name e s t = ap (λ (l : List ℕ). edition (namedBy l)) (same-one (take 4 s) (edition e .letters) t) ∙ ap edition (named-back e)
@@ -85,9 +86,9 @@ same-letters s t q = ap (λ (l : List ℕ). edition (namedBy l)) q
 short-letters : (s letters : List ℕ) → length s < 4 → length letters ≡ 4 → same (take 4 s) letters ≡ false
 short-letters s letters h k = never (same (take 4 s) letters) (λ t. omega (arith, ap length (same-one (take 4 s) letters t), length-take 4 s))
 
--- as the letters are compared: with those of `GCR2`, and where they are no other's it is a `GCR1`
-pub edition-first : (s : List ℕ) → same (take 4 s) (gcr2 .letters) ≡ false → editionOf s ≡ gcr1
-edition-first s t = rw t
+-- where the letters are no other's it is a `GCR1`
+pub edition-first : (s : List ℕ) → same (take 4 s) (gcr3 .letters) ≡ false → same (take 4 s) (gcr2 .letters) ≡ false → editionOf s ≡ gcr1
+edition-first s t u = rw (t, u)
 
 pub edition-short : (s : List ℕ) → length s < 4 → editionOf s ≡ gcr1
-edition-short s h = edition-first s (short-letters s (gcr2 .letters) h refl)
+edition-short s h = edition-first s (short-letters s (gcr3 .letters) h refl) (short-letters s (gcr2 .letters) h refl)

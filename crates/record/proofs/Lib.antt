@@ -23,6 +23,7 @@ pub mod SlotWords
 pub mod WorkLaws
 pub mod WordsLaws
 pub mod QuestionsAnswered
+pub mod BeforeHarvest
 pub mod WordBytes
 pub mod SlotStored
 pub mod WrittenLaws

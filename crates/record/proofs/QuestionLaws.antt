@@ -17,7 +17,7 @@ use Rattle.record.specs.Terms.{openingsRight}
 use Rattle.record.specs.Blocks.{blockRight}
 use Rattle.record.specs.History.{historyOf, vis}
 use Rattle.record.specs.Slots.{placeRight, valueRight, timesRight, gapsRight, eventRight, tailRight, slotRight}
-use Rattle.record.specs.Questions.{numberOf, lengthRight, termsRight, headerRight, blocksRight, slotsIn, wrongPosition, wrongSet, onRing, ask, askEach, byteQuestions, setQuestions, questions, reading}
+use Rattle.record.specs.Questions.{numberOf, lengthRight, termsRight, headerRight, blocksRight, slotsIn, wrongPosition, wrongSet, onRing, ask, askEach, byteQuestions, afterLength, setQuestions, questions, reading}
 use Rattle.record.specs.Answers.{LowestWrong, ChecksRight, SlotsRight, SetsRight, RingsRight, BytesRight}
 use Rattle.record.proofs.AskLaws.{ask-yes, ask-no, ask-into, each-into}
 
@@ -135,7 +135,7 @@ BytesAnswer L s (OnRing e) = ⊥
 
 module _ (L : Layout) (s : List ℕ) where
   pub bytes-asked : byteQuestions L s ≡ fromLength L s Passed
-  unfolding byteQuestions
+  unfolding byteQuestions afterLength
   bytes-asked = refl
 
   pub bytes-answered : BytesAnswer L s (byteQuestions L s)

@@ -8,7 +8,7 @@ use native.Mathlib.Decide.{decLt}
 use borrow.Author.Tests.{eq-eqb, ne-eqb}
 use lib.ListN.{length, take}
 use Rattle.record.specs.declared.Edition.{Edition}
-use Rattle.record.specs.Layout.{Layout, EditionName, GCR1, GCR2, edition, gcr2, namedBy, editionOf, numbersOf, slotAt, nextSlot, tailAt, mostEvents, longestRecord, rowWords, storeEdition, storeLayout}
+use Rattle.record.specs.Layout.{Layout, EditionName, GCR1, GCR2, GCR3, edition, gcr2, namedBy, editionOf, numbersOf, slotAt, nextSlot, tailAt, mostEvents, longestRecord, rowWords, storeEdition, storeLayout}
 use Rattle.record.specs.Encode.{blocksFor}
 use Rattle.record.proofs.StoresLaws.{Outside, Bytes, bytes-nil, bytes-cons}
 
@@ -50,6 +50,18 @@ edition-sound GCR1 = record {
 edition-sound GCR2 = record {
   letters = refl;
   letterBytes = letters-bytes 50 (omega arith);
+  slot = refl;
+  some = omega arith;
+  room = omega arith;
+  wide = omega arith;
+  counted = omega arith;
+  few = omega arith;
+  longest = omega arith;
+  narrow = omega arith;
+}
+edition-sound GCR3 = record {
+  letters = refl;
+  letterBytes = letters-bytes 51 (omega arith);
   slot = refl;
   some = omega arith;
   room = omega arith;

@@ -1,11 +1,13 @@
 -- Laws of the work slice: zero after a refusal, else the visible sets, and the words past those asked for as they were. Assumes nothing.
 use mathlib.Core.Path.{_≡_, sym, ap, ap₂, _∙_}
-use mathlib.Core.List.{List, [], _++_, append-assoc, append-nil}
-use Prim.Native.Nat.{ℕ, _+_, _*_, _-_, _≤_}
+use mathlib.Core.List.{List, _++_, append-assoc}
+use Prim.Native.Nat.{ℕ, _+_, _*_, _-_, _≤_, _<_}
 use native.Mathlib.Omega.{arith}
 use borrow.Author.Tests.{eq-eqb, ne-eqb, le-ltb}
-use lib.ListN.{length, take, drop, replicate, length-append, length-drop, length-replicate, drop-of-length-le}
-use lib.Seq.{length-take-le, take-at, drop-at, drop-drop}
+use lib.ListN.{length, getD, take, drop, replicate, length-append, length-drop, length-replicate, getD-replicate, List·getD-append}
+use lib.Seq.{length-take-le, take-at, drop-at, drop-drop, getD-append-add}
+use Rattle.rows.specs.Octets.{little, words}
+use Rattle.rows.proofs.ByteLaws.{length-words, getD-words}
 use Rattle.record.specs.Layout.{Layout, countIn, mostEvents, rowWords, workWords}
 use Rattle.record.specs.Words.{setRows, visibleWords, workAfter}
 use Rattle.record.proofs.SlotWords.{length-set-rows}
@@ -25,16 +27,15 @@ loaded-past p l d i k q h most =
     let past : (e : List ℕ) → drop k e ≡ drop (k - i) (drop i e) = λ e. ap (λ (j : ℕ). drop j e) (sym whole) ∙ sym (drop-drop (k - i) i e) in
     past d ∙ ap (drop (k - i)) (ap (drop i) q ∙ drop-at p (drop i l) i h) ∙ sym (past l)
 
--- a row r of which the first k words become m, and the rest zero
-pub row-loaded : (k i : ℕ) (r m z : List ℕ) → i ≡ k → k ≤ length r → length m ≡ k → z ≡ replicate (length (take (length (m ++ drop i r) - k) (drop k (m ++ drop i r)))) 0
-    → take k (m ++ drop i r) ++ (z ++ drop (length (m ++ drop i r) - k) (drop k (m ++ drop i r))) ≡ m ++ replicate (length r - k) 0
-row-loaded k i r m z e h size q =
-    let l : List ℕ = m ++ drop i r in
-    let long : length l ≡ length r = omega (arith, length-append m (drop i r), length-drop i r) in
-    let room : length (drop k l) ≡ length r - k = omega (arith, length-drop k l) in
-    let many : length (take (length l - k) (drop k l)) ≡ length r - k = length-take-le (length l - k) (drop k l) (omega arith) ∙ omega arith in
-    let none : drop (length l - k) (drop k l) ≡ [] = drop-of-length-le (drop k l) {i = length l - k} (omega arith) in
-    rw (take-at m (drop i r) k size, none, q, many, append-nil {A = ℕ} (replicate (length r - k) 0))
+-- a row of which the first k words are a set's, and r more are zero, word by word
+module _ (k r i : ℕ) (s : List ℕ) (at : ℕ) where
+  pub row-word : i < k → getD (words k s at ++ replicate r 0) i 0 ≡ little 8 s (at + 8 * i)
+  row-word h = List·getD-append (words k s at) (replicate r 0) 0 i (omega (arith, length-words k s at)) ∙ getD-words k s at i h
+
+  pub row-rest : k ≤ i → i < k + r → getD (words k s at ++ replicate r 0) i 0 ≡ 0
+  row-rest h m =
+      let past : i ≡ length (words k s at) + (i - k) = omega (arith, length-words k s at) in
+      ap (λ (j : ℕ). getD (words k s at ++ replicate r 0) j 0) past ∙ getD-append-add (words k s at) (replicate r 0) (i - k) 0 ∙ getD-replicate r (i - k) 0 0 (omega arith)
 
 rest-zeros : (n : ℕ) → n ≤ mostEvents → workWords - n * rowWords ≡ rowWords * (mostEvents - n)
 rest-zeros n few = omega arith

@@ -39,7 +39,7 @@ slotBytes L h e =
     (littleBytes 2 (h .position e) ++ (replicate 4 0 ++ (littleBytes 8 (h .start e) ++ (littleBytes 8 (h .return e)
     ++ setBytes (8 * L .row) (h .sees e)))))))
 
--- 1 + (n/7 rounded up) blocks
+-- 1 + (n/7 rounded up) blocks where a block has seven slots, n/6 where it has six
 abbrev pub blocksFor : Layout → ℕ → ℕ
 blocksFor L n = 1 + (n + (L .perBlock - 1)) / L .perBlock
 

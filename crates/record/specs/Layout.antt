@@ -27,16 +27,21 @@ pub record Layout : Type 0 where
 pub data EditionName : Type 0 where
   GCR1 : EditionName
   GCR2 : EditionName
+  GCR3 : EditionName
 
 abbrev pub edition : EditionName → Layout
 edition GCR1 = record { letters = 71 ∷ 67 ∷ 82 ∷ 49 ∷ []; slot = 64; perBlock = 7; row = 4; events = 256; terms = false }
 edition GCR2 = record { letters = 71 ∷ 67 ∷ 82 ∷ 50 ∷ []; slot = 64; perBlock = 7; row = 4; events = 256; terms = true }
+edition GCR3 = record { letters = 71 ∷ 67 ∷ 82 ∷ 51 ∷ []; slot = 80; perBlock = 6; row = 6; events = 384; terms = true }
 
 abbrev pub gcr1 : Layout
 gcr1 = edition GCR1
 
 abbrev pub gcr2 : Layout
 gcr2 = edition GCR2
+
+abbrev pub gcr3 : Layout
+gcr3 = edition GCR3
 
 abbrev pub byte : List ℕ → ℕ → ℕ
 byte s at = getD s at 0
@@ -74,7 +79,7 @@ same (x ∷ l) (y ∷ m) = eqb x y && same l m
 
 -- the edition that four letters name; those of none are taken for `GCR1`, and question 5 asks whether they are its own
 abbrev pub namedBy : List ℕ → EditionName
-namedBy letters = cond (same letters (gcr2 .letters)) GCR2 GCR1
+namedBy letters = cond (same letters (gcr3 .letters)) GCR3 (cond (same letters (gcr2 .letters)) GCR2 GCR1)
 
 abbrev pub editionOf : List ℕ → Layout
 editionOf s = edition (namedBy (take 4 s))
@@ -95,21 +100,21 @@ numbersOf L = record {
 
 -- the most events of a record, of whatever edition, and the bytes of the longest
 abbrev pub mostEvents : ℕ
-mostEvents = 256
+mostEvents = 384
 
 abbrev pub longestRecord : ℕ
-longestRecord = 19456
+longestRecord = 33280
 
 -- words of 64 bits that a reader is lent: a row of so many for each event
 abbrev pub rowWords : ℕ
-rowWords = 4
+rowWords = 6
 
 abbrev pub workWords : ℕ
 workWords = mostEvents * rowWords
 
 -- the edition in which a store leaves its record
 abbrev pub storeEdition : EditionName
-storeEdition = GCR2
+storeEdition = GCR3
 
 abbrev pub storeLayout : Layout
 storeLayout = edition storeEdition

@@ -6,6 +6,7 @@ pub mod History
 pub mod Slots
 pub mod Questions
 pub mod Answers
+pub mod BeforeHarvest
 pub mod LaidOut
 pub mod Words
 pub mod Encode

@@ -54,7 +54,7 @@ headerRight L s =
     same (take 4 s) (L .letters)
     && (leb (countIn s) (L .events) && (leb 1 (sitesIn s) && (leb (sitesIn s) 8 && termsRight L s)))
 
--- 6: 1 + (n/7 rounded up) blocks
+-- 6: 1 + (n/7 rounded up) blocks where a block has seven slots, n/6 where it has six
 unfoldable pub blocksRight : Layout → List ℕ → Bool
 blocksRight L s = eqb (length s / 512) (1 + (countIn s + (L .perBlock - 1)) / L .perBlock)
 
@@ -83,15 +83,18 @@ ask false refusal next = refusal
 abbrev pub askEach : ℕ → (ℕ → Bool) → (ℕ → Reading) → Reading → Reading
 askEach n wrong refusal next = ask (not (some n wrong)) (refusal (lowest n wrong)) next
 
--- questions 3 to 8, which are asked of the bytes alone
-unfoldable pub byteQuestions : Layout → List ℕ → Reading
-byteQuestions L s =
-    ask (lengthRight s) WrongLength
-    (askEach (length s / 512) (λ k. not (blockRight s k)) WrongCheck
+-- questions 4 to 8, of a record whose length is right
+unfoldable pub afterLength : Layout → List ℕ → Reading
+afterLength L s =
+    askEach (length s / 512) (λ k. not (blockRight s k)) WrongCheck
     (ask (headerRight L s) WrongHeader
     (ask (blocksRight L s) WrongBlocks
     (askEach (slotsIn L s) (λ e. not (slotRight L s e)) WrongSlot
-    (askEach (countIn s) (wrongPosition (historyOf L s)) WrongPosition Passed)))))
+    (askEach (countIn s) (wrongPosition (historyOf L s)) WrongPosition Passed))))
+
+-- and 3 before them: those which are asked of the bytes alone
+unfoldable pub byteQuestions : Layout → List ℕ → Reading
+byteQuestions L s = ask (lengthRight s) WrongLength (afterLength L s)
 
 -- and 9 and 10, of n events and their vis
 unfoldable pub setQuestions : Layout → ℕ → Rel → Reading

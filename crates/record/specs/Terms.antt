@@ -43,7 +43,7 @@ stray s at o = not (hasByte s at o) && not (eqb (little 4 s (at + 4 + 4 * o)) 0)
 unfoldable pub openingsRight : List ℕ → ℕ → Bool
 openingsRight s at = not (some 32 (stray s at))
 
--- ---- in a record: `GCR2` has the difference in bytes 8 to 11, and openings from byte 12 on
+-- ---- in a record: an edition with terms has the difference in bytes 8 to 11, and openings from byte 12 on
 
 abbrev pub differenceIn : Layout → List ℕ → ℕ
 differenceIn L s = cond (L .terms) (little 4 s 8) 0

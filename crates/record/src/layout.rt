@@ -27,18 +27,28 @@ pub const GCR2: Edition = Edition {
     terms: true,
 };
 
+pub const GCR3: Edition = Edition {
+    letters: *b"GCR3",
+    slot: 80,
+    rest: 112,
+    slots: 6,
+    row: 6,
+    events: 384,
+    terms: true,
+};
+
 // The house's numbers, whatever a record's edition is: the most events, the bytes of the longest record, and words of 64 bits of a row of the work slice and of
 // the whole slice.
-pub const EVENTS: usize = 256;
+pub const EVENTS: usize = 384;
 
-pub const LONGEST: usize = 19456;
+pub const LONGEST: usize = 33280;
 
-pub const ROW: usize = 4;
+pub const ROW: usize = 6;
 
 pub const WORK: usize = EVENTS * ROW;
 
 // The edition in which a store leaves its record.
-pub const STORE: Edition = GCR2;
+pub const STORE: Edition = GCR3;
 
 // Whatever the edition: the objects; words of the fields of an event, of those of all events, and of the terms in block 0.
 pub const OBJECTS: usize = 256;

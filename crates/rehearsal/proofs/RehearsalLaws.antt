@@ -145,7 +145,7 @@ accepted n openings script rec ans e =
       right = and-right (eqb (length openings) 132) (openingsRight openings 0) (q40 .0);
     }
 
--- its record is a `GCR2`, by its letters
+-- its record is of the edition that a store writes, by its letters
 pub record-edition : (n : ℕ) (openings script rec ans : List ℕ) → rehearsalRefusal n openings script rec ans ≡ 0 → Bytes openings → Bytes script
     → editionOf (recordOf n openings script) ≡ storeLayout
 unfolding recordOf storeRecord

@@ -13,7 +13,7 @@ use borrow.Author.Tests.{eqb-true}
 use Rattle.rows.specs.Octets.{little}
 use Rattle.rows.proofs.Tests.{split, and-left}
 use Rattle.rows.proofs.CountLaws.{sum-same}
-use Rattle.record.specs.Layout.{byte}
+use Rattle.record.specs.Layout.{byte, mostEvents}
 use Rattle.record.specs.Terms.{Terms}
 use Rattle.record.specs.Encode.{bit, littleBytes}
 use Rattle.record.proofs.NumberBytes.{length-little, little-stands}
@@ -120,7 +120,7 @@ module _ (n : ℕ) (n≤8 : n ≤ 8) (T : Terms) (s rest : List ℕ) where
       ∙ ap bit (done-read kind n (before k) s (8 * k))
 
   -- bytes 4 to 7 of an answer
-  value-told : (k : ℕ) → k < length s / 8 → (a b c d x : ℕ) → x ≤ 2048
+  value-told : (k : ℕ) → k < length s / 8 → (a b c d x : ℕ) → x ≤ 8 * mostEvents
       → answer n (before k) (call k) ≡ a ∷ b ∷ c ∷ d ∷ littleBytes 4 x → little 4 told (8 * k + 4) ≡ x
   value-told k l a b c d x few e =
       little-stands 4 x told (8 * k + 4) (omega arith)

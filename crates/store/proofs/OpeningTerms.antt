@@ -1,4 +1,4 @@
--- Openings of bytes, as a rehearsal is lent them, are terms that a `GCR2` can have. Assumes nothing.
+-- Openings of bytes, as a rehearsal is lent them, are terms that a store's record can have. Assumes nothing.
 use mathlib.Core.Path.{refl}
 use mathlib.Core.Bool.{true≢false}
 use mathlib.Core.List.{List}

@@ -1,4 +1,4 @@
--- On any terms and for every list of calls causal visibility, causal arbitration and RVal hold of the store's record; and on terms that a `GCR2` can
+-- On any terms and for every list of calls causal visibility, causal arbitration and RVal hold of the store's record; and on terms that its record can
 -- have it passes the questions asked of events. Assumes nothing.
 use mathlib.Core.Path.{_≡_, sym, ap, _∙_}
 use mathlib.Core.Bool.{true, false, _&&_, false≢true}

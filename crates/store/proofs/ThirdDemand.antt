@@ -27,7 +27,7 @@ use Rattle.store.proofs.Sizes.{AllFit, calls-fit}
 use Rattle.store.proofs.StoreIsCausal.{store-well-formed, store-causal-visibility, store-causal-arbitration, store-r-val}
 use Rattle.store.proofs.OpeningTerms.{openings-formed}
 
--- the record of a history of well-formed events is a `GCR2` by its letters, passes, and has what the history has
+-- the record of a history of well-formed events is of that edition by its letters, passes, and has what the history has
 module _ (n : ℕ) (h : History) (good : WellFormed storeLayout n h) where
   abbrev s : List ℕ
   s = recordBytes storeLayout n h

@@ -2,8 +2,9 @@
 use mathlib.Core.Path.{_≡_}
 use mathlib.Core.Bool.{false}
 use mathlib.Core.List.{List, _∷_, _++_}
-use Prim.Native.Nat.{ℕ, _≤_, _<_}
+use Prim.Native.Nat.{ℕ, _*_, _≤_, _<_}
 use lib.ListN.{replicate}
+use Rattle.record.specs.Layout.{mostEvents}
 use Rattle.record.specs.Encode.{littleBytes}
 use Rattle.store.specs.Store.{Store}
 use Rattle.store.specs.Calls.{get, close}
@@ -25,5 +26,5 @@ closeAnswer n st = 0 ∷ 1 ∷ (replicate 2 0 ++ littleBytes 4 (outstanding n st
 pub record Closes (n : ℕ) (st : Store) : Type 0 where
   pub leaves : AllAgree n (afterCall n st close)
   pub answered : answer n st close ≡ closeAnswer n st
-  pub few : outstanding n st ≤ 2048
+  pub few : outstanding n st ≤ 8 * mostEvents
   pub needs-met : (front rest : List Copy) (c : Copy) → closeCopies n st ≡ front ++ (c ∷ rest) → copyRefusal n (afterCopies n st front) c ≡ 36 → ⊥

@@ -31,7 +31,7 @@ pub record CausalRecord (s : List ℕ) : Type 0 where
   pub chains : (a b : ℕ) → (hb (historyOf (editionOf s) s) a b ≡ true) ↔ Chain (historyOf (editionOf s) s) a b
   pub rings : (e : ℕ) → (onRing (countIn s) (vis (historyOf (editionOf s) s)) e ≡ true) ↔ Steps (countIn s) (vis (historyOf (editionOf s) s)) e e
 
--- n sites, openings, a script, and the record and answer buffers, as lent and as left. The record is a `GCR2`, says that clocks don't differ, and has the openings as they were lent. Each close in the script's list finds the store of the calls before it.
+-- n sites, openings, a script, and the record and answer buffers, as lent and as left. The record is of the edition that a store writes, says that clocks don't differ, and has the openings as they were lent. Each close in the script's list finds the store of the calls before it.
 -- The copies outstanding are told exactly, and add up with those that came, by the store's rules and by the answers as left
 pub record Rehearses (n : ℕ) (openings script rec ans rec′ ans′ : List ℕ) (r : Rehearsed) : Type 0 where
   pub number : r .number ≡ rehearsalRefusal n openings script rec ans

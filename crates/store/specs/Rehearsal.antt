@@ -44,7 +44,7 @@ callIn script k = callAt script (8 * k)
 abbrev pub answerIn : List ℕ → ℕ → List ℕ
 answerIn ans k = take 8 (drop (8 * k) ans)
 
--- its record is a `GCR2`, with the openings in block 0
+-- its record, of the edition that a store writes, with the openings in block 0
 unfoldable pub recordOf : ℕ → List ℕ → List ℕ → List ℕ
 recordOf n openings script = storeRecord storeLayout n (termsOf openings) (storeAfter n openings script)
 

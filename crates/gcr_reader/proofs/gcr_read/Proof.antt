@@ -10,6 +10,7 @@ use Rattle.record.specs.Layout.{editionOf}
 use Rattle.record.specs.Questions.{numberOf, placeOf, reading}
 use Rattle.record.specs.Words.{workAfter}
 use Rattle.record.proofs.QuestionsAnswered.{number-most, place-small, packed-passed, packed-refused}
+use Rattle.record.proofs.BeforeHarvest.{read-number-kept}
 use Rattle.gcr_reader.proofs.gcr_read.Statement.{statement}
 use Rattle.gcr_reader.proofs.gcr_read.Tie as tie
 
@@ -36,7 +37,7 @@ few c = rw (number-is c) (number-most (read (start (done c))))
 work : (c : tie.After-read) → let a = start c .args in c .read .last .1 .0 ≡ workAfter (editionOf (a .s .now)) (numberOf (read (start c))) (a .s .now) (a .work .now)
 work c =
     let a = start c .args in
-    c .read .ensures .1 ∙ ap (λ r. workAfter (editionOf (a .s .now)) (numberOf r) (a .s .now) (a .work .now)) (c .read .ensures .0)
+    c .read .ensures .1 .0 ∙ ap (λ r. workAfter (editionOf (a .s .now)) (numberOf r) (a .s .now) (a .work .now)) (c .read .ensures .0)
 
 read-requires : tie.Need-read-requires
 read-requires c κs = search needs
@@ -50,7 +51,9 @@ same-length c = search needs
 returns : tie.Need-returns
 returns c =
     let r = done (c .before) in
-    (sym (packed-passed (read (start r)) (sym (number-is (c .before)) ∙ c .if1 .taken)), work r)
+    let a = start r .args in
+    let q = sym (packed-passed (read (start r)) (sym (number-is (c .before)) ∙ c .if1 .taken)) in
+    (q, (work r, read-number-kept (length (a .work .now)) (a .s .now) q))
 
 place-requires : tie.Need-place-requires
 place-requires c κs = search needs
@@ -68,7 +71,9 @@ returns-2 c =
     let p = c .before in
     let n = p .before .before in
     let r = done n in
-    (c .refusal .ensures ∙ ap₂ packedRefusal (number-is n) (place-is p) ∙ sym (packed-refused (read (start r)) (λ z. p .before .if1 .left (number-is n ∙ z))), work r)
+    let a = start r .args in
+    let q = c .refusal .ensures ∙ ap₂ packedRefusal (number-is n) (place-is p) ∙ sym (packed-refused (read (start r)) (λ z. p .before .if1 .left (number-is n ∙ z))) in
+    (q, (work r, read-number-kept (length (a .work .now)) (a .s .now) q))
 
 pub gcr-read-spec : {M : Type 1} → statement M
 gcr-read-spec =

@@ -11,7 +11,8 @@ use Rattle.record.proofs.QuestionsAnswered.{place-small}
 use Rattle.judge.specs.declared.Judgment.the-variants.{Refused}
 use Rattle.judge.proofs.RecordLaws.{read-whole}
 use Rattle.judge.proofs.JudgmentLaws.{judgments-refused, judgments-judged, fitting-small}
-use Rattle.judge.proofs.HostsExact.{thirteen-hosts}
+use Rattle.judge.proofs.HostsExact.{thirteen-at, thirteen-hosts}
+use Rattle.judge.proofs.KeptLaws.{thirteen-kept}
 use borrow.Author.Needs.{needs}
 use Rattle.judge.proofs.judge_all.Statement.{statement}
 use Rattle.judge.proofs.judge_all.Tie as tie
@@ -57,14 +58,14 @@ returns c =
     let q =
     ap (replicate 13) (c .pack .ensures)
     ∙ judgments-refused w (bytes n) (a .result) (a .ensures .0) (λ z. t .if1 .taken (n .number .ensures ∙ z)) 13 (omega arith) in
-    (a .ensures .0, (q, (thirteen-hosts w (bytes n) q, a .ensures .1)))
+    (a .ensures .0, (q, (thirteen-hosts w (bytes n) q, (a .ensures .1 .0, thirteen-kept w (bytes n) (replicate {A = ℕ} 13 (c .pack .result)) (λ p i j l. thirteen-at w (bytes n) q p i j)))))
 
 verdicts-requires : tie.Need-verdicts-requires
 verdicts-requires c κs =
     let e = c .before in
     let n = e .before in
     let a = reader n .read in
-    read-whole (bytes n) (a .result) (none e) (start n .args .work .now) (a .last .1 .0) (a .ensures .1) (length-of-work n) (a .ensures .0)
+    read-whole (bytes n) (a .result) (none e) (start n .args .work .now) (a .last .1 .0) (a .ensures .1 .0) (length-of-work n) (a .ensures .0)
 
 same-length-2 : tie.Need-same-length-2
 same-length-2 c = search needs
@@ -76,7 +77,7 @@ returns-2 c =
     let a = reader n .read in
     let w = length-of-work n in
     let q = c .verdicts .ensures ∙ judgments-judged w (bytes n) (a .result) (a .ensures .0) (none e) 13 (omega arith) in
-    (a .ensures .0, (q, (thirteen-hosts w (bytes n) q, a .ensures .1)))
+    (a .ensures .0, (q, (thirteen-hosts w (bytes n) q, (a .ensures .1 .0, thirteen-kept w (bytes n) (c .verdicts .result) (λ p i j l. thirteen-at w (bytes n) q p i j)))))
 
 pub judge-all-spec : {M : Type 1} → statement M
 judge-all-spec =

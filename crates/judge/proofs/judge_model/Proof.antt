@@ -9,6 +9,7 @@ use Rattle.consistency.specs.Models.{listOf}
 use Rattle.judge.specs.Judgments.{judgedList, modelJudgment}
 use Rattle.judge.proofs.MeansLaws.{exact-of}
 use Rattle.judge.proofs.ClocksJudged.{by-clocks}
+use Rattle.judge.proofs.KeptLaws.{verdict-kept}
 use Rattle.judge.proofs.CoversExactly.{tells-others}
 use Rattle.judge.proofs.JudgmentLaws.{granted, judged-as}
 use borrow.Author.Needs.{needs}
@@ -53,7 +54,7 @@ returns c =
     let a = c .before .before in
     let s = start a in
     let q = judged-as (words s) (s .args .number) (bytes s) (listOf (s .args .number)) (a .admit .ensures) (c .enum-told .given .1) in
-    (q, (exact-of (editionOf (bytes s)) (words s) (s .args .number) (listOf (s .args .number)) (bytes s) q, (by-clocks (words s) (s .args .number) (listOf (s .args .number)) (bytes s) q, (tells-others (words s) (s .args .number) (bytes s) q, refl))))
+    (q, (exact-of (editionOf (bytes s)) (words s) (s .args .number) (listOf (s .args .number)) (bytes s) q, (by-clocks (words s) (s .args .number) (listOf (s .args .number)) (bytes s) q, (verdict-kept (words s) (s .args .number) (listOf (s .args .number)) (bytes s) q, (tells-others (words s) (s .args .number) (bytes s) q, refl)))))
 
 returns-2 : tie.Need-returns-2
 unfolding modelJudgment workAfter
@@ -61,7 +62,7 @@ returns-2 c =
     let a = c .before .before in
     let s = start a in
     let q = judged-as (words s) (s .args .number) (bytes s) (listOf (s .args .number)) (a .admit .ensures) (c .enum-told2 .given .1) in
-    (q, (exact-of (editionOf (bytes s)) (words s) (s .args .number) (listOf (s .args .number)) (bytes s) q, (by-clocks (words s) (s .args .number) (listOf (s .args .number)) (bytes s) q, (tells-others (words s) (s .args .number) (bytes s) q, refl))))
+    (q, (exact-of (editionOf (bytes s)) (words s) (s .args .number) (listOf (s .args .number)) (bytes s) q, (by-clocks (words s) (s .args .number) (listOf (s .args .number)) (bytes s) q, (verdict-kept (words s) (s .args .number) (listOf (s .args .number)) (bytes s) q, (tells-others (words s) (s .args .number) (bytes s) q, refl)))))
 
 same-length : tie.Need-same-length
 same-length c = search needs
@@ -76,7 +77,7 @@ returns-3 c =
     let s = start a in
     let r = j .judge-list in
     let q = r .ensures .0 ∙ ap (judgedList (editionOf (bytes s)) (bytes s)) (o .of-model .ensures .0) ∙ judged-as (words s) (s .args .number) (bytes s) (listOf (s .args .number)) (a .admit .ensures) (e .enum-told3 .given .1) in
-    (q, (exact-of (editionOf (bytes s)) (words s) (s .args .number) (listOf (s .args .number)) (bytes s) q, (by-clocks (words s) (s .args .number) (listOf (s .args .number)) (bytes s) q, (tells-others (words s) (s .args .number) (bytes s) q, r .ensures .1))))
+    (q, (exact-of (editionOf (bytes s)) (words s) (s .args .number) (listOf (s .args .number)) (bytes s) q, (by-clocks (words s) (s .args .number) (listOf (s .args .number)) (bytes s) q, (verdict-kept (words s) (s .args .number) (listOf (s .args .number)) (bytes s) q, (tells-others (words s) (s .args .number) (bytes s) q, r .ensures .1)))))
 
 pub judge-model-spec : {M : Type 1} → statement M
 judge-model-spec =

@@ -11,9 +11,11 @@ use Rattle.record.specs.declared.Reading.{Reading}
 use Rattle.record.proofs.QuestionsAnswered.{place-small, packed-passed, packed-refused}
 use Rattle.judge.specs.Judgments.{packedJudgment, packedJudgments, laidOver}
 use Rattle.judge.specs.Hosts.{ExactThirteen}
+use Rattle.judge.specs.Kept.{KeepsThirteen}
 use Rattle.judge.specs.declared.Judgment.the-variants.{Refused}
 use Rattle.judge.proofs.JudgmentLaws.{fitting-small}
-use Rattle.judge.proofs.HostsExact.{laid-hosts}
+use Rattle.judge.proofs.HostsExact.{laid-at, laid-hosts}
+use Rattle.judge.proofs.KeptLaws.{thirteen-kept}
 use Rattle.gcr.proofs.judging.gcr_judge_all.Statement.{statement}
 use Rattle.gcr.proofs.judging.gcr_judge_all.Tie as tie
 
@@ -33,53 +35,46 @@ put c = c .before .before .before .put-over .ensures ∙ ap (λ (v : List ℕ). 
 exact : (c : tie.After-number) → ExactThirteen workWords (start c .args .s .now) (c .before .before .before .put-over .last .1 .0)
 exact c = laid-hosts workWords (start c .args .s .now) (start c .args .out .now) (put c)
 
--- src/judging.rt:45:35
+kept : (c : tie.After-number) → KeepsThirteen workWords (start c .args .s .now) (c .before .before .before .put-over .last .1 .0)
+kept c = thirteen-kept workWords (start c .args .s .now) (c .before .before .before .put-over .last .1 .0) (laid-at workWords (start c .args .s .now) (start c .args .out .now) (put c))
+
 slice-aggregate-judge-all : tie.Need-slice-aggregate-judge-all
 slice-aggregate-judge-all c = search needs
 
--- src/judging.rt:45:9
 judge-all-requires : tie.Need-judge-all-requires
 judge-all-requires c κs = search needs
 
--- src/judging.rt:48:14
 slice-aggregate-put-over : tie.Need-slice-aggregate-put-over
 slice-aggregate-put-over c = search needs
 
--- src/judging.rt:48:5
 put-over-requires : tie.Need-put-over-requires
 put-over-requires c κs = search needs
 
--- src/judging.rt:49:8
 number-requires : tie.Need-number-requires
 number-requires c κs = search needs
 
--- src/judging.rt:50:9
 same-length : tie.Need-same-length
 same-length c = search needs
 
--- src/judging.rt:50:9
 returns : tie.Need-returns
 returns c =
     let n = c .before in
-    (sym (packed-passed (read (start n)) (sym (ap numberOf (same n)) ∙ sym (n .number .ensures) ∙ c .if1 .taken)), (put n, exact n))
+    (sym (packed-passed (read (start n)) (sym (ap numberOf (same n)) ∙ sym (n .number .ensures) ∙ c .if1 .taken)), (put n, (exact n, kept n)))
 
--- src/judging.rt:52:5
 pack-requires : tie.Need-pack-requires
 pack-requires c κs =
     let n = c .before in
     fitting-small (Refused (n .before .before .before .before .before .before .before .before .judge-all .result .reading)) (subst (λ (r : Reading). placeOf r < places) (sym (same n)) (place-small workWords (start n .args .s .now)))
 
--- src/judging.rt:39:1
 same-length-2 : tie.Need-same-length-2
 same-length-2 c = search needs
 
--- src/judging.rt:39:1
 returns-2 : tie.Need-returns-2
 returns-2 c =
     let e = c .before in
     let n = e .before in
     let refused : numberOf (read (start n)) ≢ 0 = λ z. e .if1 .left (n .number .ensures ∙ ap numberOf (same n) ∙ z) in
-    (c .pack .ensures ∙ ap (λ (r : Reading). packedJudgment (Refused r)) (same n) ∙ sym (packed-refused (read (start n)) refused), (put n, exact n))
+    (c .pack .ensures ∙ ap (λ (r : Reading). packedJudgment (Refused r)) (same n) ∙ sym (packed-refused (read (start n)) refused), (put n, (exact n, kept n)))
 
 pub gcr-judge-all-spec : {M : Type 1} → statement M
 gcr-judge-all-spec =

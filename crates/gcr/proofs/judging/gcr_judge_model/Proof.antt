@@ -6,6 +6,7 @@ use Rattle.judge.specs.Judgments.{modelJudgment, packedJudgment}
 use Rattle.judge.proofs.JudgmentLaws.{model-fits, fitting-small}
 use Rattle.judge.proofs.HostsExact.{model-host}
 use Rattle.judge.proofs.CoversHosts.{tells-hosts}
+use Rattle.judge.proofs.KeptLaws.{model-number-kept}
 use Rattle.gcr.proofs.judging.gcr_judge_model.Statement.{statement}
 use Rattle.gcr.proofs.judging.gcr_judge_model.Tie as tie
 
@@ -24,7 +25,7 @@ returns : tie.Need-returns
 returns c =
     let q = c .pack .ensures ∙ ap packedJudgment (c .before .before .judge-model .ensures .0) in
     let a = c .before .before .before .before .before .args in
-    (q, (model-host workWords (a .s .now) (a .model) q, tells-hosts (a .model) (a .s .now) q))
+    (q, (model-host workWords (a .s .now) (a .model) q, (tells-hosts (a .model) (a .s .now) q, model-number-kept (a .model) (a .s .now) q)))
 
 pub gcr-judge-model-spec : {M : Type 1} → statement M
 gcr-judge-model-spec =

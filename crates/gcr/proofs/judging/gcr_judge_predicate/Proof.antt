@@ -5,6 +5,7 @@ use Rattle.record.specs.Layout.{editionOf, workWords}
 use Rattle.judge.specs.Judgments.{predicateJudgment, packedJudgment}
 use Rattle.judge.proofs.JudgmentLaws.{predicate-fits, fitting-small}
 use Rattle.judge.proofs.HostsExact.{predicate-host}
+use Rattle.judge.proofs.KeptLaws.{predicate-number-kept}
 use Rattle.gcr.proofs.judging.gcr_judge_predicate.Statement.{statement}
 use Rattle.gcr.proofs.judging.gcr_judge_predicate.Tie as tie
 
@@ -23,7 +24,7 @@ returns : tie.Need-returns
 returns c =
     let q = c .pack .ensures ∙ ap packedJudgment (c .before .before .judge-predicate .ensures .0) in
     let a = c .before .before .before .before .before .args in
-    (q, predicate-host workWords (a .s .now) (a .predicate) q)
+    (q, (predicate-host workWords (a .s .now) (a .predicate) q, predicate-number-kept (a .predicate) (a .s .now) q))
 
 pub gcr-judge-predicate-spec : {M : Type 1} → statement M
 gcr-judge-predicate-spec =
