@@ -34,7 +34,7 @@ feature() {
     case $1 in reader | models | explain | rehearsal) echo linked ;; esac
 }
 
-# Seeds of each comparer in a CI run, in which a spawned program costs a millisecond or two. Records are of two editions
+# Seeds of each comparer in a CI run, in which a spawned program costs a millisecond or two. Records are of three editions
 # that may be wrong in many places, and half of the scripts have closes, after which little is late or lacking. With
 # these every answer that a comparer must meet occurs twenty times and more.
 seeds=$((5000 * share))

@@ -1,6 +1,7 @@
 //! The proved call and the baseline's over the same input.
 
 use crate::inputs::Input;
+use second::limits::{ENTRIES, MOST_BYTES, WORK_WORDS};
 use std::fmt::Debug;
 use std::hint::black_box;
 use std::rc::Rc;
@@ -25,7 +26,7 @@ impl Lent {
     /// Filled with something else than zero, so that a call's zeros show.
     fn for_input(input: &Input) -> Lent {
         let answers = vec![7; input.bytes.len()];
-        Lent { words: vec![7; 1_024], events: vec![7; 256], record: vec![7; 19_456], answers }
+        Lent { words: vec![7; WORK_WORDS], events: vec![7; ENTRIES], record: vec![7; MOST_BYTES], answers }
     }
 }
 

@@ -4,9 +4,17 @@ use crate::both::{Both, Calls, Lent};
 use crate::inputs::{self, Input, SITES};
 use gcr::{Model, Predicate, Refusal, Rehearsed, Verdict};
 use second::baseline::{explaining, judging, reading, rehearsal};
+use second::limits::MOST_EVENTS;
+use second::record::Edition;
 use std::rc::Rc;
 
-pub const SIZES: [usize; 3] = [16, 64, 256];
+/// The last two are the most events of the older editions, and of any. Records of up to 256 events are of the first
+/// edition, but for those with openings or a difference and those that a rehearsal left.
+pub const SIZES: [usize; 4] = [16, 64, OLDER_MOST, MOST_EVENTS];
+pub const OLDER_MOST: usize = Edition::GCR2.most_events;
+
+/// What a whole day's record is measured at.
+const FULL: [usize; 2] = [OLDER_MOST, MOST_EVENTS];
 
 /// A row of the table.
 pub struct Case {
@@ -50,11 +58,20 @@ pub fn all() -> Vec<Case> {
         all.extend(clocks.iter().map(|record| judge_predicate(predicate, record)));
     }
     all.extend(passing().chain(&clocks).chain(&pending).map(judge_all));
-    all.extend(passing().map(judge_model));
+    all.extend(passing().map(|record| judge_model(Model::Causal, record)));
+    for model in CLASSES {
+        all.extend(
+            FULL.map(inputs::dense).iter().chain(&FULL.map(inputs::rehearsed)).map(|record| judge_model(model, record)),
+        );
+    }
     all.extend(explanations());
     all.extend(scripts().iter().map(rehearse));
     all
 }
+
+/// Of each sort of model one: by a single order and all times, by one and those of a site, by an order for each object,
+/// and by visibility alone. Causal, which needs every table, is measured of all records.
+const CLASSES: [Model; 4] = [Model::Linearizable, Model::Sequential, Model::Processor, Model::Pram];
 
 /// A long chain, the lowest of many equally short ones, a middle event, and the pair's second event alone.
 fn explanations() -> Vec<Case> {
@@ -69,7 +86,7 @@ fn explanations() -> Vec<Case> {
 
 /// Numbered against time.
 fn disordered() -> Vec<Rc<Input>> {
-    SIZES.map(inputs::backward).into_iter().chain([inputs::by_site()]).collect()
+    SIZES.map(inputs::backward).into_iter().chain(FULL.map(inputs::by_site)).collect()
 }
 
 fn rings() -> Vec<Rc<Input>> {
@@ -79,7 +96,7 @@ fn rings() -> Vec<Rc<Input>> {
 
 fn records() -> Vec<Rc<Input>> {
     let sparse = SIZES.map(inputs::sparse);
-    sparse.into_iter().chain(SIZES.map(inputs::dense)).chain([inputs::rehearsed()]).collect()
+    sparse.into_iter().chain(SIZES.map(inputs::dense)).chain(FULL.map(inputs::rehearsed)).collect()
 }
 
 fn scripts() -> Vec<Rc<Input>> {
@@ -127,14 +144,14 @@ fn judge_all(input: &Rc<Input>) -> Case {
     )
 }
 
-/// Causal, the model that needs every table.
-fn judge_model(input: &Rc<Input>) -> Case {
+fn judge_model(model: Model, input: &Rc<Input>) -> Case {
+    let number = model.number();
     Case::new(
-        "model 4",
+        &format!("model {number}"),
         input,
-        |input, _| gcr::judge_model(Model::Causal, &input.bytes),
+        move |input, _| gcr::judge_model(model, &input.bytes),
         |answer, _| packed(answer),
-        |input, _| judging::judge_model(4, &input.bytes),
+        move |input, _| judging::judge_model(number, &input.bytes),
     )
 }
 

@@ -1,4 +1,4 @@
-//! How the work grows with the events: n rises fourfold twice.
+//! How the work grows with the events: n rises fourfold twice, in records of one edition.
 
 use crate::cases::SIZES;
 use crate::row::Row;

@@ -2,7 +2,8 @@
 
 use gcr::Openings;
 use second::generate::scripts::{day_with_closes, full_day};
-use second::record::{Event, Record, MOST_EVENTS};
+use second::limits::MOST_EVENTS;
+use second::record::{Event, Record};
 use second::samples::in_turn;
 use second::store::{run_script, Call, Store, CALL_BYTES};
 use std::rc::Rc;
@@ -114,23 +115,22 @@ pub fn backward(n: usize) -> Rc<Input> {
     Input::new("backward", n, renumbered(&in_turn(n), &order).to_bytes())
 }
 
-/// What the full day leaves: 256 events at eight sites.
-pub fn rehearsed() -> Rc<Input> {
-    let record = after_full_day();
-    Input::new("rehearsed", record.events.len(), record.to_bytes())
+/// What the day leaves after so many events at eight sites.
+pub fn rehearsed(n: usize) -> Rc<Input> {
+    Input::new("rehearsed", n, after_day(n).to_bytes())
 }
 
 /// The same with each site's events numbered together, as from eight logs laid end to end.
-pub fn by_site() -> Rc<Input> {
-    let record = after_full_day();
-    let mut order: Vec<usize> = (0..record.events.len()).collect();
+pub fn by_site(n: usize) -> Rc<Input> {
+    let record = after_day(n);
+    let mut order: Vec<usize> = (0..n).collect();
     order.sort_by_key(|&event| record.events[event].site);
-    Input::new("by site", order.len(), renumbered(&record, &order).to_bytes())
+    Input::new("by site", n, renumbered(&record, &order).to_bytes())
 }
 
-fn after_full_day() -> Record {
-    let script = full_day(1, SITES);
-    run_script(SITES, &script, &mut vec![0; script.len()]).record()
+fn after_day(n: usize) -> Record {
+    let script = &day_script(n).bytes;
+    run_script(SITES, script, &mut vec![0; script.len()]).record()
 }
 
 /// The record with event `order[k]` as event k.
@@ -233,12 +233,12 @@ pub fn day_script(n: usize) -> Rc<Input> {
 
 /// All 4,096 calls of the day.
 pub fn full_day_script() -> Rc<Input> {
-    Input::new("full day", 256, full_day(1, SITES))
+    Input::new("full day", MOST_EVENTS, full_day(1, SITES))
 }
 
 /// The same, begun with an opening of every object.
 pub fn opened_day_script() -> Rc<Input> {
-    Input::opened("full day, openings", 256, given_of_all_objects(), full_day(1, SITES))
+    Input::opened("full day, openings", MOST_EVENTS, given_of_all_objects(), full_day(1, SITES))
 }
 
 /// Every object has an opening, and is got at one site after the other: every get finds the opening.
@@ -249,12 +249,12 @@ pub fn opened_script(n: usize) -> Rc<Input> {
 
 /// As many calls of a day of that sort, where one in 16 is a close.
 pub fn closes_script() -> Rc<Input> {
-    Input::new("day with closes", 256, day_with_closes(1, SITES))
+    Input::new("day with closes", MOST_EVENTS, day_with_closes(1, SITES))
 }
 
 /// As many puts as the store takes, in turn over the sites, and no delivery: every copy is outstanding.
 pub fn puts_script() -> Rc<Input> {
-    let put = |k: usize| Call::Put { site: k % SITES, object: k / SITES, value: k as u32 };
+    let put = |k: usize| Call::Put { site: k % SITES, object: k / SITES % 32, value: k as u32 };
     Input::new("puts alone", MOST_EVENTS, script((0..MOST_EVENTS).map(put)))
 }
 
@@ -277,6 +277,7 @@ fn script(calls: impl Iterator<Item = Call>) -> Vec<u8> {
 #[cfg(test)]
 mod tests {
     use super::*;
+    use crate::cases::SIZES;
     use second::explain::explanations;
     use second::predicates::{Answer, Judged};
     use second::questions::ask;
@@ -290,7 +291,7 @@ mod tests {
 
     #[test]
     fn nearly_all_predicates_are_met_so_that_nothing_ends_early() {
-        for n in [16, 64, 256] {
+        for n in SIZES {
             assert_eq!(broken(&dense(n)), []);
             assert_eq!(broken(&backward(n)), []);
             assert_eq!(broken(&sparse(n)), [2]);
@@ -298,8 +299,10 @@ mod tests {
             assert_eq!(broken(&clocks(n)), [2]);
             assert_eq!(broken(&pending(n)), [2]);
         }
-        assert_eq!(broken(&rehearsed()), [2, 3, 4, 13]);
-        assert_eq!(broken(&by_site()), [2, 3, 4, 13]);
+        for n in [256, 384] {
+            assert_eq!(broken(&rehearsed(n)), [2, 3, 4, 13]);
+            assert_eq!(broken(&by_site(n)), [2, 3, 4, 13]);
+        }
     }
 
     fn explained(input: &Input, predicate: usize) -> Vec<usize> {
@@ -309,7 +312,7 @@ mod tests {
 
     #[test]
     fn breaks_are_explained_by_a_long_chain_the_lowest_of_many_a_middle_event_and_the_last_alone() {
-        for n in [16, 64, 256] {
+        for n in SIZES {
             let (half, last) = (n / 2, n - 1);
             let all: Vec<usize> = (2..=last).chain([1]).collect();
             assert_eq!(explained(&chain_ends_first(n), 10), all);
@@ -327,20 +330,22 @@ mod tests {
 
     #[test]
     fn pairs_of_sites_lie_within_the_difference_and_beyond_it() {
-        for n in [16, 64, 256] {
+        for n in SIZES {
             let record = ask(&clocks(n).bytes).expect("passes");
             let all = pairs_beyond(0, &record.events);
-            let beyond = pairs_beyond(record.edition.difference(), &record.events);
+            let beyond = pairs_beyond(record.difference, &record.events);
             assert!((all / 5..all / 2).contains(&beyond), "{beyond} of {all} pairs beyond");
         }
         // By one clock 3 and 4 would be broken.
-        let one_clock = ask(&clocks(256).bytes).expect("passes").apart(0);
-        assert_eq!(broken(&Input::new("one clock", 256, one_clock.to_bytes())), [2, 3, 4]);
+        for n in [256, 384] {
+            let one_clock = ask(&clocks(n).bytes).expect("passes").apart(0);
+            assert_eq!(broken(&Input::new("one clock", n, one_clock.to_bytes())), [2, 3, 4]);
+        }
     }
 
     #[test]
     fn half_of_the_events_never_returned() {
-        for n in [16, 64, 256] {
+        for n in SIZES {
             let record = ask(&pending(n).bytes).expect("passes");
             assert_eq!(record.events.iter().filter(|event| event.pending()).count(), n / 2);
         }
@@ -356,20 +361,20 @@ mod tests {
 
     #[test]
     fn scripts_do_all_their_calls_and_come_to_their_events() {
-        for input in [sparse_script(64), dense_script(64), dense_script(256), opened_script(256), puts_script()] {
+        for input in [sparse_script(64), dense_script(64), dense_script(384), opened_script(384), puts_script()] {
             let mut answers = vec![7; input.bytes.len()];
             let store = run_script(SITES, &input.bytes, &mut answers);
             assert!(answers.chunks(CALL_BYTES).all(|answer| answer[0] == 0));
             assert_eq!(store.events(), input.n);
         }
-        for input in [day_script(16), day_script(256), full_day_script(), closes_script()] {
+        for input in [day_script(16), day_script(256), day_script(384), full_day_script(), closes_script()] {
             assert_eq!(run_script(SITES, &input.bytes, &mut vec![0; input.bytes.len()]).events(), input.n);
         }
     }
 
     #[test]
     fn all_gets_find_their_openings() {
-        let input = opened_script(256);
+        let input = opened_script(384);
         let openings = second::openings::Openings::from_bytes(input.openings.as_bytes()).expect("openings");
         assert_eq!(openings, of_all_objects());
         let mut store = Store::opened(SITES, openings);
@@ -381,7 +386,7 @@ mod tests {
     #[test]
     fn puts_alone_leave_every_copy_outstanding() {
         let script = &puts_script().bytes;
-        assert_eq!(run_script(SITES, script, &mut vec![0; script.len()]).outstanding(), 1_792);
+        assert_eq!(run_script(SITES, script, &mut vec![0; script.len()]).outstanding(), 2_688);
     }
 
     /// The numbers that the page of results tells of this input.
@@ -394,6 +399,6 @@ mod tests {
         let copies = calls.filter(|(call, _)| **call == close).map(|(_, answer)| u32_at(answer, 4));
         let copies: Vec<u32> = copies.collect();
         let delivering = copies.iter().filter(|&&copies| copies > 0).count();
-        assert_eq!((copies.len(), delivering, copies.iter().sum()), (257, 67, 756));
+        assert_eq!((copies.len(), delivering, copies.iter().sum()), (257, 99, 1_047));
     }
 }

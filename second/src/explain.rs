@@ -1,14 +1,12 @@
 //! Change 7: what an operator is told of a predicate that breaks, and the call that tells it.
 
+use crate::limits::{ENTRIES, WORK_WORDS};
 use crate::models::refused;
 use crate::predicates::{Answer, Judged, PREDICATES};
 use crate::questions::{ask, Refusal};
-use crate::reader::{self, WORK_WORDS};
+use crate::reader;
 use crate::relations::{Pairs, Relations};
 use std::collections::VecDeque;
-
-/// The entries that a lent slice must have: a ring may go through all events.
-pub const ENTRIES: usize = 256;
 
 /// A break's first event, and the events after it, the pair's second one last.
 #[derive(Clone, Debug, PartialEq, Eq)]

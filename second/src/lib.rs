@@ -6,6 +6,7 @@ pub mod compare;
 pub mod explain;
 pub mod generate;
 pub mod lattice;
+pub mod limits;
 pub mod lines;
 pub mod models;
 pub mod openings;

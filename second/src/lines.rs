@@ -1,11 +1,11 @@
 //! What the programs write for an input.
 
 use crate::lattice::{by, gives, keeps_apart, pairs};
+use crate::limits::MOST_BYTES;
 use crate::models::{answers, broken_by, Answers, NAMES};
 use crate::openings::OPENINGS_BYTES;
 use crate::predicates::{Answer, PREDICATES};
 use crate::questions::{ask, Refusal};
-use crate::record::MOST_BYTES;
 use crate::samples::separating;
 use crate::store::rehearse;
 use std::io::{self, Read, Write};

@@ -32,7 +32,7 @@ impl<'a> Judged<'a> {
 
     /// With these relations in the place of the record's.
     pub fn by(record: &'a Record, relations: Relations) -> Judged<'a> {
-        Judged { events: &record.events, openings: record.edition.openings(), relations }
+        Judged { events: &record.events, openings: record.openings, relations }
     }
 
     /// The answer of a predicate numbered 1 to 13.

@@ -1,5 +1,6 @@
 //! Questions 3 to 10, each giving the place of its no.
 
+use crate::limits::{MOST_BYTES, MOST_EVENTS, MOST_SITES};
 use crate::record::*;
 use crate::relations::Pairs;
 
@@ -53,18 +54,23 @@ fn block_checks(bytes: &[u8]) -> Option<usize> {
 
 fn header(bytes: &[u8]) -> Option<usize> {
     let sites = bytes[6] as usize;
-    let laid_out = Edition::from_block_0(bytes).is_some()
-        && event_count(bytes) <= MOST_EVENTS
-        && (1..=MOST_SITES).contains(&sites);
+    let laid_out = Edition::of(bytes).is_some_and(|edition| {
+        edition.heads(bytes) && event_count(bytes) <= edition.most_events && (1..=MOST_SITES).contains(&sites)
+    });
     no_at_zero(laid_out)
 }
 
+/// Of a record that has the letters of one, by question 5.
+fn edition(bytes: &[u8]) -> Edition {
+    Edition::of(bytes).expect("question 5")
+}
+
 fn block_count(bytes: &[u8]) -> Option<usize> {
-    no_at_zero(bytes.len() / BLOCK_BYTES == blocks_for(event_count(bytes)))
+    no_at_zero(bytes.len() / BLOCK_BYTES == edition(bytes).blocks_for(event_count(bytes)))
 }
 
 fn slots(bytes: &[u8]) -> Option<usize> {
-    let count = BLOCK_SLOTS * (bytes.len() / BLOCK_BYTES - 1);
+    let count = edition(bytes).slots_in(bytes.len());
     (0..count).find(|&number| !slot_right(bytes, number) || !tail_right(bytes, number))
 }
 
@@ -76,13 +82,14 @@ fn slot_right(bytes: &[u8], number: usize) -> bool {
     fields_right(slot, bytes[6]) && value_right(slot) && times_right(slot)
 }
 
-/// Bytes 448 to 507 of a block count to its last slot.
+/// What is between a block's last slot and its check counts to that slot.
 fn tail_right(bytes: &[u8], number: usize) -> bool {
-    if number % BLOCK_SLOTS != BLOCK_SLOTS - 1 {
+    let edition = edition(bytes);
+    if number % edition.block_slots != edition.block_slots - 1 {
         return true;
     }
-    let block = &bytes[BLOCK_BYTES * (1 + number / BLOCK_SLOTS)..];
-    all_zero(&block[SLOTS_END..CHECKED_BYTES])
+    let block = &bytes[BLOCK_BYTES * (1 + number / edition.block_slots)..];
+    all_zero(&block[edition.slots_end()..CHECKED_BYTES])
 }
 
 fn fields_right(slot: &[u8], sites: u8) -> bool {

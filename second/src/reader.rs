@@ -1,10 +1,9 @@
 //! The reading call: question 1, questions 3 to 10, and the work slice.
 
+use crate::limits::{ROW_WORDS, WORK_WORDS};
 use crate::models::{refused, MET};
 use crate::questions::{ask, Refusal};
 use crate::record::Record;
-
-pub const WORK_WORDS: usize = 1_024;
 
 pub fn read(bytes: &[u8], work: &mut [u64]) -> u64 {
     if work.len() < WORK_WORDS {
@@ -20,10 +19,11 @@ pub fn read(bytes: &[u8], work: &mut [u64]) -> u64 {
     }
 }
 
+/// Rows are as wide for every edition.
 fn fill(record: &Record, work: &mut [u64]) {
     for (e, event) in record.events.iter().enumerate() {
         for b in (0..event.visible.len()).filter(|&b| event.visible[b]) {
-            work[4 * e + b / 64] |= 1 << (b % 64);
+            work[ROW_WORDS * e + b / 64] |= 1 << (b % 64);
         }
     }
 }

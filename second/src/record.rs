@@ -1,22 +1,20 @@
-//! The record as document 01 and Changes 3 and 4 lay it out: editions, events, slots, blocks and their checks.
+//! The record as document 01 and Changes 3, 4 and 8 lay it out: editions, events, slots, blocks and their checks.
 
+use crate::limits::{MOST_BYTES, MOST_EVENTS};
 use crate::openings::{Openings, OPENINGS_BYTES};
 
 pub const BLOCK_BYTES: usize = 512;
 pub const CHECKED_BYTES: usize = 508;
-pub const SLOT_BYTES: usize = 64;
-pub const BLOCK_SLOTS: usize = 7;
-pub const SLOTS_END: usize = BLOCK_SLOTS * SLOT_BYTES;
-pub const MOST_EVENTS: usize = 256;
-pub const MOST_SITES: usize = 8;
-pub const MOST_BYTES: usize = 19_456;
+
+/// The byte of a slot at which the visible set begins; it fills the rest.
+pub const SET_AT: usize = 32;
 
 /// The parts of block 0 before its check, each from its first byte to the next part's: the four letters, the count, the
-/// sites, and what is zero or in `GCR2` the difference of clocks and the openings.
+/// sites, and the difference of clocks and the openings, which are zero in `GCR1`, and what is zero in all.
 pub const BLOCK_0_PARTS: [(usize, usize); 11] =
     [(0, 1), (1, 2), (2, 3), (3, 4), (4, 6), (6, 7), (7, 8), (8, 12), (12, 144), (144, 148), (148, 508)];
 
-/// Where the difference of clocks and the openings of `GCR2` stand in block 0.
+/// Where the difference of clocks and the openings stand in block 0.
 pub const DIFFERENCE_AT: std::ops::Range<usize> = 8..12;
 pub const OPENINGS_AT: std::ops::Range<usize> = 12..12 + OPENINGS_BYTES;
 
@@ -42,21 +40,24 @@ pub struct Event {
     pub visible: EventSet,
 }
 
-/// What block 0 has beside the count and the sites. A record has one, so its size doesn't matter.
-#[allow(clippy::large_enum_variant)]
+/// How the records of an edition are laid out.
 #[derive(Clone, Copy, Debug, PartialEq, Eq)]
-pub enum Edition {
-    Gcr1,
-    /// The sites' clocks may differ by so many milliseconds.
-    Gcr2 {
-        difference: u32,
-        openings: Openings,
-    },
+pub struct Edition {
+    pub letters: &'static [u8; 4],
+    pub most_events: usize,
+    pub slot_bytes: usize,
+    pub block_slots: usize,
+    /// Block 0 has the difference of clocks and the openings.
+    pub headed: bool,
 }
 
 #[derive(Clone, Debug, PartialEq, Eq)]
 pub struct Record {
     pub edition: Edition,
+    /// The sites' clocks may differ by so many milliseconds; `GCR1` counts as 0.
+    pub difference: u32,
+    /// `GCR1` has none.
+    pub openings: Openings,
     pub sites: u8,
     pub events: Vec<Event>,
 }
@@ -103,8 +104,8 @@ impl Event {
         self.end.is_none()
     }
 
-    pub fn to_slot(&self) -> [u8; SLOT_BYTES] {
-        let mut slot = [0; SLOT_BYTES];
+    pub fn to_slot(&self, edition: Edition) -> Vec<u8> {
+        let mut slot = vec![0; edition.slot_bytes];
         slot[0] = self.is_write() as u8;
         slot[1] = self.site;
         slot[2] = self.object;
@@ -116,8 +117,8 @@ impl Event {
         if let Some(end) = self.end {
             slot[24..32].copy_from_slice(&end.to_le_bytes());
         }
-        for event in (0..MOST_EVENTS).filter(|&event| self.visible[event]) {
-            slot[32 + event / 8] |= 1 << (event % 8);
+        for event in (0..edition.most_events).filter(|&event| self.visible[event]) {
+            slot[SET_AT + event / 8] |= 1 << (event % 8);
         }
         slot
     }
@@ -137,74 +138,107 @@ impl Event {
 }
 
 impl Edition {
-    pub fn letters(&self) -> &'static [u8; 4] {
-        match self {
-            Edition::Gcr1 => b"GCR1",
-            Edition::Gcr2 { .. } => b"GCR2",
+    pub const GCR1: Edition =
+        Edition { letters: b"GCR1", most_events: 256, slot_bytes: 64, block_slots: 7, headed: false };
+    pub const GCR2: Edition = Edition { letters: b"GCR2", headed: true, ..Edition::GCR1 };
+    pub const GCR3: Edition =
+        Edition { letters: b"GCR3", most_events: 384, slot_bytes: 80, block_slots: 6, headed: true };
+
+    pub const ALL: [Edition; 3] = [Edition::GCR1, Edition::GCR2, Edition::GCR3];
+
+    /// By the letters alone.
+    pub fn of(bytes: &[u8]) -> Option<Edition> {
+        Edition::ALL.into_iter().find(|edition| bytes.starts_with(edition.letters))
+    }
+
+    /// Whatever the letters: bytes of no edition are taken apart as the older ones are.
+    pub fn of_or_older(bytes: &[u8]) -> Edition {
+        Edition::of(bytes).unwrap_or(Edition::GCR1)
+    }
+
+    /// The first to have room for so many events.
+    pub fn for_events(count: usize) -> Edition {
+        let with_room = Edition::ALL.into_iter().find(|edition| count <= edition.most_events);
+        with_room.unwrap_or(Edition::GCR3)
+    }
+
+    /// This one, or else the first that has a difference and openings.
+    pub fn to_be_headed(self) -> Edition {
+        if self.headed {
+            self
+        } else {
+            Edition::GCR2
         }
     }
 
-    /// Nothing where block 0 has the letters of no edition, or what its edition does not have there. Count and sites
-    /// are the same in both, and are not looked at.
-    pub fn from_block_0(bytes: &[u8]) -> Option<Edition> {
+    pub const fn blocks_for(&self, events: usize) -> usize {
+        1 + events.div_ceil(self.block_slots)
+    }
+
+    pub const fn most_bytes(&self) -> usize {
+        BLOCK_BYTES * self.blocks_for(self.most_events)
+    }
+
+    /// The byte of a block at which its last slot ends.
+    pub const fn slots_end(&self) -> usize {
+        self.block_slots * self.slot_bytes
+    }
+
+    /// How many slots there are in a record of so many bytes.
+    pub fn slots_in(&self, bytes: usize) -> usize {
+        self.block_slots * (bytes / BLOCK_BYTES).saturating_sub(1)
+    }
+
+    /// The byte at which a slot begins.
+    pub fn slot_start(&self, number: usize) -> usize {
+        BLOCK_BYTES * (1 + number / self.block_slots) + self.slot_bytes * (number % self.block_slots)
+    }
+
+    /// Whether block 0 has these letters and no more than its edition has there. Count and sites are not looked at.
+    pub fn heads(&self, bytes: &[u8]) -> bool {
         let zero = |from: usize, to: usize| bytes[from..to].iter().all(|&byte| byte == 0);
-        match &bytes[0..4] {
-            b"GCR1" if zero(7, CHECKED_BYTES) => Some(Edition::Gcr1),
-            b"GCR2" if zero(7, DIFFERENCE_AT.start) && zero(OPENINGS_AT.end, CHECKED_BYTES) => {
-                let difference = u32_at(bytes, DIFFERENCE_AT.start);
-                Openings::from_bytes(&bytes[OPENINGS_AT]).map(|openings| Edition::Gcr2 { difference, openings })
-            }
-            _ => None,
-        }
-    }
-
-    /// `GCR1` has none.
-    pub fn openings(&self) -> Openings {
-        match self {
-            Edition::Gcr1 => Openings::none(),
-            Edition::Gcr2 { openings, .. } => *openings,
-        }
-    }
-
-    /// `GCR1` counts as 0.
-    pub fn difference(&self) -> u32 {
-        match self {
-            Edition::Gcr1 => 0,
-            Edition::Gcr2 { difference, .. } => *difference,
-        }
-    }
-
-    /// `GCR2` with these openings, the difference as it was.
-    pub fn opened(self, openings: Openings) -> Edition {
-        Edition::Gcr2 { difference: self.difference(), openings }
-    }
-
-    /// `GCR2` with this difference, the openings as they were.
-    pub fn apart(self, difference: u32) -> Edition {
-        Edition::Gcr2 { difference, openings: self.openings() }
+        let rest = match self.headed {
+            false => zero(DIFFERENCE_AT.start, OPENINGS_AT.end),
+            true => Openings::from_bytes(&bytes[OPENINGS_AT]).is_some(),
+        };
+        bytes.starts_with(self.letters) && zero(7, DIFFERENCE_AT.start) && rest && zero(OPENINGS_AT.end, CHECKED_BYTES)
     }
 }
 
+const _: () = {
+    let (old, new) = (Edition::GCR1, Edition::GCR3);
+    assert!(8 * (old.slot_bytes - SET_AT) == old.most_events && 8 * (new.slot_bytes - SET_AT) == new.most_events);
+    assert!(new.most_events == MOST_EVENTS && new.most_bytes() == MOST_BYTES);
+};
+
 impl Record {
-    /// Events of `GCR1`, in arbitration order as given.
+    /// Events in arbitration order as given, of `GCR1` where it has room for them.
     pub fn in_order(sites: u8, events: Vec<Event>) -> Record {
-        let mut record = Record { edition: Edition::Gcr1, sites, events };
+        let edition = Edition::for_events(events.len());
+        let mut record = Record { edition, difference: 0, openings: Openings::none(), sites, events };
         for (position, event) in record.events.iter_mut().enumerate() {
             event.position = position as u16;
         }
         record
     }
 
-    /// The same events in a record of `GCR2`.
-    pub fn opened(mut self, openings: Openings) -> Record {
-        self.edition = self.edition.opened(openings);
+    /// The same in another edition, but for what this one does not have.
+    pub fn in_edition(mut self, edition: Edition) -> Record {
+        if !edition.headed {
+            (self.difference, self.openings) = (0, Openings::none());
+        }
+        self.edition = edition;
         self
     }
 
-    /// The same events in a record of `GCR2`, at sites whose clocks may differ.
-    pub fn apart(mut self, difference: u32) -> Record {
-        self.edition = self.edition.apart(difference);
-        self
+    /// The same events with these openings, of `GCR2` if they were of `GCR1`.
+    pub fn opened(self, openings: Openings) -> Record {
+        Record { edition: self.edition.to_be_headed(), openings, ..self }
+    }
+
+    /// The same events at sites whose clocks may differ, of `GCR2` if they were of `GCR1`.
+    pub fn apart(self, difference: u32) -> Record {
+        Record { edition: self.edition.to_be_headed(), difference, ..self }
     }
 
     pub fn with_positions(mut self, positions: &[u16]) -> Record {
@@ -215,24 +249,29 @@ impl Record {
     }
 
     pub fn to_bytes(&self) -> Vec<u8> {
-        let mut bytes = vec![0; BLOCK_BYTES * blocks_for(self.events.len())];
-        bytes[0..4].copy_from_slice(self.edition.letters());
-        bytes[DIFFERENCE_AT].copy_from_slice(&self.edition.difference().to_le_bytes());
-        bytes[OPENINGS_AT].copy_from_slice(&self.edition.openings().to_bytes());
+        let mut bytes = vec![0; BLOCK_BYTES * self.edition.blocks_for(self.events.len())];
+        bytes[0..4].copy_from_slice(self.edition.letters);
+        bytes[DIFFERENCE_AT].copy_from_slice(&self.difference.to_le_bytes());
+        bytes[OPENINGS_AT].copy_from_slice(&self.openings.to_bytes());
         bytes[4..6].copy_from_slice(&(self.events.len() as u16).to_le_bytes());
         bytes[6] = self.sites;
         for (number, event) in self.events.iter().enumerate() {
-            slot_mut(&mut bytes, number).copy_from_slice(&event.to_slot());
+            slot_mut(&mut bytes, number).copy_from_slice(&event.to_slot(self.edition));
         }
         seal(&mut bytes);
         bytes
     }
 
-    /// Reads a record that passes questions 3 to 7.
+    /// Reads a record that passes questions 3 to 7. Where `GCR1` has neither difference nor openings, it has zeros.
     pub fn from_bytes(bytes: &[u8]) -> Record {
         let events = (0..event_count(bytes)).map(|number| Event::from_slot(slot(bytes, number)));
-        let edition = Edition::from_block_0(bytes).expect("question 5");
-        Record { edition, sites: bytes[6], events: events.collect() }
+        Record {
+            edition: Edition::of(bytes).expect("question 5"),
+            difference: u32_at(bytes, DIFFERENCE_AT.start),
+            openings: Openings::from_bytes(&bytes[OPENINGS_AT]).expect("question 5"),
+            sites: bytes[6],
+            events: events.collect(),
+        }
     }
 }
 
@@ -252,25 +291,20 @@ pub fn event_count(bytes: &[u8]) -> usize {
     u16_at(bytes, 4) as usize
 }
 
-pub fn blocks_for(events: usize) -> usize {
-    1 + events.div_ceil(BLOCK_SLOTS)
-}
-
-/// The byte at which a slot begins.
-pub fn slot_start(number: usize) -> usize {
-    BLOCK_BYTES * (1 + number / BLOCK_SLOTS) + SLOT_BYTES * (number % BLOCK_SLOTS)
-}
-
 pub fn slot(bytes: &[u8], number: usize) -> &[u8] {
-    &bytes[slot_start(number)..][..SLOT_BYTES]
+    let edition = Edition::of_or_older(bytes);
+    &bytes[edition.slot_start(number)..][..edition.slot_bytes]
 }
 
 pub fn slot_mut(bytes: &mut [u8], number: usize) -> &mut [u8] {
-    &mut bytes[slot_start(number)..][..SLOT_BYTES]
+    let edition = Edition::of_or_older(bytes);
+    &mut bytes[edition.slot_start(number)..][..edition.slot_bytes]
 }
 
+/// No slot holds events past its end.
 pub fn visible_of(slot: &[u8]) -> EventSet {
-    std::array::from_fn(|event| slot[32 + event / 8] >> (event % 8) & 1 == 1)
+    let set = &slot[SET_AT..];
+    std::array::from_fn(|event| set.get(event / 8).is_some_and(|byte| byte >> (event % 8) & 1 == 1))
 }
 
 /// A and B of a block, word by word as the paper tells them.

@@ -23,28 +23,25 @@ impl Pairs {
         self.holds[a * self.events + b]
     }
 
-    /// All (a, b) with a path of one or more steps from a to b.
+    /// All (a, b) with a path of one or more steps from a to b: first those through no other event, then those through
+    /// event 0 too, and so on.
     pub fn one_or_more_steps(&self) -> Pairs {
-        let after = |b| (0..self.events).filter(|&c| self.has(b, c)).collect();
-        let after: Vec<Vec<usize>> = (0..self.events).map(after).collect();
-        let mut reached = Pairs::such_that(self.events, |_, _| false);
-        for a in 0..self.events {
-            reached.walk_from(a, &after);
+        let mut reached = self.clone();
+        for through in 0..self.events {
+            let after = reached.row(through).to_vec();
+            for before in 0..self.events {
+                if reached.has(before, through) {
+                    let row = &mut reached.holds[before * self.events..][..self.events];
+                    row.iter_mut().zip(&after).for_each(|(holds, after)| *holds |= after);
+                }
+            }
         }
         reached
     }
 
-    fn walk_from(&mut self, a: usize, after: &[Vec<usize>]) {
-        let mut to_leave = vec![a];
-        while let Some(b) = to_leave.pop() {
-            for &c in &after[b] {
-                let reached = &mut self.holds[a * self.events + c];
-                if !*reached {
-                    *reached = true;
-                    to_leave.push(c);
-                }
-            }
-        }
+    /// For each b whether (a, b) is one of them.
+    fn row(&self, a: usize) -> &[bool] {
+        &self.holds[a * self.events..][..self.events]
     }
 
     /// The pairs of these and of others.
@@ -86,7 +83,7 @@ pub fn returned_before(difference: u32, a: &Event, b: &Event) -> bool {
 
 impl Relations {
     pub fn of(record: &Record) -> Relations {
-        let difference = record.edition.difference();
+        let difference = record.difference;
         Relations::by(record, |a, b| returned_before(difference, a, b))
     }
 

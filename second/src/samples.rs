@@ -1,8 +1,10 @@
 //! Named sample inputs, always the same.
 
+use crate::generate::harvest_day;
+use crate::limits::MOST_BYTES;
 use crate::openings::{Openings, OPENINGS_BYTES};
 use crate::record::*;
-use crate::store::{run_script, Call};
+use crate::store::{run_script, Call, Store};
 use std::fs;
 use std::path::Path;
 
@@ -13,10 +15,15 @@ pub struct Sample {
 
 pub fn samples() -> Vec<Sample> {
     let mut all = vec![Sample::new("empty-one-site", Record::in_order(1, vec![]).to_bytes())];
-    for n in [1, 7, 8, 255, 256] {
+    for n in [1, 7, 8, 255, 256, 257, 383, 384] {
         all.push(Sample::new(&format!("in-turn-{n}"), in_turn(n).to_bytes()));
     }
+    for n in [0, 1, 6, 7, 12] {
+        let record = in_turn(n).in_edition(Edition::GCR3);
+        all.push(Sample::new(&format!("gcr3-in-turn-{n}"), record.to_bytes()));
+    }
     all.extend(refused());
+    all.extend(refused_gcr3());
     all.push(Sample::new("stale-read", stale_read().to_bytes()));
     all.push(Sample::new("stale-value", stale_value().to_bytes()));
     all.push(Sample::new("openings", openings().to_bytes()));
@@ -26,7 +33,21 @@ pub fn samples() -> Vec<Sample> {
     let (script, no_openings) = (listing_script(), vec![0; OPENINGS_BYTES]);
     all.push(Sample::new("listing", run_script(2, &script, &mut vec![0; script.len()]).record().to_bytes()));
     all.push(Sample { name: "listing.script".to_string(), bytes: [vec![2], no_openings, script].concat() });
+    all.extend(harvest_day());
     all
+}
+
+/// The day's script as `rehearse` reads it, and what it leaves.
+fn harvest_day() -> [Sample; 2] {
+    let (openings, script) = (harvest_day::openings(), script_of(harvest_day::calls()));
+    let mut store = Store::opened(harvest_day::SITES, openings);
+    store.run(&script, &mut vec![0; script.len()]);
+    let bytes = [vec![harvest_day::SITES as u8], openings.to_bytes().to_vec(), script].concat();
+    [Sample { name: "harvest-day.script".to_string(), bytes }, Sample::new("harvest-day", store.record().to_bytes())]
+}
+
+fn script_of(calls: impl IntoIterator<Item = Call>) -> Vec<u8> {
+    calls.into_iter().flat_map(Call::to_bytes).collect()
 }
 
 /// The samples that are records, and the files that keep models apart.
@@ -130,7 +151,7 @@ pub fn listing_script() -> Vec<u8> {
         Call::Deliver { site: 0, event: 1 },
         Call::Get { site: 0, object: 5 },
     ];
-    calls.into_iter().flat_map(Call::to_bytes).collect()
+    script_of(calls)
 }
 
 /// Each refusal, at a low and a high place where it has more than one.
@@ -144,7 +165,11 @@ fn refused() -> Vec<Sample> {
         full("refused-5-n-257", |bytes| bytes[4] = 1),
         full("refused-5-sites-9", |bytes| bytes[6] = 9),
         full("refused-5-last-byte", |bytes| bytes[507] = 1),
-        full("refused-5-letters-3", |bytes| bytes[3] = b'3'),
+        full("refused-5-letters-4", |bytes| bytes[3] = b'4'),
+        full("refused-5-gcr2-n-257", |bytes| (bytes[3], bytes[4]) = (b'2', 1)),
+        full("refused-6-as-gcr3", |bytes| bytes[3] = b'3'),
+        full("refused-6-beyond-19456", |bytes| bytes.resize(39 * BLOCK_BYTES, 0)),
+        full("refused-6-of-65-blocks", |bytes| bytes.resize(MOST_BYTES, 0)),
         full("refused-5-gcr1-difference", |bytes| bytes[8] = 1),
         full("refused-5-gcr1-openings", |bytes| bytes[12] = 1),
         full("refused-5-gcr2-byte-7", |bytes| (bytes[3], bytes[7]) = (b'2', 1)),
@@ -165,6 +190,31 @@ fn refused() -> Vec<Sample> {
     ]
 }
 
+/// The same of the last edition, with as many events as there can be.
+fn refused_gcr3() -> Vec<Sample> {
+    let full = |name, change: fn(&mut Vec<u8>)| changed(name, 384, change);
+    vec![
+        full("refused-3-gcr3-long", |bytes| bytes.resize(66 * BLOCK_BYTES, 0)),
+        unsealed_at("refused-4-gcr3-high", 384, 64),
+        full("refused-5-gcr3-n-385", |bytes| bytes[4] = 129),
+        full("refused-5-gcr3-byte-7", |bytes| bytes[7] = 1),
+        full("refused-5-gcr3-clear-bit-31", |bytes| (bytes[15], bytes[143]) = (0x7f, 1)),
+        full("refused-5-gcr3-byte-144", |bytes| bytes[144] = 1),
+        full("refused-5-gcr3-as-gcr2", |bytes| bytes[3] = b'2'),
+        full("refused-6-gcr3-too-few", |bytes| bytes.truncate(64 * BLOCK_BYTES)),
+        changed("refused-6-gcr3-too-many", 378, |bytes| bytes.resize(65 * BLOCK_BYTES, 0)),
+        full("refused-7-gcr3-high", |bytes| slot_mut(bytes, 383)[15] = 1),
+        full("refused-7-gcr3-tail-480", |bytes| bytes[BLOCK_BYTES + 480] = 1),
+        full("refused-7-gcr3-tail-507", |bytes| bytes[64 * BLOCK_BYTES + 507] = 1),
+        full("refused-8-gcr3-high", |bytes| slot_mut(bytes, 383)[10] = 126),
+        full("refused-8-gcr3-n", |bytes| slot_mut(bytes, 300)[10..12].copy_from_slice(&[128, 1])),
+        changed("refused-9-gcr3-high", 383, |bytes| slot_mut(bytes, 382)[79] |= 0x80),
+        full("refused-9-gcr3-itself", |bytes| slot_mut(bytes, 383)[79] |= 0x80),
+        full("refused-10-gcr3-high", |bytes| slot_mut(bytes, 382)[79] |= 0x80),
+        full("refused-10-gcr3-low", |bytes| slot_mut(bytes, 0)[79] |= 0x80),
+    ]
+}
+
 /// A record of n events with some bytes changed, and sealed again.
 fn changed(name: &str, n: usize, change: impl Fn(&mut Vec<u8>)) -> Sample {
     let mut bytes = in_turn(n).to_bytes();
@@ -174,7 +224,11 @@ fn changed(name: &str, n: usize, change: impl Fn(&mut Vec<u8>)) -> Sample {
 }
 
 fn unsealed(name: &str, block: usize) -> Sample {
-    let mut bytes = in_turn(256).to_bytes();
+    unsealed_at(name, 256, block)
+}
+
+fn unsealed_at(name: &str, n: usize, block: usize) -> Sample {
+    let mut bytes = in_turn(n).to_bytes();
     bytes[block * BLOCK_BYTES + 300] ^= 1;
     Sample::new(name, bytes)
 }

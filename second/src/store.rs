@@ -1,5 +1,6 @@
 //! The store's rules: sites, calls, answers and the record of a rehearsal.
 
+use crate::limits::{MOST_BYTES, MOST_EVENTS, MOST_SITES};
 use crate::openings::{Openings, OBJECTS};
 use crate::record::*;
 
@@ -260,15 +261,15 @@ impl Store {
         closed_answer(copies)
     }
 
-    /// Always of `GCR2`, with a difference of 0.
+    /// Always of `GCR3`, with a difference of 0.
     pub fn record(&self) -> Record {
         let order = |done: &Done| (done.stamp, done.event.site);
         let events = self.done.iter().map(|done| {
             let before = self.done.iter().filter(|other| order(other) < order(done)).count();
             Event { position: before as u16, ..done.event.clone() }
         });
-        let edition = Edition::Gcr2 { difference: 0, openings: self.openings };
-        Record { edition, sites: self.sites.len() as u8, events: events.collect() }
+        let (sites, events) = (self.sites.len() as u8, events.collect());
+        Record { edition: Edition::GCR3, difference: 0, openings: self.openings, sites, events }
     }
 
     pub fn puts(&self) -> usize {

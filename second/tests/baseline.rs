@@ -9,6 +9,7 @@ use second::explain::Explanation;
 use second::generate::random::Random;
 use second::generate::sweeps::{self, figures, Named};
 use second::generate::{self, scripts, shapes};
+use second::limits::{ENTRIES, MOST_BYTES, MOST_EVENTS};
 use second::models::{judged, refused};
 use second::openings::Openings;
 use second::predicates::Answer::{Broken, Met};
@@ -76,7 +77,7 @@ fn explains_alike() {
 #[test]
 fn explains_alike_in_turn() {
     let mut columns = Columns::new();
-    let mut events = [0; 256];
+    let mut events = [0; ENTRIES];
     for seed in 10_000..10_300 {
         let bytes = generate::to_explain(seed).bytes;
         let Ok(record) = ask(&bytes) else { continue };
@@ -100,7 +101,7 @@ fn rehearses_alike() {
 
 /// The result, the record and the answers.
 fn rehearsed(subject: &dyn Rehearser, sites: usize, openings: &[u8], script: &[u8]) -> (u64, Vec<u8>, Vec<u8>) {
-    let (mut record, mut answers) = (vec![7; 19_456], vec![7; script.len()]);
+    let (mut record, mut answers) = (vec![7; MOST_BYTES], vec![7; script.len()]);
     let result = subject.rehearse(sites as u32, openings, script, &mut record, &mut answers);
     (result, record, answers)
 }
@@ -117,7 +118,7 @@ fn closed_at_last(sites: usize) -> Vec<u8> {
         _ => Call::Put { site: k % sites, object: k % 32, value: k as u32 },
     };
     let closed = [Call::Close, Call::Get { site: 0, object: 0 }, Call::Close];
-    (0..256).map(event).chain(closed).flat_map(Call::to_bytes).collect()
+    (0..MOST_EVENTS).map(event).chain(closed).flat_map(Call::to_bytes).collect()
 }
 
 #[test]
@@ -134,7 +135,7 @@ fn rehearses_days_with_closes_alike() {
 /// Records of many events, each with differences from none to the largest.
 fn large_with_differences() -> Vec<Named<Vec<u8>>> {
     let of_seed = |seed| {
-        let record = shapes::of_either_edition(&mut Random::new(seed), 64);
+        let record = shapes::of_any_edition(&mut Random::new(seed), 64);
         let apart = |difference| (format!("seed {seed}, {difference}"), record.clone().apart(difference).to_bytes());
         [0, 1, 2, 9, 60, 1 << 31, u32::MAX].map(apart)
     };

@@ -18,7 +18,7 @@ struct ByRule(Rule);
 impl ByRule {
     fn answers(&self, bytes: &[u8]) -> Answers {
         let record = ask(bytes)?;
-        let difference = record.edition.difference();
+        let difference = record.difference;
         let relations = Relations::by(&record, |a, b| self.0(difference, a, b));
         Ok(Judged::by(&record, relations).answers())
     }
@@ -71,7 +71,7 @@ fn misread_differences_are_found() {
     for (name, misreading) in misreadings {
         let misread = |bytes: &[u8]| {
             let record = ask(bytes)?;
-            let taken = misreading(record.edition.difference());
+            let taken = misreading(record.difference);
             answers(&record.apart(taken).to_bytes())
         };
         assert!(told(misread), "{name}");
@@ -84,7 +84,7 @@ struct Refusing;
 impl Reader for Refusing {
     fn read(&self, record: &[u8], work: &mut [u64]) -> u64 {
         let mut taken = record.to_vec();
-        if ask(record).is_ok_and(|record| record.edition.difference() > 0) {
+        if ask(record).is_ok_and(|record| record.difference > 0) {
             // No edition of which this is right.
             taken[3] = b'3';
             seal(&mut taken);
@@ -125,7 +125,7 @@ impl Judge for Told {
     }
 
     fn judge_all(&self, bytes: &[u8], out: &mut [u64]) -> u64 {
-        let difference = Record::from_bytes(bytes).edition.difference();
+        let difference = Record::from_bytes(bytes).difference;
         let told = answers(bytes).map(|all| all.into_iter().map(|answer| self.0(difference, answer)).collect());
         packed_all(&told, out)
     }

@@ -40,7 +40,8 @@ fn bytes_of_a_difference() {
         let bytes = record.to_bytes();
         assert_eq!(bytes[DIFFERENCE_AT], difference.to_le_bytes());
         assert_eq!(bytes[OPENINGS_AT], openings.to_bytes());
-        assert_eq!(ask(&bytes).expect("any difference passes").edition, Edition::Gcr2 { difference, openings });
+        let record = ask(&bytes).expect("any difference passes");
+        assert_eq!((record.edition, record.difference, record.openings), (Edition::GCR2, difference, openings));
     }
 }
 
@@ -54,9 +55,9 @@ fn first_edition_has_no_difference() {
         assert_eq!(ask(&bytes), Err(Refusal { number: 5, place: 0 }), "byte {at}");
         bytes[3] = b'2';
         seal(&mut bytes);
-        assert_eq!(ask(&bytes).expect("passes").edition.difference(), 1 << (8 * (at - 8)));
+        assert_eq!(ask(&bytes).expect("passes").difference, 1 << (8 * (at - 8)));
     }
-    assert_eq!(Edition::Gcr1.difference(), 0);
+    assert_eq!(Record::in_order(1, vec![]).difference, 0);
 }
 
 #[test]
@@ -158,8 +159,8 @@ fn other_predicates_do_not_look_at_the_difference() {
     for seed in 0..300 {
         let mut random = Random::new(seed);
         let n = random.index(20);
-        let record = shapes::of_either_edition(&mut random, n);
-        let old = Record { edition: Edition::Gcr1, ..record.clone() };
+        let record = shapes::of_any_edition(&mut random, n);
+        let old = record.clone().in_edition(Edition::GCR1);
         assert_eq!(answers(&old), answers(&old.clone().apart(0)), "seed {seed}");
         let mut smaller = answers(&record.clone().apart(0));
         for difference in [1, 2, 5, 1 << 31, MOST] {
@@ -174,6 +175,6 @@ fn other_predicates_do_not_look_at_the_difference() {
 #[test]
 fn rehearsals_write_0() {
     let (_, store) = run(2, &[put(0, 0, 1), deliver(0, 1), get(1, 0)]);
-    assert_eq!(store.record().edition.difference(), 0);
+    assert_eq!(store.record().difference, 0);
     assert_eq!(store.record().to_bytes()[DIFFERENCE_AT], [0; 4]);
 }

@@ -37,13 +37,13 @@ fn one_site_lacks_nothing() {
 
 #[test]
 fn full_store_still_closes() {
-    let mut calls: Vec<Call> = (0..256).map(|k| put(k % 8, k % 32, k as u32)).collect();
+    let mut calls: Vec<Call> = (0..384).map(|k| put(k % 8, k % 32, k as u32)).collect();
     calls.extend([Close, put(0, 0, 1), get(7, 31), Close]);
     let (answers, store) = run(8, &calls);
-    assert_eq!(answers[256], [0, 1, 0, 0, 0, 7, 0, 0], "256 puts to 7 sites each are 1,792 copies");
-    assert_eq!([answers[257][0], answers[258][0]], [34; 2]);
-    assert_eq!(answers[259], closed(0));
-    assert_eq!((store.events(), store.outstanding()), (256, 0));
+    assert_eq!(answers[384], [0, 1, 0, 0, 128, 10, 0, 0], "384 puts to 7 sites each are 2,688 copies");
+    assert_eq!([answers[385][0], answers[386][0]], [34; 2]);
+    assert_eq!(answers[387], closed(0));
+    assert_eq!((store.events(), store.outstanding()), (384, 0));
     assert!(store.cells_agree());
 }
 

@@ -1,13 +1,16 @@
 //! The comparers find deliberate faults, and none where there is none.
 
 use second::compare::subject::{Baseline, Itself, Judge, Reader, Rehearser};
-use second::compare::tally::Tally;
+use second::compare::tally::{Case, Tally};
 use second::compare::{models, programs, reader, rehearsal, Seeds};
+use second::generate;
+use second::generate::sweeps::Named;
+use second::limits::WORK_WORDS;
 use second::models::{packed, packed_all, packed_predicate, Answers};
 use second::openings::Openings;
 use second::predicates::Judged;
 use second::questions::ask;
-use second::record::{Edition, Event, Record};
+use second::record::{Event, Record};
 use second::relations::{Pairs, Relations};
 use second::store::{rehearse, run_script, Call, Outcome};
 use std::cell::RefCell;
@@ -15,6 +18,9 @@ use std::path::Path;
 
 /// A wrong subject: the right answer, then something done to it.
 struct Wrong<F>(F);
+
+/// What is done to a reading: its answer, the record, and the work slice.
+type ReaderFault<'a> = &'a dyn Fn(u64, &[u8], &mut [u64]) -> u64;
 
 impl<F: Fn(u64, &[u8], &mut [u64]) -> u64> Reader for Wrong<F> {
     fn read(&self, record: &[u8], work: &mut [u64]) -> u64 {
@@ -140,17 +146,26 @@ impl Rehearser for WrongCount {
     }
 }
 
-fn reader_failures(fault: impl Fn(u64, &[u8], &mut [u64]) -> u64) -> u64 {
-    let mut tally = Tally::counting();
-    reader::compare(&Wrong(fault), &Seeds::first(100), &mut tally);
-    tally.failed
+/// Whether one of the comparer's fixed records or of the first seeds' tells.
+fn found(fixed: &[Named<Vec<u8>>], fault: ReaderFault) -> bool {
+    let seeds = (0..100).map(|seed| (seed.to_string(), generate::record(seed).bytes));
+    fixed.iter().cloned().chain(seeds).any(|(name, bytes)| {
+        let mut tally = Tally::counting();
+        reader::one_record(&Wrong(fault), 0, &Case { name, input: &bytes }, &mut tally);
+        tally.failed > 0
+    })
 }
 
-fn judge_failures(fault: Fault) -> u64 {
-    let mut tally = Tally::counting();
+/// Whether one of the first seeds' records tells, of those small enough for a slow judge.
+fn judge_is_found(fault: Fault) -> bool {
     let last = RefCell::new((vec![], ask(&[]).map(|_| vec![])));
-    models::compare(&WrongJudge { fault, last }, &Seeds::first(400), &mut tally);
-    tally.failed
+    let judge = WrongJudge { fault, last };
+    let small = (0..600).map(|seed| generate::record(seed).bytes).filter(|bytes| bytes.len() < 4_000);
+    small.enumerate().any(|(k, bytes)| {
+        let mut tally = Tally::counting();
+        models::one_record(&judge, &Case { name: k.to_string(), input: &bytes }, &mut tally);
+        tally.failed > 0
+    })
 }
 
 fn words_failures(fault: fn(u64, &mut [u64])) -> u64 {
@@ -207,32 +222,34 @@ fn faults_of_all_thirteen() {
 
 #[test]
 fn faults_of_a_reader() {
-    assert_eq!(reader_failures(|right, _, _| right), 0);
+    let fixed = reader::fixed();
+    let found = |fault: ReaderFault| found(&fixed, fault);
+    assert!(!found(&|right, _, _| right));
     let of_question = |result: u64, number: u64| result / 1_024 == 2_048 + number;
     for number in 1..=10 {
         if number != 2 {
-            let accepts = reader_failures(|right, _, _| if of_question(right, number) { 0 } else { right });
-            assert!(accepts > 0, "question {number} left out");
+            let accepts = found(&|right, _, _| if of_question(right, number) { 0 } else { right });
+            assert!(accepts, "question {number} left out");
         }
     }
     for number in [4, 7, 8, 9, 10] {
-        let next = reader_failures(|right, _, _| right + of_question(right, number) as u64);
-        assert!(next > 0, "place of question {number}");
+        let next = found(&|right, _, _| right + of_question(right, number) as u64);
+        assert!(next, "place of question {number}");
     }
     let later_word = |right, _: &[u8], work: &mut [u64]| {
-        if let Some(word) = work.get_mut(1_029) {
+        if let Some(word) = work.get_mut(WORK_WORDS + 5) {
             *word = 0;
         }
         right
     };
-    assert!(reader_failures(later_word) > 0);
+    assert!(found(&later_word));
     let unsettled = |right, _: &[u8], work: &mut [u64]| {
-        if let Some(word) = work.get_mut(1_023) {
+        if let Some(word) = work.get_mut(WORK_WORDS - 1) {
             *word = 3;
         }
         right
     };
-    assert!(reader_failures(unsettled) > 0);
+    assert!(found(&unsettled));
 }
 
 fn not_before(record: &mut Record) {
@@ -259,15 +276,13 @@ fn objects_modulo_32(record: &mut Record) {
 }
 
 fn opening_0_is_none(record: &mut Record) {
-    if let Edition::Gcr2 { openings, .. } = &mut record.edition {
-        let figures = std::array::from_fn(|object| openings.of(object).filter(|&figure| figure != 0));
-        *openings = Openings::from_figures(figures);
-    }
+    let figures = std::array::from_fn(|object| record.openings.of(object).filter(|&figure| figure != 0));
+    record.openings = Openings::from_figures(figures);
 }
 
 /// No write is visible to a read of an object that has an opening.
 fn openings_hide_writes(record: &mut Record) {
-    let openings = record.edition.openings();
+    let openings = record.openings;
     let objects: Vec<Option<u8>> = record.events.iter().map(|event| event.is_write().then_some(event.object)).collect();
     for read in record.events.iter_mut().filter(|event| event.is_read()) {
         if openings.of(read.object as usize).is_some() {
@@ -291,10 +306,10 @@ fn pending_returned_at_zero(record: &Record, relations: &mut Relations) {
 
 #[test]
 fn faults_of_a_judge() {
-    assert_eq!(judge_failures(|_| None), 0);
+    assert!(!judge_is_found(|_| None));
     let faults: [(&str, Fault); 9] = [
         ("no openings", |record| {
-            record.edition = record.edition.opened(Openings::none());
+            record.openings = Openings::none();
             None
         }),
         ("objects modulo 32", |record| {
@@ -325,7 +340,7 @@ fn faults_of_a_judge() {
         ("pending as returned", |_| Some(pending_returned_at_zero)),
     ];
     for (name, fault) in faults {
-        assert!(judge_failures(fault) > 0, "{name}");
+        assert!(judge_is_found(fault), "{name}");
     }
 }
 

@@ -154,7 +154,7 @@ fn delivery_made_twice() {
 fn most_events_in_a_record() {
     let events = (0..256).map(|_| Event::write(0, 0, 0)).collect();
     let mut bytes = Record::in_order(1, events).to_bytes();
-    assert_eq!(bytes.len(), MOST_BYTES);
+    assert_eq!(bytes.len(), 19_456);
     assert_eq!(lines::inspect(&bytes), "passed\n");
     bytes[4..6].copy_from_slice(&257u16.to_le_bytes());
     seal(&mut bytes);
@@ -164,14 +164,15 @@ fn most_events_in_a_record() {
 #[test]
 fn most_events_in_the_store() {
     for last in [put(0, 0, 1), get(0, 0)] {
-        let mut calls = vec![put(0, 0, 1); 256];
-        calls.extend([last, deliver(255, 1), deliver(0, 1)]);
+        let mut calls = vec![put(0, 0, 1); 384];
+        calls.extend([last, deliver(383, 1), deliver(0, 1)]);
         let (answers, store) = run(2, &calls);
         assert_eq!(answers[255], [0, 0, 255, 0, 0, 0, 0, 0]);
-        assert_eq!(answers[256], [34, 0, 0, 0, 0, 0, 0, 0]);
-        assert_eq!(answers[257][0], 36);
-        assert_eq!(answers[258], [0; 8], "a full store still delivers");
-        assert_eq!((store.events(), store.outstanding()), (256, 255));
+        assert_eq!(answers[383], [0, 0, 127, 1, 0, 0, 0, 0]);
+        assert_eq!(answers[384], [34, 0, 0, 0, 0, 0, 0, 0]);
+        assert_eq!(answers[385][0], 36);
+        assert_eq!(answers[386], [0; 8], "a full store still delivers");
+        assert_eq!((store.events(), store.outstanding()), (384, 383));
     }
 }
 

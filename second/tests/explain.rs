@@ -1,8 +1,9 @@
 //! What is told of each predicate, by records worked out by hand, and how the call is refused.
 
 use second::compare::subject::{Baseline, Explainer, Itself};
-use second::explain::{explain_lent, explanations, ENTRIES};
+use second::explain::{explain_lent, explanations};
 use second::generate::chains;
+use second::limits::{ENTRIES, WORK_WORDS};
 use second::models::{refused, REFUSED};
 use second::questions::Refusal;
 use second::reader::read;
@@ -176,6 +177,11 @@ fn fixed_chains_are_as_long_as_they_are_named() {
             assert_eq!(["ring-of-256", "ring-by-so-too"].map(of), [256; 2]);
             assert_eq!(["ring-of-2", "ring-of-3", "round-ladder"].map(of), [2, 3, 64]);
             assert_eq!(["narrow-ladder", "wide-ladder", "ladder-of-two-steps"].map(of), [128, 6, 2]);
+            assert_eq!(["chain-of-256", "ring-of-257"].map(of), [256, 257]);
+            assert_eq!(["chain-of-383", "longest-chain-by-so-too"].map(of), [383; 2]);
+            assert_eq!(["ring-of-384", "longest-ring-by-so-too"].map(of), [384; 2]);
+            assert_eq!(["longest-narrow-ladder", "widest-ladder-of-two-steps"].map(of), [192, 2]);
+            assert_eq!(of("longest-round-ladder"), 96);
         }
     }
 }
@@ -197,6 +203,10 @@ fn records() -> Vec<((u32, u32), Vec<u8>)> {
         ((9, 254), named("refused-9-high.gcr")),
         ((10, 254), named("refused-10-high.gcr")),
         ((42, 0), named("in-turn-256.gcr")),
+        ((4, 64), named("refused-4-gcr3-high.gcr")),
+        ((7, 383), named("refused-7-gcr3-tail-507.gcr")),
+        ((10, 382), named("refused-10-gcr3-high.gcr")),
+        ((42, 0), named("in-turn-384.gcr")),
     ]
 }
 
@@ -207,13 +217,13 @@ fn refusals_come_in_their_order() {
             let of_record = refusal(number, place);
             for number in [0, 14, 255, 256, u32::MAX] {
                 assert_eq!(told(subject, number, &bytes, 0), refusal(2, 0));
-                assert_eq!(told(subject, number, &bytes, 300), refusal(2, 0));
+                assert_eq!(told(subject, number, &bytes, 400), refusal(2, 0));
             }
             for predicate in [1, 5, 10, 13] {
-                for entries in [0, 1, 255] {
+                for entries in [0, 1, 256, 383] {
                     assert_eq!(told(subject, predicate, &bytes, entries), refusal(41, 0));
                 }
-                for entries in [256, 257, 300] {
+                for entries in [384, 385, 400] {
                     assert_eq!(told(subject, predicate, &bytes, entries), of_record);
                 }
             }
@@ -225,8 +235,8 @@ fn refusals_come_in_their_order() {
 #[test]
 fn a_short_slice_is_refused_whatever_is_told() {
     let bytes = by_vis(3, &[(0, 1), (1, 2)]).to_bytes();
-    assert_eq!(told(&Itself, 10, &bytes, 255), refusal(41, 0));
-    assert_eq!(told(&Itself, 10, &bytes, 256), (2, vec![1, 2]));
+    assert_eq!(told(&Itself, 10, &bytes, 383), refusal(41, 0));
+    assert_eq!(told(&Itself, 10, &bytes, 384), (2, vec![1, 2]));
     assert_eq!(told(&Itself, 10, &bytes, 1_000), (2, vec![1, 2]));
 }
 
@@ -237,18 +247,21 @@ fn lent(predicate: u32, bytes: &[u8], words: usize, entries: usize) -> (u64, Vec
     (answer, work)
 }
 
+/// Words of a slice that is longer than it need be.
+const MORE: usize = WORK_WORDS + 6;
+
 #[test]
 fn a_lent_work_slice_is_asked_for_first_and_holds_the_visible_sets() {
     let bytes = by_vis(3, &[(0, 1), (1, 2)]).to_bytes();
-    let (mut broken, mut visible) = (bytes.clone(), vec![5; 1_030]);
+    let (mut broken, mut visible) = (bytes.clone(), vec![5; MORE]);
     read(&bytes, &mut visible);
-    assert_eq!(lent(0, &[], 1_023, 0), (refusal(1, 0).0, vec![5; 1_023]));
-    assert_eq!(lent(0, &[], 1_030, 0), (refusal(2, 0).0, vec![5; 1_030]));
-    assert_eq!(lent(10, &[], 1_030, 255), (refusal(41, 0).0, vec![5; 1_030]));
-    assert_eq!(lent(10, &bytes, 1_030, 256), (2, visible.clone()));
-    assert_eq!(lent(3, &bytes, 1_030, 256), (refusal(42, 0).0, visible));
+    assert_eq!(lent(0, &[], WORK_WORDS - 1, 0), (refusal(1, 0).0, vec![5; WORK_WORDS - 1]));
+    assert_eq!(lent(0, &[], MORE, 0), (refusal(2, 0).0, vec![5; MORE]));
+    assert_eq!(lent(10, &[], MORE, 383), (refusal(41, 0).0, vec![5; MORE]));
+    assert_eq!(lent(10, &bytes, MORE, 384), (2, visible.clone()));
+    assert_eq!(lent(3, &bytes, MORE, 384), (refusal(42, 0).0, visible));
     slot_mut(&mut broken, 0)[32] = 2;
     seal(&mut broken);
-    let zeros = [vec![0; 1_024], vec![5; 6]].concat();
-    assert_eq!(lent(10, &broken, 1_030, 256), (refusal(10, 0).0, zeros));
+    let zeros = [vec![0; WORK_WORDS], vec![5; 6]].concat();
+    assert_eq!(lent(10, &broken, MORE, 384), (refusal(10, 0).0, zeros));
 }

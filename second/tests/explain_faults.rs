@@ -6,8 +6,9 @@ use second::compare::held::{held, Told};
 use second::compare::subject::{Baseline, Explainer, Judge};
 use second::compare::tally::{Case, Tally};
 use second::compare::ways::WRONG_WAYS;
-use second::explain::{told, Explanations, ENTRIES};
+use second::explain::{told, Explanations};
 use second::generate;
+use second::limits::ENTRIES;
 use second::models::{refusal_in, refused, REFUSED};
 use second::predicates::{Judged, PREDICATES};
 use second::questions::{ask, Refusal};
@@ -74,7 +75,7 @@ const OF_THE_SLICE: [(&str, Call); 6] = [
         }
         answer
     }),
-    ("the 257th cleared", |predicate, bytes, events| {
+    ("the 385th cleared", |predicate, bytes, events| {
         let answer = right(predicate, bytes, events);
         if let (true, Some(entry)) = (answer < REFUSED, events.get_mut(ENTRIES)) {
             *entry = 0;
@@ -152,7 +153,7 @@ const OF_THE_QUESTIONS: [(&str, Call); 9] = [
         answer if answer == at_0(42) => 0,
         answer => answer,
     }),
-    ("255 entries will do", |predicate, bytes, events| {
+    ("383 entries will do", |predicate, bytes, events| {
         let mut long = [0; ENTRIES];
         let answer = right(predicate, bytes, &mut long);
         if events.len() != ENTRIES - 1 || answer >= ENTRIES as u64 {
@@ -161,7 +162,7 @@ const OF_THE_QUESTIONS: [(&str, Call); 9] = [
         events[..answer as usize].copy_from_slice(&long[..answer as usize]);
         answer
     }),
-    ("257 entries asked for", |predicate, bytes, events| match (predicate, events.len()) {
+    ("385 entries asked for", |predicate, bytes, events| match (predicate, events.len()) {
         (1..=13, ..=ENTRIES) => at_0(41),
         _ => right(predicate, bytes, events),
     }),

@@ -98,8 +98,9 @@ fn assert_all_occur(lists: &[&[Row]], seeds: u64, count: impl FnMut(u64, &mut Ta
 #[test]
 fn every_answer_of_records() {
     let of_models = [must_occur::MODELS, must_occur::MODEL_CLOCKS, must_occur::MODELS_APART];
-    let of_records = [must_occur::EDITIONS, must_occur::READS, must_occur::CLOCKS, must_occur::RETURNS];
-    let lists = [&of_models[..], &of_records].concat();
+    let of_records = [must_occur::READS, must_occur::CLOCKS, must_occur::RETURNS];
+    let of_all = [must_occur::EDITIONS, must_occur::LATE_BREAKS];
+    let lists = [&of_models[..], &of_records, &of_all].concat();
     assert_all_occur(&lists, 5_000, |seed, tally| {
         let bytes = record(seed).bytes;
         models::count(&bytes, &answers(&bytes), tally);
@@ -127,7 +128,7 @@ fn records_of_chains_pass() {
 
 #[test]
 fn every_answer_of_calls_and_rehearsals() {
-    let lists = [must_occur::REHEARSAL, must_occur::STORE_OPENINGS, must_occur::CALLS];
+    let lists = [must_occur::REHEARSAL, must_occur::STORE_OPENINGS, must_occur::STORE_EVENTS, must_occur::CALLS];
     assert_all_occur(&lists, 5_000, |seed, tally| {
         let given = scripts::rehearsal(seed);
         let (mut record, mut answers) = (vec![0; given.record_bytes], vec![0; given.answer_bytes]);
@@ -138,7 +139,7 @@ fn every_answer_of_calls_and_rehearsals() {
 
 #[test]
 fn every_answer_of_the_rehearsing_program() {
-    let lists = [must_occur::REHEARSE, must_occur::STORE_OPENINGS, must_occur::CALLS];
+    let lists = [must_occur::REHEARSE, must_occur::STORE_OPENINGS, must_occur::STORE_EVENTS, must_occur::CALLS];
     assert_all_occur(&lists, 5_000, |seed, tally| {
         programs::rehearse_due(&scripts::program_input(seed), tally);
     });
@@ -163,7 +164,7 @@ fn closes(sites: usize, script: &[u8]) -> Vec<Closed> {
 
 /// How a script's closes lie and what they meet.
 fn sorts_of_closes(sites: usize, closes: &[Closed]) -> [(&'static str, bool); 9] {
-    let full = |close: &&Closed| close.events == 256;
+    let full = |close: &&Closed| close.events == 384;
     [
         ("none", closes.is_empty()),
         ("one", closes.len() == 1),
@@ -243,7 +244,7 @@ fn many_puts_delivered_everywhere_at_any_sites() {
 fn days_fill_the_store() {
     for script in [scripts::full_day(1, 8), scripts::day_with_closes(1, 8)] {
         let store = run_script(8, &script, &mut vec![0; script.len()]);
-        assert_eq!((script.len(), store.events()), (32_768, 256));
+        assert_eq!((script.len(), store.events()), (32_768, 384));
     }
     assert!(closes(8, &scripts::full_day(1, 8)).is_empty());
     let closes = closes(8, &scripts::day_with_closes(1, 8));

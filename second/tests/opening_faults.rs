@@ -1,9 +1,9 @@
 //! The comparers find deliberate faults with editions and openings, and their fixed inputs leave no byte out.
 
 use second::compare::subject::{Baseline, Itself, Reader, Rehearser};
-use second::compare::tally::Tally;
+use second::compare::tally::{Case, Tally};
 use second::compare::{reader, rehearsal, Seeds};
-use second::generate::sweeps;
+use second::generate::sweeps::{self, Named};
 use second::openings::{Openings, OPENINGS_BYTES};
 use second::predicates::Answer::{Broken, Met};
 use second::predicates::Judged;
@@ -24,10 +24,12 @@ fn no_byte_of_block_0_is_left_out() {
     let answers: HashMap<String, Result<[bool; 3], u32>> =
         sweeps::block_0().into_iter().map(|(name, bytes)| (name, answer(&bytes))).collect();
     let unturned = Ok([true, false, false]);
-    for edition in ["gcr1", "gcr2-none", "gcr2-even", "gcr2-odd", "gcr2-all"] {
-        assert_eq!(answers[edition], unturned);
+    let of = |letters: &str, sorts: &[&str]| sorts.iter().map(|sort| format!("{letters}-{sort}")).collect::<Vec<_>>();
+    let (old, all) = (vec!["gcr1".to_string()], ["none", "even", "odd", "all"]);
+    for edition in [old.clone(), of("gcr2", &all), of("gcr3", &all)].concat() {
+        assert_eq!(answers[&edition], unturned);
     }
-    for edition in ["gcr1", "gcr2-even", "gcr2-odd"] {
+    for edition in [old, of("gcr2", &all[1..3]), of("gcr3", &all[1..3])].concat() {
         for at in 0..CHECKED_BYTES {
             let turned = answers[&format!("{edition}-byte-{at}")];
             match at {
@@ -44,11 +46,17 @@ fn no_byte_of_block_0_is_left_out() {
 /// Every object has a value under its clear bit in one sweep, and another opening than its read holds in the other.
 #[test]
 fn no_object_is_left_out() {
+    for letters in ["gcr2", "gcr3"] {
+        assert_eq!(found_of_objects(letters), [[4, 4]; 32], "{letters}");
+    }
+}
+
+fn found_of_objects(letters: &str) -> [[u32; 2]; 32] {
     let mut found = [[0; 2]; 32];
     for (name, bytes) in sweeps::block_0() {
         let Some((_, at)) = name.split_once("-byte-") else { continue };
         let at: usize = at.parse().expect("a number");
-        if name.starts_with("gcr2") && (16..144).contains(&at) {
+        if name.starts_with(letters) && (16..144).contains(&at) {
             let object = (at - 16) / 4;
             match ask(&bytes) {
                 Err(_) => found[object][0] += 1,
@@ -59,7 +67,7 @@ fn no_object_is_left_out() {
             }
         }
     }
-    assert_eq!(found, [[4, 4]; 32]);
+    found
 }
 
 /// Takes a byte of block 0 for zero, where these are the letters.
@@ -92,27 +100,36 @@ impl Reader for Misreading {
     }
 }
 
-fn reader_failures(subject: &dyn Reader) -> u64 {
-    let mut tally = Tally::counting();
-    reader::compare(subject, &Seeds::first(0), &mut tally);
-    tally.failed
+/// Whether one of the comparer's fixed records tells.
+fn found(fixed: &[Named<Vec<u8>>], subject: &dyn Reader) -> bool {
+    fixed.iter().any(|(name, bytes)| {
+        let mut tally = Tally::counting();
+        reader::one_record(subject, 0, &Case { name: name.clone(), input: bytes }, &mut tally);
+        tally.failed > 0
+    })
 }
 
 #[test]
 fn faults_of_a_reader() {
+    let fixed = reader::fixed();
+    let found = |subject: &dyn Reader| found(&fixed, subject);
     for at in [7, 144, 147, 148, 507] {
-        assert!(reader_failures(&Overlooking(b"GCR1", at)) > 0, "GCR1, byte {at}");
-        assert!(reader_failures(&Overlooking(b"GCR2", at)) > 0, "GCR2, byte {at}");
+        assert!(found(&Overlooking(b"GCR1", at)), "GCR1, byte {at}");
+        assert!(found(&Overlooking(b"GCR2", at)), "GCR2, byte {at}");
+        assert!(found(&Overlooking(b"GCR3", at)), "GCR3, byte {at}");
     }
     for at in [8, 9, 10, 11, 12, 15, 16, 143] {
-        assert!(reader_failures(&Overlooking(b"GCR1", at)) > 0, "GCR1, byte {at}");
+        assert!(found(&Overlooking(b"GCR1", at)), "GCR1, byte {at}");
     }
     for at in [16, 17, 18, 19, 140, 143] {
-        assert!(reader_failures(&Overlooking(b"GCR2", at)) > 0, "GCR2, byte {at}");
+        assert!(found(&Overlooking(b"GCR2", at)), "GCR2, byte {at}");
+        assert!(found(&Overlooking(b"GCR3", at)), "GCR3, byte {at}");
     }
-    assert_eq!(reader_failures(&Misreading(b"GCR2", b"GCR2")), 0);
-    for (letters, taken) in [(b"GCR2", b"GCR3"), (b"GCR1", b"GCR2"), (b"GCR3", b"GCR2"), (b"GCR0", b"GCR1")] {
-        assert!(reader_failures(&Misreading(letters, taken)) > 0, "{}", letters.escape_ascii());
+    assert!(!found(&Misreading(b"GCR2", b"GCR2")));
+    for (letters, taken) in
+        [(b"GCR2", b"GCR3"), (b"GCR1", b"GCR2"), (b"GCR3", b"GCR2"), (b"GCR4", b"GCR3"), (b"GCR0", b"GCR1")]
+    {
+        assert!(found(&Misreading(letters, taken)), "{}", letters.escape_ascii());
     }
 }
 

@@ -5,6 +5,7 @@ mod calls;
 use calls::{deliver, get, put, run_opened, script};
 use second::generate::random::Random;
 use second::generate::shapes;
+use second::limits::MOST_BYTES;
 use second::lines;
 use second::models::judge_model;
 use second::openings::{value_at, Openings, OBJECTS, OPENINGS_BYTES};
@@ -46,7 +47,8 @@ fn bytes_of_an_edition() {
     assert_eq!(bytes[16..20], [40, 0, 0, 0]);
     assert_eq!(bytes[140..144], [255; 4]);
     assert!(bytes[20..140].iter().chain(&bytes[144..CHECKED_BYTES]).all(|&byte| byte == 0));
-    assert_eq!(ask(&bytes).expect("passes").edition, Edition::Gcr1.opened(openings()));
+    let record = ask(&bytes).expect("passes");
+    assert_eq!((record.edition, record.openings), (Edition::GCR2, openings()));
 }
 
 #[test]
@@ -75,10 +77,10 @@ fn value_under_each_clear_bit() {
         let mut bytes = record.to_bytes();
         bytes[OPENINGS_AT.start + object / 8] |= 1 << (object % 8);
         seal(&mut bytes);
-        assert_eq!(ask(&bytes).expect("passes").edition, Edition::Gcr1.opened(all.with(object, 0)));
+        assert_eq!(ask(&bytes).expect("passes").openings, all.with(object, 0));
         bytes[OPENINGS_AT.start + value_at(object)] = 7;
         seal(&mut bytes);
-        assert_eq!(ask(&bytes).expect("passes").edition, Edition::Gcr1.opened(all));
+        assert_eq!(ask(&bytes).expect("passes").openings, all);
     }
 }
 
@@ -101,9 +103,9 @@ fn letters_tell_the_edition() {
         passes(&bytes)
     };
     let (plain, opened) = (Record::in_order(1, vec![]), Record::in_order(1, vec![]).opened(openings()));
-    assert!(lettered(b"GCR1", &plain) && lettered(b"GCR2", &plain));
-    assert!(lettered(b"GCR2", &opened) && !lettered(b"GCR1", &opened));
-    for letters in [b"GCR0", b"GCR3", b"GCR\0", b"GCR\xb2", b"gcr2", b"ACR2", b"GAR2", b"GCA2", b"2RCG"] {
+    assert!(lettered(b"GCR1", &plain) && lettered(b"GCR2", &plain) && lettered(b"GCR3", &plain));
+    assert!(lettered(b"GCR2", &opened) && lettered(b"GCR3", &opened) && !lettered(b"GCR1", &opened));
+    for letters in [b"GCR0", b"GCR4", b"GCR\0", b"GCR\xb2", b"gcr2", b"ACR2", b"GAR2", b"GCA2", b"2RCG"] {
         assert!(!lettered(letters, &plain) && !lettered(letters, &opened), "{}", letters.escape_ascii());
     }
 }
@@ -114,7 +116,7 @@ fn count_and_sites_as_before() {
     let with_count = |count: u16| {
         let mut bytes = record.to_bytes();
         bytes[4..6].copy_from_slice(&count.to_le_bytes());
-        bytes.resize(BLOCK_BYTES * blocks_for(count.min(256) as usize), 0);
+        bytes.resize(BLOCK_BYTES * Edition::GCR2.blocks_for(count.min(256) as usize), 0);
         seal(&mut bytes);
         ask(&bytes).expect_err("no events are there").number
     };
@@ -144,8 +146,8 @@ fn read_that_sees_no_write() {
 
 #[test]
 fn an_edition_without_openings_is_judged_as_before() {
-    for edition in [Edition::Gcr1, Edition::Gcr1.opened(Openings::none())] {
-        let of = |value| alone(|record| Record { edition, ..record }, 0, value);
+    for edition in Edition::ALL {
+        let of = |value| alone(|record| record.in_edition(edition), 0, value);
         assert_eq!([None, Some(0), Some(40)].map(of), [Met, Broken(0, 0), Broken(0, 0)]);
     }
 }
@@ -196,11 +198,12 @@ fn other_predicates_do_not_look_at_openings() {
     for seed in 0..300 {
         let mut random = Random::new(seed);
         let n = random.index(20);
-        let record = shapes::of_either_edition(&mut random, n);
-        let answers = |edition| Judged::new(&Record { edition, ..record.clone() }).answers();
-        let (old, none) = (answers(Edition::Gcr1), answers(Edition::Gcr1.opened(Openings::none())));
+        let record = shapes::of_any_edition(&mut random, n);
+        let answers = |record: Record| Judged::new(&record).answers();
+        let old = answers(record.clone().in_edition(Edition::GCR1));
+        let none = answers(record.clone().apart(0).opened(Openings::none()));
         assert_eq!(old, none, "seed {seed}");
-        assert_eq!(old[1..], answers(record.edition.apart(0))[1..], "seed {seed}");
+        assert_eq!(old[1..], answers(record.clone().apart(0))[1..], "seed {seed}");
     }
 }
 
@@ -220,7 +223,8 @@ fn gets_find_openings() {
     assert_eq!(answers[2], [0, 1, 2, 0, 255, 255, 255, 255]);
     assert_eq!(answers[3], [0, 0, 3, 0, 0, 0, 0, 0]);
     assert_eq!(held(&store), [Some(40), Some(0), Some(u32::MAX), None]);
-    assert_eq!(store.record().edition, Edition::Gcr1.opened(openings()));
+    let record = store.record();
+    assert_eq!((record.edition, record.openings), (Edition::GCR3, openings()));
 }
 
 #[test]
@@ -297,7 +301,7 @@ fn program(sites: u8, openings: &[u8], length: usize) -> Vec<u8> {
 
 #[test]
 fn missing_bytes_of_openings_are_zero() {
-    let empty = |openings| Record::in_order(2, vec![]).opened(openings).to_bytes();
+    let empty = |openings| Record::in_order(2, vec![]).in_edition(Edition::GCR3).opened(openings).to_bytes();
     let bytes = openings().to_bytes();
     assert_eq!(program(2, &bytes, 1), empty(Openings::none()));
     assert_eq!(program(2, &bytes, 2), empty(Openings::none().with(0, 0).with(6, 0)), "only the first bits");
@@ -311,7 +315,7 @@ fn refusals_of_the_program_in_order() {
     let wrong = [0, 0, 0, 0, 0, 1];
     assert_eq!(program(9, &wrong, 7), b"refused 20\n");
     assert_eq!(program(2, &wrong, 7), b"refused 40\n");
-    assert_eq!(program(2, &wrong, 6), Record::in_order(2, vec![]).opened(Openings::none()).to_bytes());
+    assert_eq!(program(2, &wrong, 6), Record::in_order(2, vec![]).in_edition(Edition::GCR3).to_bytes());
     let mut long = vec![2];
     long.resize(1 + OPENINGS_BYTES + 7, 0);
     assert_eq!(lines::rehearsal(&long), b"refused 21\n");
@@ -320,5 +324,5 @@ fn refusals_of_the_program_in_order() {
     long.push(0);
     assert_eq!(lines::rehearsal(&long), b"refused 40\n");
     long[1] = 2;
-    assert!(lines::rehearsal(&long).starts_with(b"GCR2"));
+    assert!(lines::rehearsal(&long).starts_with(b"GCR3"));
 }

@@ -78,12 +78,12 @@ fn gets_have_no_copies() {
 
 #[test]
 fn most_outstanding() {
-    let mut calls: Vec<Call> = (0..256).map(|k| put(k % 8, k % 32, 1)).collect();
-    assert_copies(8, &script(&calls), [256, 7, 0, 0, 1_792]);
+    let mut calls: Vec<Call> = (0..384).map(|k| put(k % 8, k % 32, 1)).collect();
+    assert_copies(8, &script(&calls), [384, 7, 0, 0, 2_688]);
     calls.extend([put(0, 0, 1), get(7, 0)]);
-    assert_copies(8, &script(&calls), [256, 7, 0, 0, 1_792]);
+    assert_copies(8, &script(&calls), [384, 7, 0, 0, 2_688]);
     calls.extend([deliver(0, 1), Close]);
-    assert_copies(8, &script(&calls), [256, 7, 1, 1_791, 0]);
+    assert_copies(8, &script(&calls), [384, 7, 1, 2_687, 0]);
 }
 
 #[test]
@@ -105,22 +105,22 @@ fn refused_rehearsals_tell_nothing() {
     let outcome = |sites, script: &[u8], record, answers| {
         rehearse(sites, &[0; OPENINGS_BYTES], script, &mut vec![7; record], &mut vec![7; answers])
     };
-    assert_eq!(outcome(2, &puts, 19_456, 16), Outcome { number: 0, length: 1_024, outstanding: 2 });
-    assert_eq!(outcome(0, &puts, 19_456, 16), Outcome::refused(20));
-    assert_eq!(outcome(9, &puts, 19_456, 16), Outcome::refused(20));
-    assert_eq!(outcome(2, &puts[1..], 19_456, 16), Outcome::refused(21));
-    assert_eq!(outcome(2, &puts, 19_455, 16), Outcome::refused(22));
-    assert_eq!(outcome(2, &puts, 19_456, 15), Outcome::refused(23));
+    assert_eq!(outcome(2, &puts, 33_280, 16), Outcome { number: 0, length: 1_024, outstanding: 2 });
+    assert_eq!(outcome(0, &puts, 33_280, 16), Outcome::refused(20));
+    assert_eq!(outcome(9, &puts, 33_280, 16), Outcome::refused(20));
+    assert_eq!(outcome(2, &puts[1..], 33_280, 16), Outcome::refused(21));
+    assert_eq!(outcome(2, &puts, 33_279, 16), Outcome::refused(22));
+    assert_eq!(outcome(2, &puts, 33_280, 15), Outcome::refused(23));
     assert_eq!(Outcome::refused(23).packed(), 23);
 }
 
 #[test]
 fn results_come_apart() {
-    for result in [0, 23, 256 * 19_456 + 16_777_216 * 1_792, u64::MAX] {
+    for result in [0, 23, 256 * 33_280 + 16_777_216 * 2_688, u64::MAX] {
         assert_eq!(Outcome::unpacked(result).packed(), result);
     }
-    let most = Outcome { number: 0, length: 19_456, outstanding: 1_792 };
-    assert_eq!(Outcome::unpacked(256 * 19_456 + 16_777_216 * 1_792), most);
+    let most = Outcome { number: 0, length: 33_280, outstanding: 2_688 };
+    assert_eq!(Outcome::unpacked(256 * 33_280 + 16_777_216 * 2_688), most);
 }
 
 #[test]

@@ -2,7 +2,7 @@
 
 use second::lines;
 use second::models::{answers, packed_all, refused};
-use second::openings::{Openings, OPENINGS_BYTES};
+use second::openings::OPENINGS_BYTES;
 use second::predicates::Answer::{self, Broken, Met};
 use second::predicates::Judged;
 use second::questions::{ask, Refusal};
@@ -93,16 +93,16 @@ fn single_order_differs_on_both_sides() {
 fn work_slice_is_settled() {
     let mut record = plain(3);
     record.events[2].visible[1] = true;
-    let mut work = vec![u64::MAX; 1_030];
+    let mut work = vec![u64::MAX; 2_310];
     assert_eq!(read(&record.to_bytes(), &mut work), 0);
-    let set: Vec<usize> = (0..1_030).filter(|&word| work[word] != 0).collect();
-    assert_eq!(set, [8, 1_024, 1_025, 1_026, 1_027, 1_028, 1_029]);
-    assert_eq!(work[8], 2);
-    let mut short = vec![5; 1_023];
+    let set: Vec<usize> = (0..2_310).filter(|&word| work[word] != 0).collect();
+    assert_eq!(set, [12, 2_304, 2_305, 2_306, 2_307, 2_308, 2_309]);
+    assert_eq!(work[12], 2);
+    let mut short = vec![5; 2_303];
     assert_eq!(read(&[], &mut short), refused(Refusal { number: 1, place: 0 }));
     assert!(short.iter().all(|&word| word == 5));
     assert_eq!(read(&[], &mut work), refused(Refusal { number: 3, place: 0 }));
-    assert!(work[..1_024].iter().all(|&word| word == 0) && work[1_024..].iter().all(|&word| word == u64::MAX));
+    assert!(work[..2_304].iter().all(|&word| word == 0) && work[2_304..].iter().all(|&word| word == u64::MAX));
 }
 
 #[test]
@@ -188,7 +188,7 @@ fn calls_not_well_formed() {
 #[test]
 fn object_is_asked_before_room() {
     let mut store = Store::new(1);
-    for _ in 0..256 {
+    for _ in 0..384 {
         store.call(&[2, 0, 0, 0, 0, 0, 0, 0]);
     }
     assert_eq!(store.call(&[1, 0, 32, 0, 0, 0, 0, 0])[0], 33);
@@ -207,9 +207,9 @@ fn rehearsal_refusals_in_order() {
     assert_eq!(number(9, 1, 0, 0), 20);
     assert_eq!(number(1, 1, 0, 0), 21);
     assert_eq!(number(8, 32_776, 0, 0), 21);
-    assert_eq!(number(8, 32_768, 19_455, 0), 22);
-    assert_eq!(number(8, 32_768, 19_456, 32_767), 23);
-    assert_eq!(number(8, 32_768, 19_456, 32_768), 0);
+    assert_eq!(number(8, 32_768, 33_279, 0), 22);
+    assert_eq!(number(8, 32_768, 33_280, 32_767), 23);
+    assert_eq!(number(8, 32_768, 33_280, 32_768), 0);
 }
 
 #[test]
@@ -231,9 +231,9 @@ fn programs_on_short_and_long_input() {
     assert_eq!(lines::verdict(&[]), "refused 3 0\n");
     assert_eq!(lines::rehearsal(&[]), b"refused 20\n");
     assert_eq!(lines::rehearsal(&[9]), b"refused 20\n");
-    assert_eq!(lines::rehearsal(&[8]), Record::in_order(8, vec![]).opened(Openings::none()).to_bytes());
+    assert_eq!(lines::rehearsal(&[8]), Record::in_order(8, vec![]).in_edition(Edition::GCR3).to_bytes());
     assert_eq!(lines::rehearsal(&[1; 1 + OPENINGS_BYTES + 32_776]), b"refused 21\n");
     let mut long = plain(256).to_bytes();
-    long.resize(19_456 + 512, 0);
+    long.resize(33_280 + 512, 0);
     assert_eq!(lines::verdict(&long), "refused 3 0\n");
 }

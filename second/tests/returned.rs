@@ -168,8 +168,11 @@ fn state_and_return_go_together() {
 #[test]
 fn pending_events_have_no_return() {
     let pending = Event::write(0, 0, 1).at(3, 9).pending_from(4);
-    assert_eq!((pending.end, u64_at(&pending.to_slot(), 24), pending.to_slot()[3]), (None, 0, 1));
-    assert_eq!(Event::from_slot(&pending.to_slot()), pending);
+    assert_eq!(
+        (pending.end, u64_at(&pending.to_slot(Edition::GCR1), 24), pending.to_slot(Edition::GCR1)[3]),
+        (None, 0, 1)
+    );
+    assert_eq!(Event::from_slot(&pending.to_slot(Edition::GCR1)), pending);
     let at_0 = Event::write(0, 0, 1).at(0, 0);
-    assert_eq!(Event::from_slot(&at_0.to_slot()).end, Some(0));
+    assert_eq!(Event::from_slot(&at_0.to_slot(Edition::GCR3)).end, Some(0));
 }

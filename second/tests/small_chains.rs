@@ -1,9 +1,10 @@
 //! Shortest chains against all chains there are, each written out, for up to five events.
 
 use second::compare::subject::{Baseline, Explainer};
-use second::explain::{explain, shortest_chain, ENTRIES};
+use second::explain::{explain, shortest_chain};
 use second::generate::random::Random;
 use second::generate::shapes;
+use second::limits::ENTRIES;
 use second::models::REFUSED;
 use second::questions::ask;
 use second::record::{Event, Record};
@@ -74,7 +75,7 @@ fn of_records_of_up_to_five_events() {
     for seed in 0..1_000 {
         let mut random = Random::new(seed);
         let n = 2 + random.index(4);
-        let bytes = shapes::of_either_edition(&mut random, n).to_bytes();
+        let bytes = shapes::of_any_edition(&mut random, n).to_bytes();
         let record = ask(&bytes).expect("passes");
         for (at, predicate) in [10, 11].into_iter().enumerate() {
             let due = first_broken(&record, predicate);

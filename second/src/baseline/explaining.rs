@@ -64,7 +64,7 @@ impl Columns {
 /// Events by how many steps they are before b, and in a layer by their numbers. They end where a comes next.
 struct Layers {
     /// One more than there are events: b comes twice where it is on a ring.
-    events: [u8; ROWS + 1],
+    events: [u16; ROWS + 1],
     starts: [u16; ROWS + 1],
     count: usize,
 }
@@ -89,11 +89,11 @@ impl Layers {
 
     /// Gives the next place.
     fn put(&mut self, at: usize, event: usize) -> usize {
-        self.events[at] = event as u8;
+        self.events[at] = event as u16;
         at + 1
     }
 
-    fn get(&self, layer: usize) -> &[u8] {
+    fn get(&self, layer: usize) -> &[u16] {
         &self.events[self.starts[layer].into()..self.starts[layer + 1].into()]
     }
 }

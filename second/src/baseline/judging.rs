@@ -1,7 +1,7 @@
 //! The thirteen predicates over columns, and the models.
 
 use super::columns::Columns;
-use super::reading::fill;
+use super::reading::{claimed, fill};
 use super::refused;
 use super::rows::*;
 use crate::models::MODELS;
@@ -10,6 +10,7 @@ pub type Break = Option<(usize, usize)>;
 
 /// Reads a record and fills its columns.
 pub fn prepare(record: &[u8], columns: &mut Columns) -> Result<(), (u32, usize)> {
+    columns.vis.resize(claimed(record), EMPTY);
     let n = fill(record, &mut columns.vis)?;
     columns.fill(record, n);
     Ok(())
@@ -65,36 +66,54 @@ impl Columns {
     }
 
     pub fn broken(&self, predicate: u32) -> Break {
-        let writes = &self.writes;
-        let reads = &minus(&below(self.n), writes);
+        let (all, writes) = (&below(self.n), &self.writes);
+        let reads = &minus(all, writes);
         match predicate {
             1 => self.wrong_read(),
             2 => self.out_of_order(|_, row| row),
-            3 => self.outside(|b| self.rb[b], &self.ar),
-            4 => self.outside(|b| both(&self.rb[b], writes), &self.ar),
-            5 => self.outside(|b| only(reads, b, self.seen_before[b]), &self.vis),
-            6 => self.outside(|b| only(reads, b, both(&self.so[b], writes)), &self.vis),
-            7 => self.outside(|b| only(writes, b, both(&self.so[b], writes)), &self.ar),
-            8 => self.outside(|b| only(writes, b, both(&self.seen_before[b], writes)), &self.ar),
-            9 => self.outside(|b| self.so[b], &self.vis),
-            10 => self.outside(|b| self.hb[b], &self.vis),
-            11 => self.outside(|b| self.hb[b], &self.ar),
-            12 => self.outside(|b| self.cut(b, self.so[b]), &self.vis),
+            3 => self.outside(&self.rb, &self.ar, all, all),
+            4 => self.outside(&self.rb, &self.ar, writes, all),
+            5 => self.outside(&self.seen_before, &self.vis, all, reads),
+            6 => self.outside(&self.so, &self.vis, writes, reads),
+            7 => self.outside(&self.so, &self.ar, writes, writes),
+            8 => self.outside(&self.seen_before, &self.ar, writes, writes),
+            9 => self.outside(&self.so, &self.vis, all, all),
+            10 => self.outside(&self.hb, &self.vis, all, all),
+            11 => self.outside(&self.hb, &self.ar, all, all),
+            12 => self.outside_within(&self.so, &self.vis, |b| &self.on_object[self.object[b] as usize], all),
             _ => self.out_of_order(|b, row| self.cut(b, row)),
         }
     }
 
     /// The events of a row that share b's object.
+    #[inline]
     fn cut(&self, b: usize, row: Row) -> Row {
         both(&row, &self.on_object[self.object[b] as usize])
     }
 
+    /// Pairs of one of the first events and one of the second, in the left columns and not in the right.
+    fn outside(&self, left: &[Row], right: &[Row], firsts: &Row, seconds: &Row) -> Break {
+        self.outside_within(left, right, |_| firsts, seconds)
+    }
+
     /// First all misses together, which is enough where there are none.
-    fn outside(&self, left: impl Fn(usize) -> Row, right: &[Row; ROWS]) -> Break {
-        let miss = |b: usize| minus(&left(b), &right[b]);
-        let missed = (0..self.n).fold(EMPTY, |all, b| union(&all, &miss(b)));
+    #[inline]
+    fn outside_within<'a>(
+        &self,
+        left: &[Row],
+        right: &[Row],
+        firsts: impl Fn(usize) -> &'a Row,
+        seconds: &Row,
+    ) -> Break {
+        let mut missed = EMPTY;
+        for (b, (left, right)) in left[..self.n].iter().zip(right).enumerate() {
+            if has(seconds, b) {
+                missed = union(&missed, &both(&minus(left, right), firsts(b)));
+            }
+        }
         let a = lowest(&missed)?;
-        (0..self.n).find(|&b| has(&miss(b), a)).map(|b| (a, b))
+        let misses = |b: usize| has(&left[b], a) && has(firsts(b), a) && !has(&right[b], a);
+        (0..self.n).find(|&b| has(seconds, b) && misses(b)).map(|b| (a, b))
     }
 
     fn out_of_order(&self, cut: impl Fn(usize, Row) -> Row) -> Break {
@@ -128,7 +147,7 @@ impl Columns {
 
     /// Each object's last write in ar, and for each event the write on its
     /// object just before it in ar.
-    fn chains(&self) -> ([Option<u8>; 256], [Option<u8>; ROWS]) {
+    fn chains(&self) -> ([Option<u16>; 256], [Option<u16>; ROWS]) {
         let (mut last, mut before) = ([None; 256], [None; ROWS]);
         for &event in &self.at[..self.n] {
             let object = self.object[event as usize] as usize;
@@ -138,13 +157,5 @@ impl Columns {
             }
         }
         (last, before)
-    }
-}
-
-fn only(set: &Row, event: usize, row: Row) -> Row {
-    if has(set, event) {
-        row
-    } else {
-        EMPTY
     }
 }

@@ -1,7 +1,7 @@
 //! The store with rows and fixed arrays, its record written at the end.
 
 use super::openings::{self, Openings};
-use super::reading::{check, slot_at};
+use super::reading::{check, slot_at, slots_of_block, WIDE};
 use super::rows::*;
 
 #[derive(Clone, Copy)]
@@ -34,6 +34,13 @@ const NO_EVENT: Event = Event { visible: EMPTY, needs: [0; 8], value: 0, order: 
 /// The eight bytes of a close: its kind, and zeros.
 const CLOSE: u64 = 4;
 
+/// What the last edition needs for a full store.
+const MOST_BYTES: usize = length(ROWS);
+
+const fn length(events: usize) -> usize {
+    512 * (1 + events.div_ceil(slots_of_block(WIDE)))
+}
+
 struct Store {
     count: usize,
     sites: [Site; 8],
@@ -49,7 +56,7 @@ pub fn rehearse(sites: u32, openings: &[u8], script: &[u8], record: &mut [u8], a
     if !script.len().is_multiple_of(8) || script.len() > 32_768 {
         return 21;
     }
-    if record.len() < 19_456 {
+    if record.len() < MOST_BYTES {
         return 22;
     }
     if answers.len() < script.len() {
@@ -188,10 +195,10 @@ impl Store {
         sites.map(|site| count(&minus(&self.puts, &site.known))).sum()
     }
 
-    /// Positions by bucket: stamps stay at 256 or below, so orders below 2,056.
+    /// Positions by bucket: stamps stay at 384 or below, so orders below 3,080.
     fn positions(&self) -> [u16; ROWS] {
         let (mut positions, mut next) = ([0; ROWS], 0);
-        let mut at = [u16::MAX; 2_064];
+        let mut at = [u16::MAX; 8 * (ROWS + 1)];
         for (number, event) in self.events[..self.n].iter().enumerate() {
             at[event.order as usize] = number as u16;
         }
@@ -203,16 +210,16 @@ impl Store {
     }
 
     fn write(&self, openings: &[u8; openings::BYTES], record: &mut [u8]) -> usize {
-        let length = 512 * (1 + self.n.div_ceil(7));
+        let length = length(self.n);
         let record = &mut record[..length];
         record.fill(0);
-        record[..4].copy_from_slice(b"GCR2");
+        record[..4].copy_from_slice(b"GCR3");
         record[4..6].copy_from_slice(&(self.n as u16).to_le_bytes());
         record[6] = self.count as u8;
         record[12..12 + openings::BYTES].copy_from_slice(openings);
         let positions = self.positions();
         for number in 0..self.n {
-            let slot = record[slot_at(number)..].first_chunk_mut().expect("block there");
+            let slot = record[slot_at::<WIDE>(number)..].first_chunk_mut().expect("block there");
             self.write_slot(number, positions[number], slot);
         }
         let (blocks, _) = record.as_chunks_mut::<512>();
@@ -223,7 +230,7 @@ impl Store {
         length
     }
 
-    fn write_slot(&self, number: usize, position: u16, slot: &mut [u8; 64]) {
+    fn write_slot(&self, number: usize, position: u16, slot: &mut [u8; WIDE]) {
         let event = &self.events[number];
         slot[0] = has(&self.puts, number) as u8;
         slot[1] = (event.order % 8) as u8;
@@ -234,7 +241,7 @@ impl Store {
         }
         slot[10..12].copy_from_slice(&position.to_le_bytes());
         let start = 2 * number as u64;
-        let words = [start, start + 1, event.visible[0], event.visible[1], event.visible[2], event.visible[3]];
+        let words = [start, start + 1].into_iter().chain(event.visible);
         let (ends, _) = slot[16..].as_chunks_mut::<8>();
         for (bytes, word) in ends.iter_mut().zip(words) {
             *bytes = word.to_le_bytes();

@@ -1,9 +1,11 @@
-//! Sets of events as rows of four words.
+//! Sets of events as rows of six words, whatever the edition: a width that is known lets every loop unroll.
 
-pub type Row = [u64; 4];
+pub const WORDS: usize = 6;
+pub const ROWS: usize = 64 * WORDS;
 
-pub const EMPTY: Row = [0; 4];
-pub const ROWS: usize = 256;
+pub type Row = [u64; WORDS];
+
+pub const EMPTY: Row = [0; WORDS];
 
 #[inline]
 pub fn has(row: &Row, event: usize) -> bool {
@@ -22,7 +24,7 @@ pub fn remove(row: &mut Row, event: usize) {
 
 #[inline]
 fn each_word(a: &Row, b: &Row, word: impl Fn(u64, u64) -> u64) -> Row {
-    [word(a[0], b[0]), word(a[1], b[1]), word(a[2], b[2]), word(a[3], b[3])]
+    std::array::from_fn(|at| word(a[at], b[at]))
 }
 
 #[inline]
@@ -47,7 +49,7 @@ pub fn differ(a: &Row, b: &Row) -> Row {
 
 #[inline]
 pub fn is_empty(row: &Row) -> bool {
-    row[0] | row[1] | row[2] | row[3] == 0
+    row.iter().fold(0, |all, word| all | word) == 0
 }
 
 #[inline]

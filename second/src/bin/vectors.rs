@@ -1,5 +1,6 @@
 //! Writes sample records and a script into a folder, or lists their answers.
 
+use second::generate::harvest_day;
 use second::lines;
 use second::samples::{samples, Sample};
 use std::fs;
@@ -33,7 +34,7 @@ fn write(folder: &Path) -> io::Result<()> {
     for Sample { name, bytes } in samples() {
         fs::write(folder.join(name), bytes)?;
     }
-    Ok(())
+    fs::write(folder.join("harvest-day.script.txt"), harvest_day::text())
 }
 
 fn list() {
@@ -50,7 +51,7 @@ fn list() {
 
 fn script_answer(input: &[u8]) -> String {
     let output = lines::rehearsal(input);
-    match output.starts_with(b"GCR2") {
+    match output.starts_with(b"GCR3") {
         true => {
             format!("a record of {} bytes; {}", output.len(), lines::verdict(&output).trim_end().replace('\n', "; "))
         }

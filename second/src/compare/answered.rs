@@ -2,11 +2,12 @@
 
 use super::copies::{calls_answered, Copies};
 use super::tally::Tally;
-use super::{clocks, covers, opened, returned, states};
+use super::{clocks, covers, harvest, opened, returned, states};
+use crate::limits::{MOST_EVENTS, MOST_SITES};
 use crate::models::{first_broken, Answers, MODELS};
 use crate::predicates::{Answer, PREDICATES};
 use crate::questions::Refusal;
-use crate::record::{u32_at, Record, MOST_EVENTS, MOST_SITES};
+use crate::record::{u32_at, Record};
 
 pub const PASSED: &str = "passed";
 pub const NO_WORK: &str = "work slice too short";
@@ -37,7 +38,7 @@ pub const ONE_SITE: &str = "puts at one site";
 pub const NONE_BY_DELIVERIES: &str = "none outstanding, by deliveries";
 pub const NONE_BY_CLOSES: &str = "none outstanding, by closes too";
 pub const ALL_OUTSTANDING: &str = "all copies outstanding";
-pub const MOST_OUTSTANDING: &str = "all 1,792 copies outstanding";
+pub const MOST_OUTSTANDING: &str = "all 2,688 copies outstanding";
 pub const AFTER_DELIVERIES: &str = "outstanding after deliveries";
 pub const AFTER_CLOSES: &str = "outstanding after closes";
 pub const AFTER_BOTH: &str = "outstanding after both";
@@ -61,9 +62,10 @@ pub fn record(bytes: &[u8], refusal: Option<Refusal>, tally: &mut Tally) {
     edition(bytes, refusal, tally);
 }
 
-/// What block 0 of a record says, which slot goes wrong between state and return, and what refused it.
+/// What block 0 of a record says, how large it is, which slot goes wrong and how, and what refused it.
 pub fn edition(bytes: &[u8], refusal: Option<Refusal>, tally: &mut Tally) {
     opened::edition(bytes, refusal, tally);
+    harvest::read(bytes, refusal, tally);
     clocks::read(bytes, refusal, tally);
     states::read(bytes, refusal, tally);
 }
@@ -73,6 +75,7 @@ pub fn judged(bytes: &[u8], answers: &Answers, tally: &mut Tally) {
     record(bytes, answers.as_ref().err().copied(), tally);
     if let Ok(answers) = answers {
         predicates(answers, tally);
+        harvest::judged(answers, tally);
         let record = Record::from_bytes(bytes);
         opened::reads(&record, tally);
         opened::read_broken(&record, answers[0], tally);

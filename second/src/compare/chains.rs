@@ -3,10 +3,11 @@
 use super::tally::Tally;
 use super::ways::WRONG_WAYS;
 use crate::explain::{steps_to, Explanation};
+use crate::limits::ROW_WORDS;
 use crate::predicates::Judged;
 use crate::relations::{Pairs, Relations};
 
-/// From an event to another and to itself, by the number of steps: 4 for up to 63, 64 for up to 254.
+/// From an event to another and to itself, by the number of steps: 4 for up to 63, 64 for up to 254, 256 for up to 382.
 pub const CHAIN_OF_10: &str = "chain of 10, steps";
 pub const CHAIN_OF_11: &str = "chain of 11, steps";
 pub const RING_OF_10: &str = "ring of 10, steps";
@@ -21,7 +22,7 @@ pub const BY_SO_AGAIN: &str = "chain by so, vis and so again";
 /// By the numbers that it goes through.
 pub const ABOVE_ENDS: &str = "through one above both ends";
 pub const BELOW_ENDS: &str = "through one below both ends";
-pub const ALL_WORDS: &str = "through all four words of a row";
+pub const ALL_WORDS: &str = "through all six words of a row";
 
 /// Through an event that never returned, from which only vis leads on.
 pub const PENDING_BETWEEN: &str = "through a pending event";
@@ -62,7 +63,8 @@ pub fn chain(judged: &Judged, predicate: u32, explanation: &Explanation, tally: 
 fn told_steps(steps: usize) -> u32 {
     match steps {
         4..64 => 4,
-        64..255 => 64,
+        64..=254 => 64,
+        256..=382 => 256,
         _ => steps as u32,
     }
 }
@@ -87,7 +89,7 @@ fn sorts_of_numbers(a: usize, b: usize, events: &[usize]) -> Vec<&'static str> {
     let mut sorts = vec![];
     sorts.extend(events.iter().any(|&event| event > a.max(b)).then_some(ABOVE_ENDS));
     sorts.extend(events.iter().any(|&event| event < a.min(b)).then_some(BELOW_ENDS));
-    sorts.extend((0..4).all(|word| events.iter().any(|event| event / 64 == word)).then_some(ALL_WORDS));
+    sorts.extend((0..ROW_WORDS).all(|word| events.iter().any(|event| event / 64 == word)).then_some(ALL_WORDS));
     sorts
 }
 

@@ -2,6 +2,7 @@
 //! another.
 
 use super::tally::Tally;
+use crate::limits::MOST_SITES;
 use crate::models::answer_of;
 use crate::predicates::Answer;
 use crate::questions::Refusal;
@@ -11,6 +12,7 @@ use crate::relations::returned_before;
 /// A record of right length with bytes in the difference's place that are not zero, by its letters and by what refuses
 /// it.
 pub const DIFFERENCE: &str = "GCR2 with a difference";
+pub const DIFFERENCE_IN_GCR3: &str = "GCR3 with a difference";
 pub const DIFFERENCE_IN_GCR1: &str = "GCR1 with bytes of a difference";
 
 /// The difference of a record that was judged: 0, 1, the largest, and 2 for any other.
@@ -71,13 +73,14 @@ pub fn read(bytes: &[u8], refusal: Option<Refusal>, tally: &mut Tally) {
     match &bytes[..4] {
         b"GCR1" => tally.occurred(DIFFERENCE_IN_GCR1, number),
         b"GCR2" => tally.occurred(DIFFERENCE, number),
+        b"GCR3" => tally.occurred(DIFFERENCE_IN_GCR3, number),
         _ => (),
     }
 }
 
 /// A record that was judged, with the answers of all thirteen.
 pub fn judged(record: &Record, answers: &[Answer], tally: &mut Tally) {
-    let difference = record.edition.difference();
+    let difference = record.difference;
     tally.occurred(DIFFERENCES, if difference == u32::MAX { difference } else { difference.min(2) });
     if difference > 0 {
         tally.occurred(OF_SITES, told_sites(record));
@@ -137,7 +140,7 @@ fn without_difference(record: &Record) -> [Answer; 2] {
 
 /// What 3 and 4 say by this rule.
 fn real_time(record: &Record, rule: Rule) -> [Answer; 2] {
-    let (events, difference) = (&record.events, record.edition.difference());
+    let (events, difference) = (&record.events, record.difference);
     let break_of = |a: usize| {
         let against = |b: &usize| events[*b].position <= events[a].position;
         let mut others = (0..events.len()).filter(against);

@@ -5,9 +5,10 @@ use super::held::{held, Told};
 use super::subject::Explainer;
 use super::tally::{Case, Tally};
 use super::{chains, middles, must_occur, Seeds};
-use crate::explain::{told, Explanation, Explanations, ENTRIES};
+use crate::explain::{told, Explanation, Explanations};
 use crate::generate::random::Random;
 use crate::generate::{self, sweeps, Sample};
+use crate::limits::ENTRIES;
 use crate::predicates::{Judged, PREDICATES};
 use crate::questions::{ask, Refusal};
 use crate::record::Record;
@@ -17,8 +18,8 @@ use crate::samples;
 const NUMBERS: [u32; 17] = [0, 1, 2, 3, 4, 5, 6, 7, 8, 9, 10, 11, 12, 13, 14, 256, u32::MAX];
 
 /// Slices that are too short, and others. What is lent is the front of one that is longer than all of them.
-const LENGTHS: [usize; 6] = [0, 1, 255, 256, 257, 300];
-const BEYOND: usize = 310;
+const LENGTHS: [usize; 7] = [0, 1, 256, 383, 384, 385, 400];
+const BEYOND: usize = 410;
 
 /// What a slice that is too short would have been answered otherwise: 0 is an explanation.
 pub const TOO_SHORT: &str = "slice too short, else";
@@ -129,4 +130,4 @@ fn count(judged: &Judged, explanations: &[Option<Explanation>], tally: &mut Tall
     }
 }
 
-const _: () = assert!(LENGTHS[2] + 1 == ENTRIES && LENGTHS[5] < BEYOND);
+const _: () = assert!(LENGTHS[3] + 1 == ENTRIES && LENGTHS[6] < BEYOND);

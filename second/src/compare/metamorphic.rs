@@ -5,7 +5,7 @@ use super::models::LENT_WORD;
 use super::subject::Judge;
 use super::tally::{Case, Tally};
 use crate::models::MET;
-use crate::record::{seal, u32_at, DIFFERENCE_AT};
+use crate::record::{seal, u32_at, Edition, DIFFERENCE_AT};
 
 /// A difference, and what the subject said of all thirteen.
 type Judgment = (u32, [u64; 13]);
@@ -31,10 +31,10 @@ fn judged(subject: &dyn Judge, bytes: &[u8]) -> [u64; 13] {
     words
 }
 
-/// Of `GCR2`: `GCR1` has the same answers where the difference is 0.
+/// Of `GCR2` where it was of `GCR1`, which has the same answers where the difference is 0.
 fn with_difference(bytes: &[u8], difference: u32) -> Vec<u8> {
     let mut other = bytes.to_vec();
-    other[..4].copy_from_slice(b"GCR2");
+    other[..4].copy_from_slice(Edition::of_or_older(bytes).to_be_headed().letters);
     other[DIFFERENCE_AT].copy_from_slice(&difference.to_le_bytes());
     seal(&mut other);
     other

@@ -6,6 +6,7 @@ pub mod clocks;
 pub mod copies;
 pub mod covers;
 pub mod explain;
+pub mod harvest;
 pub mod held;
 #[cfg(feature = "linked")]
 pub mod linked;

@@ -22,6 +22,7 @@ pub const LENT_WORD: u64 = u64::MAX;
 pub fn compare(subject: &dyn Judge, seeds: &Seeds, tally: &mut Tally) {
     tally.occurrences.must(must_occur::MODELS);
     tally.occurrences.must(must_occur::EDITIONS);
+    tally.occurrences.must(must_occur::LATE_BREAKS);
     tally.occurrences.must(must_occur::READS);
     tally.occurrences.must(must_occur::CLOCKS);
     tally.occurrences.must(must_occur::RETURNS);
@@ -31,7 +32,7 @@ pub fn compare(subject: &dyn Judge, seeds: &Seeds, tally: &mut Tally) {
     for sample in samples::records() {
         one_record(subject, &named(sample.name, &sample.bytes), tally);
     }
-    for (name, bytes) in sweeps::block_0() {
+    for (name, bytes) in sweeps::block_0().into_iter().chain(sweeps::harvest()) {
         one_record(subject, &named(name, &bytes), tally);
     }
     for (name, bytes) in sweeps::clocks().into_iter().chain(sweeps::never_returned()) {
@@ -63,7 +64,7 @@ pub fn count(bytes: &[u8], answers: &Answers, tally: &mut Tally) {
 }
 
 /// Says whether the record passes.
-fn one_record(subject: &dyn Judge, case: &Case, tally: &mut Tally) -> bool {
+pub fn one_record(subject: &dyn Judge, case: &Case, tally: &mut Tally) -> bool {
     let given = case.input.to_vec();
     let answers = answers(&given);
     count(&given, &answers, tally);

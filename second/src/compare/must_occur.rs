@@ -5,6 +5,7 @@ use super::chains::*;
 use super::clocks::*;
 use super::covers::APART;
 use super::explain::{NO_PREDICATE_ELSE, TOO_SHORT};
+use super::harvest::*;
 use super::middles::*;
 use super::occurrences::Row;
 use super::opened::*;
@@ -25,10 +26,10 @@ const PASSED_ON: &[u32] = &[5, 8];
 const QUESTIONS: &[u32] = &[3, 4, 5, 6, 7, 8, 9, 10];
 const PLACED: &[u32] = &[4, 7, 8, 9, 10];
 
-/// The parts of block 0 that 5 asks about, by their first bytes. Byte 3 has the edition. In `GCR2` any difference stands
-/// from byte 8 on.
+/// The parts of block 0 that 5 asks about, by their first bytes. Byte 3 has the edition. Any difference stands from
+/// byte 8 on, other than in `GCR1`.
 const PARTS_OF_GCR1: &[u32] = &[0, 1, 2, 4, 6, 7, 8, 12, 144, 148];
-const PARTS_OF_GCR2: &[u32] = &[0, 1, 2, 4, 6, 7, 12, 144, 148];
+const PARTS_OF_HEADED: &[u32] = &[0, 1, 2, 4, 6, 7, 12, 144, 148];
 
 /// Objects as they are told: any below 31, the last with an opening, the first without one, and the last.
 const OPENABLE: &[u32] = &[0, 31];
@@ -38,21 +39,35 @@ const ANY_OBJECT: &[u32] = &[0, 31, 32, 255];
 pub const EDITIONS: &[Row] = &[
     (GCR1, &[0, 3, 4, 5, 6, 7, 8, 9, 10]),
     (GCR2, &[0, 3, 4, 5, 6, 7, 8, 9, 10]),
+    (GCR3, &[0, 3, 4, 5, 6, 7, 8, 9, 10]),
     (NO_EDITION, &[3, 4, 5]),
     (WRONG_IN_GCR1, PARTS_OF_GCR1),
-    (WRONG_IN_GCR2, PARTS_OF_GCR2),
-    (WRONG_IN_NEITHER, &[3]),
+    (WRONG_IN_GCR2, PARTS_OF_HEADED),
+    (WRONG_IN_GCR3, PARTS_OF_HEADED),
+    (WRONG_IN_NONE, &[3]),
     (NO_OPENINGS, &[0]),
     (SOME_OPENINGS, &[0]),
     (ALL_OPENINGS, &[0]),
     (DIFFERENCE, &[0, 4, 5, 6, 7, 8, 9, 10]),
+    (DIFFERENCE_IN_GCR3, &[0, 4, 5, 6, 7, 8, 9, 10]),
     (DIFFERENCE_IN_GCR1, &[4, 5]),
+    (EVENTS_OF_OLDER, &[0, 1, 256]),
+    (EVENTS_OF_GCR3, &[0, 1, 256, 257, 383, 384]),
+    (TOO_MANY, &[257, 258, 385]),
+    (ROW_WORD, &[0, 1, 2, 3, 4, 5]),
+    (TAIL_OF_OLDER, &[1, 448, 507]),
+    (TAIL_OF_GCR3, &[1, 480, 507]),
+    (REFUSED_LATE, &[7, 8, 9, 10]),
+    (OLDER_AND_LONG, &[3, 4, 5, 6]),
     (PENDING_WITH_RETURN, &[1, 2, u32::MAX]),
     (RETURNED_AT_0, &[7]),
     (NO_STATE, &[7]),
 ];
 
-/// Of every record that is judged: what RVal meets.
+/// Of every record that is judged: pairs that no older edition could name.
+pub const LATE_BREAKS: &[Row] = &[(BROKEN_LATE, THIRTEEN)];
+
+/// And what RVal meets.
 pub const READS: &[Row] = &[
     (HOLDS_OPENING, OPENABLE),
     (HOLDS_OPENING_0, OPENABLE),
@@ -155,10 +170,10 @@ pub const EXPLAIN: &[Row] = &[
 /// A chain of 10 has one step where this is by so. No event leads to itself in one. One that is below both ends of a chain
 /// of 11 would be in a lower pair: with an end, or with itself.
 pub const CHAINS: &[Row] = &[
-    (CHAIN_OF_10, &[1, 2, 3, 4, 64, 255]),
-    (CHAIN_OF_11, &[1, 2, 3, 4, 64, 255]),
-    (RING_OF_10, &[2, 3, 4, 64, 255, 256]),
-    (RING_OF_11, &[2, 3, 4, 64, 255, 256]),
+    (CHAIN_OF_10, &[1, 2, 3, 4, 64, 255, 256, 383]),
+    (CHAIN_OF_11, &[1, 2, 3, 4, 64, 255, 256, 383]),
+    (RING_OF_10, &[2, 3, 4, 64, 255, 256, 383, 384]),
+    (RING_OF_11, &[2, 3, 4, 64, 255, 256, 383, 384]),
     (BY_SO, CAUSAL),
     (BY_VIS, CAUSAL),
     (BY_BOTH, CAUSAL),
@@ -198,6 +213,7 @@ pub const REHEARSE: &[Row] =
 /// The call also tells the copies outstanding, which the program does not.
 pub const REHEARSAL: &[Row] = &[
     (REHEARSED, &[0, 20, 21, 22, 23, 40]),
+    (SHORT_BUFFER, &[0, 19_456, 33_279]),
     (WRONG_LENGTH, &[20, 21, 22, 23, 40]),
     (UNDER_CLEAR_BIT, &[20, 21, 22, 23, 40]),
     (NO_EVENT, &[0]),
@@ -222,6 +238,9 @@ pub const STORE_OPENINGS: &[Row] = &[
     (HOLDS_NONE, OPENABLE),
     (WRITE_OVER_OPENING, OPENABLE),
 ];
+
+/// How many events it left.
+pub const STORE_EVENTS: &[Row] = &[(EVENTS_OF_STORE, &[0, 1, 256, 384])];
 
 /// What the calls of its scripts are answered.
 pub const CALLS: &[Row] = &[

@@ -1,6 +1,7 @@
 //! Counts what Change 3 brought: the editions, what is wrong in block 0, the openings, and what reads hold of them.
 
 use super::tally::Tally;
+use crate::limits::MOST_SITES;
 use crate::openings::{Openings, OBJECTS, OPENINGS_BYTES};
 use crate::predicates::Answer;
 use crate::questions::Refusal;
@@ -9,12 +10,14 @@ use crate::record::*;
 /// By the letters, whatever else the record has.
 pub const GCR1: &str = "record GCR1";
 pub const GCR2: &str = "record GCR2";
+pub const GCR3: &str = "record GCR3";
 pub const NO_EDITION: &str = "record of no edition";
 
 /// Refused by 5 for one part of block 0 alone, which is told by its first byte.
 pub const WRONG_IN_GCR1: &str = "GCR1, block 0 wrong from byte";
 pub const WRONG_IN_GCR2: &str = "GCR2, block 0 wrong from byte";
-pub const WRONG_IN_NEITHER: &str = "GCR and no edition, wrong from byte";
+pub const WRONG_IN_GCR3: &str = "GCR3, block 0 wrong from byte";
+pub const WRONG_IN_NONE: &str = "GCR and no edition, wrong from byte";
 
 /// Openings of a record that passed, or of a rehearsal that ran.
 pub const NO_OPENINGS: &str = "no openings";
@@ -50,26 +53,31 @@ pub fn edition(bytes: &[u8], refusal: Option<Refusal>, tally: &mut Tally) {
     let sort = match bytes.get(..4) {
         Some(b"GCR1") => GCR1,
         Some(b"GCR2") => GCR2,
+        Some(b"GCR3") => GCR3,
         _ => NO_EDITION,
     };
     tally.occurred(sort, refusal.map_or(0, |refusal| refusal.number));
     match refusal {
-        None if sort == GCR2 => openings_held(&bytes[OPENINGS_AT], tally),
+        None if sort != GCR1 => openings_held(&bytes[OPENINGS_AT], tally),
         Some(Refusal { number: 5, .. }) => wrong_part(bytes, tally),
         _ => (),
     }
 }
 
+/// The parts of block 0 that are wrong, by their first bytes.
+pub fn wrong_parts(bytes: &[u8]) -> Vec<usize> {
+    BLOCK_0_PARTS.into_iter().filter(|&part| !is_right(bytes, part)).map(|part| part.0).collect()
+}
+
 /// Only where it is the only one, so that whoever overlooks it passes the record.
 fn wrong_part(bytes: &[u8], tally: &mut Tally) {
-    let wrong: Vec<usize> =
-        BLOCK_0_PARTS.into_iter().filter(|&part| !is_right(bytes, part)).map(|part| part.0).collect();
     let sort = match bytes[3] {
         b'1' => WRONG_IN_GCR1,
         b'2' => WRONG_IN_GCR2,
-        _ => WRONG_IN_NEITHER,
+        b'3' => WRONG_IN_GCR3,
+        _ => WRONG_IN_NONE,
     };
-    if let [only] = wrong[..] {
+    if let [only] = wrong_parts(bytes)[..] {
         tally.occurred(sort, only as u32);
     }
 }
@@ -77,8 +85,8 @@ fn wrong_part(bytes: &[u8], tally: &mut Tally) {
 fn is_right(bytes: &[u8], (from, to): (usize, usize)) -> bool {
     match from {
         0..=2 => bytes[from] == b"GCR"[from],
-        3 => matches!(bytes[3], b'1' | b'2'),
-        4 => event_count(bytes) <= MOST_EVENTS,
+        3 => matches!(bytes[3], b'1' | b'2' | b'3'),
+        4 => event_count(bytes) <= if bytes[3] == b'3' { Edition::GCR3 } else { Edition::GCR2 }.most_events,
         6 => (1..=MOST_SITES).contains(&(bytes[6] as usize)),
         8 if bytes[3] != b'1' => true,
         12 if bytes[3] != b'1' => Openings::from_bytes(&bytes[from..to]).is_some(),
@@ -114,7 +122,7 @@ pub fn cut_short(number: u32, tally: &mut Tally) {
 /// Predicate 1 of a record.
 pub fn read_broken(record: &Record, answer: Answer, tally: &mut Tally) {
     let Answer::Broken(read, named) = answer else { return };
-    let opening = record.edition.openings().of(record.events[read].object as usize);
+    let opening = record.openings.of(record.events[read].object as usize);
     let sort = match opening {
         _ if read != named => BREAK_AT_WRITE,
         Some(_) => BREAK_AT_OPENING,
@@ -125,7 +133,7 @@ pub fn read_broken(record: &Record, answer: Answer, tally: &mut Tally) {
 
 /// What each returned read of a record holds beside its opening.
 pub fn reads(record: &Record, tally: &mut Tally) {
-    let openings = record.edition.openings();
+    let openings = record.openings;
     for read in record.events.iter().filter(|event| event.is_read() && !event.pending()) {
         let opening = openings.of(read.object as usize);
         let sort = match last_write(record, read) {

@@ -1,7 +1,7 @@
 //! The programs: what they write for an input on standard input.
 
 use super::tally::{Case, Tally};
-use super::{answered, must_occur, opened, Seeds};
+use super::{answered, harvest, must_occur, opened, Seeds};
 use crate::generate::{self, scripts, sweeps, Sample};
 use crate::lines::{RehearsalInput, NOT_SHOWN};
 use crate::models::answers;
@@ -21,7 +21,7 @@ const PATIENCE: Duration = Duration::from_secs(20);
 /// What a program should write for its input; the answers that stand behind it are counted.
 type Due = fn(&[u8], &mut Tally) -> Vec<u8>;
 
-const LENGTHS: [usize; 7] = [0, 1, 511, 512, 19_456, 19_968, 200_000];
+const LENGTHS: [usize; 9] = [0, 1, 511, 512, 19_456, 19_968, 33_280, 33_792, 200_000];
 
 pub fn inspect(program: &Path, seeds: &Seeds, tally: &mut Tally) {
     tally.occurrences.must(must_occur::INSPECT);
@@ -32,6 +32,7 @@ pub fn inspect(program: &Path, seeds: &Seeds, tally: &mut Tally) {
 pub fn verdict(program: &Path, seeds: &Seeds, tally: &mut Tally) {
     tally.occurrences.must(must_occur::VERDICT);
     tally.occurrences.must(must_occur::EDITIONS);
+    tally.occurrences.must(must_occur::LATE_BREAKS);
     tally.occurrences.must(must_occur::READS);
     tally.occurrences.must(must_occur::CLOCKS);
     tally.occurrences.must(must_occur::RETURNS);
@@ -41,6 +42,7 @@ pub fn verdict(program: &Path, seeds: &Seeds, tally: &mut Tally) {
 pub fn rehearse(program: &Path, seeds: &Seeds, tally: &mut Tally) {
     tally.occurrences.must(must_occur::REHEARSE);
     tally.occurrences.must(must_occur::STORE_OPENINGS);
+    tally.occurrences.must(must_occur::STORE_EVENTS);
     tally.occurrences.must(must_occur::CALLS);
     one(program, rehearse_due, "empty".to_string(), &[], tally);
     for sites in 0..=10 {
@@ -101,7 +103,9 @@ pub fn rehearse_due(input: &[u8], tally: &mut Tally) -> Vec<u8> {
     let (number, output) = lines::rehearsal_output(&read, &mut answers);
     count_rehearsal(input, &read, number, &answers, tally);
     if number == 0 {
-        opened::reads(&Record::from_bytes(&output), tally);
+        let record = Record::from_bytes(&output);
+        opened::reads(&record, tally);
+        harvest::rehearsed(&record, tally);
     }
     output
 }
@@ -122,7 +126,9 @@ fn records(program: &Path, due: Due, seeds: &Seeds, tally: &mut Tally) {
     for sample in samples::records() {
         one(program, due, sample.name, &sample.bytes, tally);
     }
-    let fixed = [sweeps::block_0_of_programs(), sweeps::clocks(), sweeps::never_returned()].concat();
+    let fixed =
+        [sweeps::block_0_of_programs(), sweeps::harvest_of_programs(), sweeps::clocks(), sweeps::never_returned()]
+            .concat();
     for (name, bytes) in fixed {
         one(program, due, name, &bytes, tally);
     }

@@ -4,25 +4,22 @@ use super::subject::Reader;
 use super::tally::{Case, Tally};
 use super::{answered, must_occur, Seeds};
 use crate::generate::random::Random;
-use crate::generate::{self, sweeps, Sample};
+use crate::generate::sweeps::{self, Named};
+use crate::generate::{self, Sample};
+use crate::limits::WORK_WORDS;
 use crate::models::refusal_in;
 use crate::questions::ask;
 use crate::record::seal;
 use crate::samples;
 
-const WORK_LENGTHS: [usize; 4] = [1_024, 1_030, 1_023, 0];
-const RECORD_LENGTHS: [usize; 12] = [0, 1, 511, 512, 513, 1_024, 19_455, 19_456, 19_457, 19_968, 20_480, 65_536];
+const WORK_LENGTHS: [usize; 4] = [WORK_WORDS, WORK_WORDS + 6, WORK_WORDS - 1, 0];
+const RECORD_LENGTHS: [usize; 14] =
+    [0, 1, 511, 512, 513, 1_024, 19_455, 19_456, 19_457, 19_968, 33_279, 33_280, 33_281, 33_792];
 
 pub fn compare(subject: &dyn Reader, seeds: &Seeds, tally: &mut Tally) {
     tally.occurrences.must(must_occur::READER);
     tally.occurrences.must(must_occur::EDITIONS);
-    lengths(subject, tally);
-    for sample in samples::records() {
-        let case = Case { name: format!("reader-{}", sample.name), input: &sample.bytes };
-        one_record(subject, 0, &case, tally);
-    }
-    let fixed = [sweeps::block_0(), sweeps::clocks(), sweeps::never_returned()].concat();
-    for (name, bytes) in fixed {
+    for (name, bytes) in fixed() {
         one_record(subject, 0, &Case { name: format!("reader-{name}"), input: &bytes }, tally);
     }
     seeds.each(tally, |seed, tally| {
@@ -33,21 +30,29 @@ pub fn compare(subject: &dyn Reader, seeds: &Seeds, tally: &mut Tally) {
     });
 }
 
-/// Zeros and noise of many lengths, sealed or not.
-fn lengths(subject: &dyn Reader, tally: &mut Tally) {
-    let mut random = Random::new(0);
-    for length in RECORD_LENGTHS {
-        for mut bytes in [vec![0; length], random.noise(length)] {
-            let plain = Case { name: format!("reader-length-{length}"), input: &bytes };
-            one_record(subject, length as u64, &plain, tally);
-            seal(&mut bytes);
-            let sealed = Case { name: format!("reader-sealed-{length}"), input: &bytes };
-            one_record(subject, length as u64, &sealed, tally);
-        }
-    }
+/// What is read before any seed's.
+pub fn fixed() -> Vec<Named<Vec<u8>>> {
+    let samples = samples::records().map(|sample| (sample.name, sample.bytes)).collect();
+    let sweeps = [sweeps::block_0(), sweeps::harvest(), sweeps::clocks(), sweeps::never_returned()].concat();
+    [lengths(), samples, sweeps].concat()
 }
 
-fn one_record(subject: &dyn Reader, seed: u64, case: &Case, tally: &mut Tally) {
+/// Zeros and noise of many lengths, sealed or not.
+fn lengths() -> Vec<Named<Vec<u8>>> {
+    let mut random = Random::new(0);
+    let mut all = Vec::new();
+    for length in RECORD_LENGTHS {
+        for (sort, bytes) in [("zeros", vec![0; length]), ("noise", random.noise(length))] {
+            let mut sealed = bytes.clone();
+            seal(&mut sealed);
+            all.push((format!("{sort}-{length}"), bytes));
+            all.push((format!("sealed-{sort}-{length}"), sealed));
+        }
+    }
+    all
+}
+
+pub fn one_record(subject: &dyn Reader, seed: u64, case: &Case, tally: &mut Tally) {
     let mut random = Random::new(seed);
     for words in WORK_LENGTHS {
         let mut expected: Vec<u64> = (0..words).map(|_| random.word()).collect();

@@ -4,7 +4,7 @@
 use super::copies::Copies;
 use super::subject::Rehearser;
 use super::tally::{Case, Tally};
-use super::{answered, must_occur, opened, Seeds};
+use super::{answered, harvest, must_occur, opened, Seeds};
 use crate::generate::random::Random;
 use crate::generate::scripts::{self, as_read, Rehearsal};
 use crate::generate::sweeps;
@@ -16,8 +16,9 @@ use crate::store::{rehearse, Outcome};
 pub fn compare(subject: &dyn Rehearser, seeds: &Seeds, tally: &mut Tally) {
     tally.occurrences.must(must_occur::REHEARSAL);
     tally.occurrences.must(must_occur::STORE_OPENINGS);
+    tally.occurrences.must(must_occur::STORE_EVENTS);
     tally.occurrences.must(must_occur::CALLS);
-    for (name, rehearsal) in sweeps::rehearsals() {
+    for (name, rehearsal) in sweeps::rehearsals().into_iter().chain(sweeps::full_stores()) {
         one(subject, 0, &rehearsal, format!("rehearsal-{name}"), tally);
     }
     seeds.each(tally, |seed, tally| {
@@ -25,7 +26,7 @@ pub fn compare(subject: &dyn Rehearser, seeds: &Seeds, tally: &mut Tally) {
     });
 }
 
-fn one(subject: &dyn Rehearser, seed: u64, given: &Rehearsal, name: String, tally: &mut Tally) {
+pub fn one(subject: &dyn Rehearser, seed: u64, given: &Rehearsal, name: String, tally: &mut Tally) {
     let case = &Case { name, input: &as_read(given) };
     let mut random = Random::new(seed);
     let mut record = random.noise(given.record_bytes);
@@ -50,8 +51,13 @@ fn one(subject: &dyn Rehearser, seed: u64, given: &Rehearsal, name: String, tall
 pub fn count_occurrences(given: &Rehearsal, due: &Outcome, record: &[u8], answers: &[u8], tally: &mut Tally) {
     answered::rehearsal(due.number, &given.script, answers, tally);
     opened::openings_given(due.number, &given.openings, tally);
+    if due.number == 22 {
+        harvest::short_buffer(given.record_bytes, tally);
+    }
     if due.number == 0 {
-        opened::reads(&Record::from_bytes(record), tally);
+        let record = Record::from_bytes(record);
+        opened::reads(&record, tally);
+        harvest::rehearsed(&record, tally);
         answered::copies(&Copies::of(given.sites, &given.script, answers, due.outstanding), tally);
     }
 }

@@ -107,7 +107,7 @@ impl Edge {
 
     /// The answers where rb is the other way round on these pairs.
     pub fn turned(&self, record: &Record) -> Vec<Answer> {
-        let difference = record.edition.difference();
+        let difference = record.difference;
         let before = |a: &Event, b: &Event| returned_before(difference, a, b) != self.has(record, a, b);
         Judged::by(record, Relations::by(record, before)).answers()
     }
@@ -118,7 +118,7 @@ fn apart(record: &Record, a: &Event, b: &Event) -> u64 {
     if one_site(a, b) {
         0
     } else {
-        record.edition.difference().into()
+        record.difference.into()
     }
 }
 
@@ -135,11 +135,11 @@ fn one_above(end: Option<u64>, start: u64) -> bool {
 }
 
 fn sums(record: &Record, a: &Event, b: &Event, fits: impl Fn(u128) -> bool) -> bool {
-    !one_site(a, b) && a.end.is_some_and(|end| fits(sum(end, record.edition.difference())))
+    !one_site(a, b) && a.end.is_some_and(|end| fits(sum(end, record.difference)))
 }
 
 fn largest(record: &Record, b: &Event) -> bool {
-    record.edition.difference() == u32::MAX && b.start == LAST
+    record.difference == u32::MAX && b.start == LAST
 }
 
 /// Larger ones take long and have no other edges.

@@ -67,7 +67,7 @@ fn events(random: &mut Random, n: usize, in_turn: bool) -> Record {
         event
     };
     let record = Record::in_order(sites as u8, (0..n).map(one).collect());
-    Record { edition: openings::edition(random, &record.events), ..record }
+    openings::of_any_edition(random, record)
 }
 
 /// Positions that go by the numbers for each object alone.
@@ -92,7 +92,7 @@ fn see(record: &mut Record, mut sees: impl FnMut(&Event, &Event) -> bool) {
 
 /// Where the model asks for what is not so, the first event returns only when the other starts.
 fn untie(record: &mut Record, asked: Asked) {
-    let difference = record.edition.difference();
+    let difference = record.difference;
     for a in 0..record.events.len() {
         for b in 0..record.events.len() {
             let (first, later) = (&record.events[a], &record.events[b]);

@@ -6,7 +6,8 @@ use super::openings;
 use super::random::Random;
 use super::shapes::{hold_right_value, make_pending};
 use super::sweeps::Named;
-use crate::record::{Event, Record, MOST_EVENTS, MOST_SITES};
+use crate::limits::{MOST_EVENTS, MOST_SITES};
+use crate::record::{Edition, Event, Record};
 use std::ops::Range;
 
 /// How many events each layer has, and how one leads to the next.
@@ -96,8 +97,7 @@ pub fn record(random: &mut Random) -> Record {
     never_return(random, &mut record);
     let record = arbitrated(random, record);
     let order = order(random, record.events.len());
-    let mut record = renumbered_by(&record, &order);
-    record.edition = openings::edition(random, &record.events);
+    let mut record = openings::of_any_edition(random, renumbered_by(&record, &order));
     (0..record.events.len()).for_each(|event| hold_right_value(&mut record, event));
     record
 }
@@ -111,21 +111,26 @@ fn plan(random: &mut Random) -> Plan {
     Plan { widths, ring, by_so, density, within }
 }
 
-/// Now and then as many as there can be, or one less.
+/// Now and then as many as there can be in an older edition or in the last one, or one less.
 fn count(random: &mut Random) -> usize {
-    match random.below(24) {
-        0..12 => 3 + random.index(8),
-        12..20 => 11 + random.index(50),
-        20 => 61 + random.index(194),
-        21 => MOST_EVENTS - 1,
+    match random.below(29) {
+        0..13 => 3 + random.index(8),
+        13..21 => 11 + random.index(50),
+        21 => 61 + random.index(194),
+        22..25 => random.pick(&[OLDER_MOST - 1, OLDER_MOST, OLDER_MOST]),
+        25 => OLDER_MOST + 1 + random.index(MOST_EVENTS - OLDER_MOST - 1),
+        26 => MOST_EVENTS - 1,
         _ => MOST_EVENTS,
     }
 }
 
+/// An older edition's.
+const OLDER_MOST: usize = Edition::GCR2.most_events;
+
 /// The first layer has one event, and so has the last where nothing leads on from it. Of the most events each mostly has
 /// one, for a chain through all of them.
 fn widths(random: &mut Random, n: usize, ring: bool) -> Vec<usize> {
-    let longest = n >= MOST_EVENTS - 1 && random.chance(70);
+    let longest = n >= OLDER_MOST - 1 && random.chance(70);
     let most = if longest { 1 } else { random.pick(&[1, 1, 2, 3, 1 + n / 3, n]) };
     let ends = if ring { vec![] } else { vec![1] };
     let mut left = n - 1 - ends.len();
@@ -200,17 +205,28 @@ fn order(random: &mut Random, n: usize) -> Vec<usize> {
 pub fn fixed() -> Vec<Named<Vec<u8>>> {
     let all = |width: usize, n: usize| vec![width; n / width];
     let ends = |inner: Vec<usize>| [vec![1], inner, vec![1]].concat();
+    let by_so = || vec![0, 40, 80, 120, 160, 200, 254];
+    let later_by_so = || vec![0, 63, 127, 191, 255, 319, 382];
     let plans = [
         ("chain-of-255", ends(all(1, 254)), false, vec![]),
-        ("chain-by-so-too", ends(all(1, 254)), false, vec![0, 40, 80, 120, 160, 200, 254]),
+        ("chain-by-so-too", ends(all(1, 254)), false, by_so()),
         ("ring-of-256", all(1, 256), true, vec![255]),
-        ("ring-by-so-too", all(1, 256), true, vec![0, 40, 80, 120, 160, 200, 254]),
+        ("ring-by-so-too", all(1, 256), true, by_so()),
         ("ring-of-2", all(1, 2), true, vec![1]),
         ("ring-of-3", all(1, 3), true, vec![0]),
         ("narrow-ladder", ends(all(2, 254)), false, vec![100]),
         ("wide-ladder", ends(all(50, 250)), false, vec![2]),
         ("ladder-of-two-steps", ends(all(254, 254)), false, vec![0]),
         ("round-ladder", all(4, 256), true, vec![63]),
+        ("chain-of-256", ends(all(1, 255)), false, vec![]),
+        ("chain-of-383", ends(all(1, 382)), false, vec![]),
+        ("longest-chain-by-so-too", ends(all(1, 382)), false, later_by_so()),
+        ("ring-of-257", all(1, 257), true, vec![256]),
+        ("ring-of-384", all(1, 384), true, vec![383]),
+        ("longest-ring-by-so-too", all(1, 384), true, later_by_so()),
+        ("longest-narrow-ladder", ends(all(2, 382)), false, vec![100]),
+        ("widest-ladder-of-two-steps", ends(all(382, 382)), false, vec![0]),
+        ("longest-round-ladder", all(4, 384), true, vec![95]),
     ];
     plans.into_iter().flat_map(|(name, widths, ring, by_so)| numbered(name, widths, ring, by_so)).collect()
 }

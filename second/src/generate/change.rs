@@ -1,18 +1,18 @@
 //! One change to a record's events, to step over a predicate's edge.
 
-use super::clocks;
 use super::random::Random;
 use super::shapes::make_pending;
+use super::{clocks, openings};
 use crate::openings::Openings;
-use crate::record::{Edition, Event, Kind, Record};
+use crate::record::{Event, Kind, Record};
 
 pub fn one_field(random: &mut Random, record: &mut Record) {
     match random.below(17) {
         0..=2 => visible_bit(random, record),
         3..=4 => swap_positions(random, record),
         5..=6 => read_value(random, record),
-        7..=8 => record.edition = changed_edition(random, record.edition),
-        9..=11 => record.edition = record.edition.apart(changed_difference(random, record)),
+        7..=8 => *record = in_another_edition(random, record),
+        9..=11 => *record = record.clone().apart(changed_difference(random, record)),
         _ => {
             let others = record.clone();
             let event = &mut record.events[random.index(others.events.len())];
@@ -33,7 +33,7 @@ fn visible_bit(random: &mut Random, record: &mut Record) {
 /// RVal stands last in every model, so its edge needs a share of its own.
 fn read_value(random: &mut Random, record: &mut Record) {
     let held = |event: &&mut Event| event.is_read() && !event.pending();
-    let openings = record.edition.openings();
+    let openings = record.openings;
     let mut reads: Vec<&mut Event> = record.events.iter_mut().filter(held).collect();
     if !reads.is_empty() {
         let at = random.index(reads.len());
@@ -43,17 +43,18 @@ fn read_value(random: &mut Random, record: &mut Record) {
     }
 }
 
-/// One opening more or less, or another figure; now and then the other edition.
-fn changed_edition(random: &mut Random, edition: Edition) -> Edition {
-    match edition {
-        Edition::Gcr2 { .. } if random.chance(20) => Edition::Gcr1,
-        _ => edition.opened(changed_opening(random, edition.openings())),
+/// One opening more or less, or another figure; now and then another edition.
+fn in_another_edition(random: &mut Random, record: &Record) -> Record {
+    let same = record.clone();
+    match random.chance(20) {
+        true => same.in_edition(openings::edition(random, record.events.len())),
+        false => same.opened(changed_opening(random, record.openings)),
     }
 }
 
 /// Mostly by one, which a record made to meet a predicate may just not bear.
 fn changed_difference(random: &mut Random, record: &Record) -> u32 {
-    let difference = record.edition.difference();
+    let difference = record.difference;
     let other = clocks::difference(random, &record.events);
     let less = difference.saturating_sub(1);
     random.pick(&[less, less, less, difference.saturating_add(1), 0, other])
@@ -124,7 +125,7 @@ fn not_after(end: Option<u64>, time: u64) -> u64 {
 /// A time on, just before or just after some event's start or return, or as far from it as clocks may differ.
 fn boundary(random: &mut Random, others: &Record) -> u64 {
     let other = &others.events[random.index(others.events.len())];
-    let difference = random.pick(&[0, others.edition.difference() as u64]);
+    let difference = random.pick(&[0, others.difference as u64]);
     let time = match (random.chance(50), other.end) {
         (false, Some(end)) => end.saturating_add(difference),
         _ => other.start.saturating_sub(difference),

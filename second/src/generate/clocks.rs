@@ -48,7 +48,7 @@ pub fn set_apart(random: &mut Random, record: &mut Record) {
     for event in &mut record.events {
         move_by(event, ahead[event.site as usize]);
     }
-    record.edition = record.edition.apart(difference);
+    (record.edition, record.difference) = (record.edition.to_be_headed(), difference);
 }
 
 /// The latest time of all becomes the largest there is, so that sums with it go past 64 bits.

@@ -14,9 +14,11 @@ enum Damage {
 
 /// Those of late questions stand here more than once, as earlier damage hides theirs, and so does length, which may
 /// leave no letters.
-const DAMAGES: [Damage; 25] = [
+const DAMAGES: [Damage; 29] = [
     Length(length),
     Length(length),
+    Length(stretched),
+    Length(stretched),
     Bytes(block_check),
     Bytes(checks_out_of_range),
     Bytes(swapped_blocks),
@@ -35,8 +37,10 @@ const DAMAGES: [Damage; 25] = [
     Bytes(position),
     Bytes(position),
     Bytes(position),
+    Bytes(position),
     Bytes(visible_set),
     Bytes(visible_set),
+    Bytes(ring),
     Bytes(ring),
     Bytes(ring),
     Bytes(ring),
@@ -49,6 +53,26 @@ pub fn once(random: &mut Random, bytes: &mut Vec<u8>) {
     }
 }
 
+/// The last event or the one before it, in what 7, 8, 9 or 10 ask about.
+pub fn last_event(random: &mut Random, bytes: &mut [u8]) {
+    let n = event_count(bytes);
+    let (event, other) = (n - 1 - random.index(2), n - 3);
+    match random.below(4) {
+        0 => slot_mut(bytes, event)[random.pick(&[9, 12, 15])] = 1,
+        1 => {
+            let equal = u16_at(slot(bytes, other), 10);
+            let position = random.pick(&[equal, n as u16]);
+            slot_mut(bytes, event)[10..12].copy_from_slice(&position.to_le_bytes());
+        }
+        2 => set_visible(bytes, event, event),
+        _ => {
+            set_visible(bytes, event, other);
+            set_visible(bytes, other, event);
+        }
+    }
+    seal(bytes);
+}
+
 /// Flips one bit before the checks, and seals.
 pub fn any_bit(random: &mut Random, bytes: &mut [u8]) {
     let at = random.index(bytes.len() / BLOCK_BYTES) * BLOCK_BYTES + random.index(CHECKED_BYTES);
@@ -57,12 +81,31 @@ pub fn any_bit(random: &mut Random, bytes: &mut [u8]) {
 }
 
 fn length(random: &mut Random, bytes: &mut Vec<u8>) {
-    let lengths = [0, 0, 1, 2, 3, 3, 511, 512, 513, 1_023, 1_024, 19_455, 19_456, 19_457, 19_968, 20_480, 40_000];
+    let short = [0, 0, 1, 2, 3, 3, 511, 512, 513, 1_023, 1_024];
+    let long = [19_455, 19_456, 19_457, 19_968, 33_279, 33_280, 33_281, 33_792, 40_000];
+    let lengths = [&short[..], &long].concat();
     let by_one = [bytes.len() + 1, bytes.len().saturating_sub(1), bytes.len() + 512];
     let length = if random.chance(50) { random.pick(&lengths) } else { random.pick(&by_one) };
     bytes.resize(length, 0);
     if random.chance(50) {
         seal(bytes);
+    }
+}
+
+/// An older edition's record with more blocks than it can have, 66 of them being too long for any. It may say that it
+/// has as many events, or one check may be wrong.
+fn stretched(random: &mut Random, bytes: &mut Vec<u8>) {
+    if bytes.len() < BLOCK_BYTES {
+        return;
+    }
+    bytes.resize(random.pick(&[39, 40, 56, 65, 65, 66]) * BLOCK_BYTES, 0);
+    bytes[3] = random.pick(b"12");
+    if random.chance(30) {
+        set_event_count(bytes, random.pick(&[257, 266, 384]));
+    }
+    seal(bytes);
+    if random.chance(30) {
+        block_check(random, bytes);
     }
 }
 
@@ -105,11 +148,13 @@ pub fn block_0(random: &mut Random, bytes: &mut [u8]) {
         return;
     }
     let (from, to) = random.pick(&BLOCK_0_PARTS);
+    let edition = Edition::of_or_older(bytes);
+    let most = edition.most_events as u16;
     match from {
-        3 => bytes[3] = random.pick(b"03456789 \xb1\xb2\x32\x31"),
-        4 => set_event_count(bytes, random.pick(&[257, 257, 258, 512, 0x8000, 0xffff])),
+        3 => bytes[3] = random.pick(b"0456789 \xb1\xb2\xb3\x31\x32\x33"),
+        4 => set_event_count(bytes, random.pick(&[most + 1, most + 1, most + 1, most + 2, 385, 512, 0xffff])),
         6 => bytes[6] = random.pick(&[0, 9, 16, 128, 255]),
-        12 if bytes[3] == b'2' => opening(random, &mut bytes[OPENINGS_AT]),
+        12 if edition.headed => opening(random, &mut bytes[OPENINGS_AT]),
         _ => {
             let any = from + random.index(to - from);
             bytes[random.pick(&[from, to - 1, any])] ^= 1 << random.below(8);
@@ -127,14 +172,14 @@ fn opening(random: &mut Random, openings: &mut [u8]) {
     }
 }
 
-/// The other edition's, those of none, or some letter by a bit; not always sealed.
+/// Those of any edition, those of none, or some letter by a bit; not always sealed.
 fn letters(random: &mut Random, bytes: &mut [u8]) {
     if bytes.len() < BLOCK_BYTES {
         return;
     }
     match random.below(3) {
-        0 => bytes[3] ^= b'1' ^ b'2',
-        1 => bytes[..4].copy_from_slice(random.pick(&[b"GCR0", b"GCR3", b"GCR4", b"gcr2", b"RCG2", b"2RCG"])),
+        0 => bytes[3] = random.pick(b"123"),
+        1 => bytes[..4].copy_from_slice(random.pick(&[b"GCR0", b"GCR4", b"gcr2", b"Gcr3", b"RCG2", b"3RCG"])),
         _ => bytes[random.index(4)] ^= 1 << random.below(8),
     }
     if random.chance(70) {
@@ -142,14 +187,14 @@ fn letters(random: &mut Random, bytes: &mut [u8]) {
     }
 }
 
-/// Right in `GCR2` and wrong in `GCR1`; not always sealed.
+/// Wrong in `GCR1` alone; not always sealed.
 fn difference(random: &mut Random, bytes: &mut [u8]) {
     if bytes.len() < BLOCK_BYTES {
         return;
     }
     let difference = random.pick(&[1, 255, 1 << 8, 1 << 16, 1 << 24, u32::MAX]);
     bytes[DIFFERENCE_AT].copy_from_slice(&difference.to_le_bytes());
-    if random.chance(50) {
+    if random.chance(40) {
         seal(bytes);
     }
 }
@@ -161,7 +206,7 @@ fn header_numbers(random: &mut Random, bytes: &mut [u8]) {
     if random.chance(50) {
         bytes[6] = random.pick(&[0, 1, 7, 8, 9, 16, 255]);
     } else {
-        let n = random.pick(&[0, 1, 255, 256, 257, 257, 257, 258, 512, 0x8000, 0xffff]);
+        let n = random.pick(&[0, 1, 255, 256, 257, 257, 257, 258, 383, 384, 385, 512, 0x8000, 0xffff]);
         set_event_count(bytes, n);
     }
     seal(bytes);
@@ -179,22 +224,22 @@ fn block_count(random: &mut Random, bytes: &mut Vec<u8>) {
         1 => bytes.truncate(whole.saturating_sub(BLOCK_BYTES)),
         _ if whole == 0 => return,
         _ => {
-            let moved = random.pick(&[-7, -1, 1, 7]) + event_count(bytes) as i32;
-            set_event_count(bytes, moved.clamp(0, 300) as u16);
+            let whole_block = Edition::of_or_older(bytes).block_slots as i32;
+            let moved = random.pick(&[-whole_block, -1, 1, whole_block]) + event_count(bytes) as i32;
+            set_event_count(bytes, moved.clamp(0, 400) as u16);
         }
     }
     seal(bytes);
 }
 
 fn any_slot(random: &mut Random, bytes: &[u8], below: usize) -> Option<usize> {
-    let slots = BLOCK_SLOTS * (bytes.len() / BLOCK_BYTES).saturating_sub(1);
-    let count = slots.min(below);
+    let count = Edition::of_or_older(bytes).slots_in(bytes.len()).min(below);
     (count > 0).then(|| random.index(count))
 }
 
 fn any_event(random: &mut Random, bytes: &[u8]) -> Option<usize> {
     let n = if bytes.len() < BLOCK_BYTES { 0 } else { event_count(bytes) };
-    any_slot(random, bytes, n)
+    any_slot(random, bytes, n.min(Edition::of_or_older(bytes).most_events))
 }
 
 /// Often event 0, as with blocks.
@@ -265,20 +310,21 @@ fn pending_with_value(random: &mut Random, slot: &mut [u8]) {
 
 fn past_the_events(random: &mut Random, bytes: &mut [u8]) {
     if let Some(slot) = any_slot(random, bytes, usize::MAX) {
-        let n = event_count(bytes);
-        let last = BLOCK_SLOTS * (bytes.len() / BLOCK_BYTES - 1);
+        let (n, edition) = (event_count(bytes), Edition::of_or_older(bytes));
+        let last = edition.slots_in(bytes.len());
         let slot = if n < last { n + random.index(last - n) } else { slot };
-        slot_mut(bytes, slot)[random.index(SLOT_BYTES)] = 1 << random.below(8);
+        slot_mut(bytes, slot)[random.index(edition.slot_bytes)] = 1 << random.below(8);
         seal(bytes);
     }
 }
 
-fn block_tail(random: &mut Random, bytes: &mut [u8]) {
+pub fn block_tail(random: &mut Random, bytes: &mut [u8]) {
     let with_slots = (bytes.len() / BLOCK_BYTES).saturating_sub(1);
     if with_slots > 0 {
         let block = 1 + random.index(with_slots);
-        let any = SLOTS_END + random.index(60);
-        let within = random.pick(&[SLOTS_END, CHECKED_BYTES - 1, any]);
+        let end = Edition::of_or_older(bytes).slots_end();
+        let any = end + random.index(CHECKED_BYTES - end);
+        let within = random.pick(&[end, CHECKED_BYTES - 1, any]);
         bytes[block * BLOCK_BYTES + within] ^= 1 << random.below(8);
         seal(bytes);
     }
@@ -288,23 +334,25 @@ fn position(random: &mut Random, bytes: &mut [u8]) {
     let (Some(event), Some(other)) = (first_or_any(random, bytes), any_event(random, bytes)) else { return };
     let n = event_count(bytes) as u16;
     let equal = u16_at(slot(bytes, other), 10);
-    let position = random.pick(&[equal, equal, equal, n, n.wrapping_add(1), 256, u16::MAX]);
+    let position = random.pick(&[equal, equal, equal, n, n.wrapping_add(1), 256, 384, u16::MAX]);
     slot_mut(bytes, event)[10..12].copy_from_slice(&position.to_le_bytes());
     seal(bytes);
 }
 
 fn set_visible(bytes: &mut [u8], a: usize, b: usize) {
-    slot_mut(bytes, b)[32 + a / 8] |= 1 << (a % 8);
+    slot_mut(bytes, b)[SET_AT + a / 8] |= 1 << (a % 8);
 }
 
 fn visible_set(random: &mut Random, bytes: &mut [u8]) {
     let Some(event) = first_or_any(random, bytes) else { return };
-    let n = event_count(bytes).min(MOST_EVENTS);
-    let seen = match random.below(3) {
-        _ if n == MOST_EVENTS => event,
+    let most = Edition::of_or_older(bytes).most_events;
+    let n = event_count(bytes).min(most);
+    let seen = match random.below(4) {
+        _ if n == most => event,
         0 => event,
         1 => n,
-        _ => n + random.index(MOST_EVENTS - n),
+        2 => most - 1,
+        _ => n + random.index(most - n),
     };
     set_visible(bytes, seen, event);
     seal(bytes);

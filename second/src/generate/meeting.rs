@@ -3,14 +3,15 @@
 use super::random::Random;
 use super::shapes::{hold_right_value, make_pending, site_count};
 use super::{clocks, openings};
-use crate::record::{Edition, Event, Record, MOST_EVENTS};
+use crate::limits::MOST_EVENTS;
+use crate::record::{Event, Record};
 use crate::relations::returned_before;
 
 /// A record that meets each predicate of the list, which is a model's or lone.
 pub fn record(random: &mut Random, n: usize, predicates: &[u32]) -> Record {
     let sites = site_count(random);
-    let mut record = Record::in_order(sites, events(random, n, sites));
-    record.edition = openings::edition(random, &record.events);
+    let record = Record::in_order(sites, events(random, n, sites));
+    let mut record = openings::of_any_edition(random, record);
     sparse_visibility(random, &mut record);
     // The single orders stand first in a model's list and take away as well as
     // add, so they come last here.
@@ -29,7 +30,7 @@ pub fn record(random: &mut Random, n: usize, predicates: &[u32]) -> Record {
 
 /// Neither moves one event of a site against another, nor puts an order between sites that was not there.
 fn move_clocks(random: &mut Random, record: &mut Record) {
-    if record.edition != Edition::Gcr1 && random.chance(70) {
+    if record.edition.headed && random.chance(70) {
         clocks::set_apart(random, record);
     }
     if random.chance(20) {

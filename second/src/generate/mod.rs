@@ -5,6 +5,8 @@ pub mod chains;
 pub mod change;
 pub mod clocks;
 pub mod damage;
+pub mod harvest_day;
+pub mod later;
 pub mod meeting;
 pub mod openings;
 pub mod random;
@@ -13,8 +15,9 @@ pub mod scripts;
 pub mod shapes;
 pub mod sweeps;
 
+use crate::limits::MOST_EVENTS;
 use crate::models::MODELS;
-use crate::record::MOST_EVENTS;
+use crate::record::{Edition, Record};
 use crate::store::Store;
 use random::Random;
 
@@ -27,17 +30,19 @@ pub struct Sample {
 type Family = fn(&mut Random) -> Vec<u8>;
 
 /// Each family with its share of a hundred seeds.
-const FAMILIES: [(u64, &str, Family); 10] = [
+const FAMILIES: [(u64, &str, Family); 12] = [
     (6, "small", small),
     (10, "returns", at_returns),
-    (14, "edge", edge),
-    (7, "apart", models_apart),
-    (30, "damaged", damaged),
+    (11, "edge", edge),
+    (8, "apart", models_apart),
+    (28, "damaged", damaged),
     (18, "block-0", block_0),
-    (3, "bit", one_bit),
-    (4, "large", large),
-    (4, "large-edge", large_edge),
-    (4, "rehearsed", rehearsed),
+    (4, "tail", block_tail),
+    (1, "bit", one_bit),
+    (3, "large", large),
+    (3, "large-edge", large_edge),
+    (5, "harvest", harvest),
+    (3, "rehearsed", rehearsed),
 ];
 
 pub fn record(seed: u64) -> Sample {
@@ -62,7 +67,7 @@ pub fn to_explain(seed: u64) -> Sample {
 
 fn small(random: &mut Random) -> Vec<u8> {
     let n = random.below(7) as usize;
-    shapes::of_either_edition(random, n).to_bytes()
+    shapes::of_any_edition(random, n).to_bytes()
 }
 
 fn at_returns(random: &mut Random) -> Vec<u8> {
@@ -72,29 +77,52 @@ fn at_returns(random: &mut Random) -> Vec<u8> {
 
 fn large(random: &mut Random) -> Vec<u8> {
     let n = large_count(random);
-    shapes::of_either_edition(random, n).to_bytes()
+    shapes::of_any_edition(random, n).to_bytes()
 }
 
-/// Whole blocks, one more, one less, and anything between.
+/// Whole blocks, one more, one less, and anything between; often as many as an older edition holds, and sometimes as
+/// many as there can be. Not often, as these take long.
 fn large_count(random: &mut Random) -> usize {
-    if random.chance(25) {
-        return MOST_EVENTS - random.below(6) as usize;
+    let older = Edition::GCR2.most_events;
+    match random.below(20) {
+        0..3 => older,
+        3 => older - random.index(6),
+        4 => older + 1 + random.index(MOST_EVENTS - older),
+        5 => MOST_EVENTS - random.index(7),
+        _ => 6 + random.index(older - 80),
     }
-    7 + random.below(MOST_EVENTS as u64 - 6) as usize
 }
 
 fn edge(random: &mut Random) -> Vec<u8> {
     let n = 1 + random.below(9) as usize;
-    edge_of(random, n)
+    edge_of(random, n).to_bytes()
 }
 
 fn large_edge(random: &mut Random) -> Vec<u8> {
     let n = large_count(random);
-    edge_of(random, n)
+    edge_of(random, n).to_bytes()
+}
+
+/// Of the last edition, with about as many events as no older one holds. Mostly what is told of them is about the last
+/// ones.
+fn harvest(random: &mut Random) -> Vec<u8> {
+    let between = 258 + random.index(125);
+    let n = random.pick(&[256, 257, between, between, 383, 384, 384, 384]);
+    let told = 4 + random.index(9);
+    let record = match random.below(10) {
+        0..6 => later::numbered_later(&shapes::of_any_edition(random, told), n - told),
+        6..8 => later::numbered_later(&edge_of(random, told), n - told),
+        _ => edge_of(random, n),
+    };
+    let mut bytes = record.in_edition(Edition::GCR3).to_bytes();
+    if random.chance(45) {
+        damage::last_event(random, &mut bytes);
+    }
+    bytes
 }
 
 /// Meets a predicate or a model, but for one changed field or bit.
-fn edge_of(random: &mut Random, n: usize) -> Vec<u8> {
+fn edge_of(random: &mut Random, n: usize) -> Record {
     let predicates = match random.chance(50) {
         true => &[1 + random.below(13) as u32],
         false => random.pick(&MODELS),
@@ -103,7 +131,7 @@ fn edge_of(random: &mut Random, n: usize) -> Vec<u8> {
     if random.chance(90) {
         change::one_field(random, &mut record);
     }
-    record.to_bytes()
+    record
 }
 
 fn models_apart(random: &mut Random) -> Vec<u8> {
@@ -114,7 +142,7 @@ fn models_apart(random: &mut Random) -> Vec<u8> {
 
 fn damaged(random: &mut Random) -> Vec<u8> {
     let n = if random.chance(80) { random.below(24) as usize } else { large_count(random) };
-    let mut bytes = shapes::of_either_edition(random, n).to_bytes();
+    let mut bytes = shapes::of_any_edition(random, n).to_bytes();
     for _ in 0..1 + random.below(5) / 3 {
         damage::once(random, &mut bytes);
     }
@@ -123,14 +151,22 @@ fn damaged(random: &mut Random) -> Vec<u8> {
 
 fn block_0(random: &mut Random) -> Vec<u8> {
     let n = random.below(4) as usize;
-    let mut bytes = shapes::of_either_edition(random, n).to_bytes();
+    let mut bytes = shapes::of_any_edition(random, n).to_bytes();
     damage::block_0(random, &mut bytes);
+    bytes
+}
+
+/// Turns a bit behind the slots of a block.
+fn block_tail(random: &mut Random) -> Vec<u8> {
+    let n = 1 + random.below(14) as usize;
+    let mut bytes = shapes::of_any_edition(random, n).to_bytes();
+    damage::block_tail(random, &mut bytes);
     bytes
 }
 
 fn one_bit(random: &mut Random) -> Vec<u8> {
     let n = random.below(10) as usize;
-    let mut bytes = shapes::of_either_edition(random, n).to_bytes();
+    let mut bytes = shapes::of_any_edition(random, n).to_bytes();
     damage::any_bit(random, &mut bytes);
     bytes
 }

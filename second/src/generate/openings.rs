@@ -3,14 +3,25 @@
 use super::clocks;
 use super::random::Random;
 use crate::openings::{value_at, Openings, OBJECTS};
-use crate::record::{Edition, Event};
+use crate::record::{Edition, Record};
 
-/// For these events.
-pub fn edition(random: &mut Random, events: &[Event]) -> Edition {
-    if random.chance(40) {
-        Edition::Gcr1
-    } else {
-        Edition::Gcr2 { difference: clocks::difference(random, events), openings: openings(random) }
+/// The same events in some edition, with a difference and openings where it has them.
+pub fn of_any_edition(random: &mut Random, record: Record) -> Record {
+    let edition = edition(random, record.events.len());
+    if !edition.headed {
+        return record.in_edition(edition);
+    }
+    let difference = clocks::difference(random, &record.events);
+    record.in_edition(edition).apart(difference).opened(openings(random))
+}
+
+/// One with room for so many events.
+pub fn edition(random: &mut Random, events: usize) -> Edition {
+    match random.below(100) {
+        _ if events > Edition::GCR2.most_events => Edition::GCR3,
+        0..35 => Edition::GCR1,
+        35..65 => Edition::GCR2,
+        _ => Edition::GCR3,
     }
 }
 

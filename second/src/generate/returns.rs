@@ -9,7 +9,7 @@ use std::cmp::Reverse;
 const LAST: u64 = u64::MAX;
 
 pub fn record(random: &mut Random, n: usize) -> Record {
-    let record = shapes::of_either_edition(random, n);
+    let record = shapes::of_any_edition(random, n);
     let mut record = match random.chance(50) {
         true => at_one_site(random, record),
         false => at_two_sites(random, record),

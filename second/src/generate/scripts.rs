@@ -2,8 +2,8 @@
 
 use super::openings;
 use super::random::Random;
+use crate::limits::{MOST_BYTES, MOST_EVENTS};
 use crate::openings::{OBJECTS, OPENINGS_BYTES};
-use crate::record::MOST_BYTES;
 use crate::store::{Call, Store, CALL_BYTES, MOST_SCRIPT_BYTES};
 
 /// How a script is mixed, in shares of a hundred calls.
@@ -88,7 +88,7 @@ fn spoil(random: &mut Random, rehearsal: &mut Rehearsal) {
             rehearsal.script.resize(length, 0);
             rehearsal.answer_bytes = rehearsal.answer_bytes.max(length);
         }
-        2 => rehearsal.record_bytes = random.pick(&[0, 512, 19_455]),
+        2 => rehearsal.record_bytes = random.pick(&[0, 512, 19_456, MOST_BYTES - 1]),
         3 => rehearsal.openings.resize(random.pick(&[0, 1, 4, 128, 131, 133, 264]), 0),
         4 if rehearsal.openings.len() == OPENINGS_BYTES => {
             openings::value_under_clear_bit(random, &mut rehearsal.openings)
@@ -106,7 +106,7 @@ pub fn plausible(random: &mut Random) -> (u32, Vec<u8>) {
 /// Puts fill the store of eight sites, so that as many copies are outstanding as can be; 34 refuses those after them.
 fn puts_alone(random: &mut Random) -> Mix {
     let end = random.pick(&[End::Nothing, End::Nothing, End::Deliveries, End::Close]);
-    Mix { calls: 256 + random.index(40), puts: 100, deliveries: 0, end, ..day(8) }
+    Mix { calls: MOST_EVENTS + random.index(40), puts: 100, deliveries: 0, end, ..day(8) }
 }
 
 fn any_mix(random: &mut Random) -> Mix {

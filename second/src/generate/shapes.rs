@@ -2,7 +2,8 @@
 
 use super::openings;
 use super::random::Random;
-use crate::record::{Event, Kind, Record, MOST_EVENTS};
+use crate::limits::MOST_EVENTS;
+use crate::record::{Event, Kind, Record};
 
 const DENSITIES: [u64; 6] = [0, 8, 30, 60, 92, 100];
 
@@ -17,22 +18,22 @@ const PLAIN: Drawn = Drawn { objects: &[0, 0, 0, 1, 1, 255], values: &[0, 1, 2, 
 
 /// The last object that can have an opening and the first that cannot are more often among these, and wrong values too.
 const BESIDE_OPENINGS: Drawn = Drawn {
-    objects: &[0, 0, 0, 0, 1, 31, 31, 32, 32, 255],
+    objects: &[0, 0, 0, 0, 1, 31, 31, 31, 32, 32, 255],
     values: &[0, 0, 1, 2, u32::MAX],
     right: &[0, 40, 60, 97, 100],
 };
 
-/// Of `GCR1`.
+/// Of `GCR1` where it has room for them.
 pub fn record(random: &mut Random, n: usize) -> Record {
     let mut record = without_right_values(random, n, &PLAIN);
     values(random, &mut record, &PLAIN, |_, _, _| ());
     record
 }
 
-/// Of `GCR1`, or of `GCR2` with openings that reads hold or should hold, and clocks that may differ.
-pub fn of_either_edition(random: &mut Random, n: usize) -> Record {
-    let mut record = without_right_values(random, n, &BESIDE_OPENINGS);
-    record.edition = openings::edition(random, &record.events);
+/// Of any edition; other than in `GCR1` there are openings that reads hold or should hold, and clocks that may differ.
+pub fn of_any_edition(random: &mut Random, n: usize) -> Record {
+    let record = without_right_values(random, n, &BESIDE_OPENINGS);
+    let mut record = openings::of_any_edition(random, record);
     values(random, &mut record, &BESIDE_OPENINGS, opening_or_none);
     record
 }
@@ -50,7 +51,7 @@ pub fn site_count(random: &mut Random) -> u8 {
     if random.chance(80) {
         random.pick(&[1, 2, 2, 3])
     } else {
-        random.pick(&[4, 5, 6, 7, 8, 8, 8, 8])
+        random.pick(&[5, 6, 7, 8, 8, 8, 8, 8])
     }
 }
 
@@ -169,7 +170,7 @@ fn values(random: &mut Random, record: &mut Record, drawn: &Drawn, otherwise: fn
 
 /// Now and then a read holds the opening, though a write may be visible, or none, though there may be an opening.
 fn opening_or_none(random: &mut Random, record: &mut Record, event: usize) {
-    let openings = record.edition.openings();
+    let openings = record.openings;
     let read = &mut record.events[event];
     if random.chance(40) && read.is_read() {
         let opening = openings.of(read.object as usize).filter(|_| !read.pending());
@@ -184,7 +185,7 @@ pub fn hold_right_value(record: &mut Record, event: usize) {
         let seen = (0..record.events.len().min(MOST_EVENTS)).filter(|&w| read.visible[w]);
         let writes = seen.map(|w| &record.events[w]).filter(|w| w.is_write() && w.object == read.object);
         let last = writes.max_by_key(|write| write.position);
-        let opening = record.edition.openings().of(read.object as usize);
+        let opening = record.openings.of(read.object as usize);
         record.events[event].value = last.map_or(opening, |write| write.value);
     }
 }

@@ -1,6 +1,7 @@
 //! Fixed inputs, one for each byte or object that could be overlooked.
 
 use super::scripts::{as_read, Rehearsal};
+use crate::limits::{MOST_BYTES, MOST_EVENTS};
 use crate::openings::{value_at, Openings, OBJECTS, OPENINGS_BYTES};
 use crate::record::*;
 use crate::store::Call;
@@ -28,7 +29,7 @@ pub fn block_0() -> Vec<Named<Vec<u8>>> {
 /// Fewer of them, as a program is slow to start: in each edition still every byte is turned.
 pub fn block_0_of_programs() -> Vec<Named<Vec<u8>>> {
     let mut all = block_0();
-    all.retain(|(name, _)| !name.starts_with("gcr2-odd"));
+    all.retain(|(name, _)| !name.contains("-odd"));
     all
 }
 
@@ -49,20 +50,17 @@ const LETTERS: [&[u8; 4]; 14] = [
     b"\0\0\0\0",
 ];
 
-/// In `GCR1`, and in `GCR2` with openings of no object, of even ones, of odd ones, and of all. With those of the even
-/// and of the odd ones every object has one and has none, so that in these every byte is turned.
-fn unwritten() -> [(&'static str, bool, Record); 5] {
-    [
-        ("gcr1", true, unwritten_of(Edition::Gcr1)),
-        ("gcr2-none", false, opened(|_| false)),
-        ("gcr2-even", true, opened(|object| object % 2 == 0)),
-        ("gcr2-odd", true, opened(|object| object % 2 == 1)),
-        ("gcr2-all", false, opened(|_| true)),
-    ]
-}
-
-fn opened(has: impl Fn(usize) -> bool) -> Record {
-    unwritten_of(Edition::Gcr2 { difference: 0, openings: figures(has) })
+/// In `GCR1`, and in each other edition with openings of no object, of even ones, of odd ones, and of all. With those of
+/// the even and of the odd ones every object has one and has none, so that in these every byte is turned.
+fn unwritten() -> Vec<(String, bool, Record)> {
+    let mut all = vec![("gcr1".to_string(), true, unwritten_of(Edition::GCR1, Openings::none()))];
+    for (name, edition) in [("gcr2", Edition::GCR2), ("gcr3", Edition::GCR3)] {
+        all.push((format!("{name}-none"), false, unwritten_of(edition, figures(|_| false))));
+        all.push((format!("{name}-even"), true, unwritten_of(edition, figures(|object| object % 2 == 0))));
+        all.push((format!("{name}-odd"), true, unwritten_of(edition, figures(|object| object % 2 == 1))));
+        all.push((format!("{name}-all"), false, unwritten_of(edition, figures(|_| true))));
+    }
+    all
 }
 
 /// Figures that differ in all their bytes, but for two objects that open with 0.
@@ -74,10 +72,10 @@ pub fn figures(has: impl Fn(usize) -> bool) -> Openings {
     Openings::from_figures(std::array::from_fn(|object| has(object).then(|| figure(object))))
 }
 
-fn unwritten_of(edition: Edition) -> Record {
+fn unwritten_of(edition: Edition, openings: Openings) -> Record {
     let objects = (0..OBJECTS).chain([32, 255]);
-    let reads = objects.map(|object| Event::read(0, object as u8, edition.openings().of(object)).at(1, 1));
-    Record { edition, ..Record::in_order(2, reads.chain([Event::write(1, 0, 1)]).collect()) }
+    let reads = objects.map(|object| Event::read(0, object as u8, openings.of(object)).at(1, 1));
+    Record { edition, openings, ..Record::in_order(2, reads.chain([Event::write(1, 0, 1)]).collect()) }
 }
 
 /// Two events against arbitration, the later one starting so long after the other's return: at two sites or at one,
@@ -117,6 +115,77 @@ fn of_difference(difference: u32) -> Vec<Named<Record>> {
         pair("past-the-end", write(1).at(0, last), write(0).at(last, last)),
         pair("before-the-beginning", write(1).at(0, 0), write(0).at(0, 0)),
     ]
+}
+
+/// What Change 8 laid out anew: in each edition as many events as fill blocks, one more, and as many as there can be and
+/// one more; each byte behind the slots of a block, and as many before it; and older editions' records of more bytes than
+/// these can have.
+pub fn harvest() -> Vec<Named<Vec<u8>>> {
+    Edition::ALL
+        .into_iter()
+        .flat_map(|edition| [counts(edition), tails(edition), stretched(edition)].concat())
+        .collect()
+}
+
+/// Fewer of them for programs: the bytes behind the slots at which a tail may begin or end.
+pub fn harvest_of_programs() -> Vec<Named<Vec<u8>>> {
+    let ends = ["-448", "-479", "-480", "-507"];
+    let mut all = harvest();
+    all.retain(|(name, _)| !name.contains("-byte-") || ends.iter().any(|end| name.ends_with(end)));
+    all
+}
+
+fn name_of(edition: Edition) -> String {
+    edition.letters.escape_ascii().to_string().to_lowercase()
+}
+
+/// Each event sees the one before it, the 64th before it, and the first.
+pub fn seeing_back(n: usize) -> Record {
+    let event = |k: usize| {
+        let before = [1, 64, k].into_iter().filter_map(|back| k.checked_sub(back)).filter(|&seen| seen < k);
+        let seen: Vec<usize> = before.filter(|&seen| seen < MOST_EVENTS).collect();
+        Event::write(0, 0, k as u32).at(2 * k as u64, 2 * k as u64 + 1).sees(&seen)
+    };
+    Record::in_order(1, (0..n).map(event).collect())
+}
+
+/// A block that would be too many for question 3 is left out.
+fn counts(edition: Edition) -> Vec<Named<Vec<u8>>> {
+    let one = |n: usize| {
+        let mut bytes = Record { edition, ..seeing_back(n) }.to_bytes();
+        bytes.truncate(MOST_BYTES);
+        (format!("{}-of-{n}", name_of(edition)), sealed(bytes))
+    };
+    [0, 1, 6, 7, 8, 12, 13, 14, 255, 256, 257, 258, 383, 384, 385].map(one).to_vec()
+}
+
+/// In both blocks of eight events, each byte from where the older editions' slots end.
+fn tails(edition: Edition) -> Vec<Named<Vec<u8>>> {
+    let bytes = Record { edition, ..seeing_back(8) }.to_bytes();
+    let places = [1, 2].into_iter().flat_map(|block| (448..CHECKED_BYTES).map(move |at| (block, at)));
+    let one = |(block, at)| {
+        (format!("{}-block-{block}-byte-{at}", name_of(edition)), { sealed(turned(&bytes, block * BLOCK_BYTES + at)) })
+    };
+    places.map(one).collect()
+}
+
+/// Zero blocks behind a full record, sealed and not, with the count as it was and one that is too large.
+fn stretched(edition: Edition) -> Vec<Named<Vec<u8>>> {
+    let full = Record { edition, ..seeing_back(edition.most_events) }.to_bytes();
+    let mut all = Vec::new();
+    for blocks in [38, 39, 64, 65, 66] {
+        let mut bytes = full.clone();
+        bytes.resize(blocks * BLOCK_BYTES, 0);
+        let name = format!("{}-of-{blocks}-blocks", name_of(edition));
+        all.push((name.clone(), sealed(bytes.clone())));
+        let mut counted = bytes.clone();
+        counted[4..6].copy_from_slice(&(edition.most_events as u16 + 1).to_le_bytes());
+        all.push((format!("{name}-and-more-events"), sealed(counted)));
+        let mut unsealed = sealed(bytes);
+        *unsealed.last_mut().expect("blocks") ^= 1;
+        all.push((format!("{name}-unsealed"), unsealed));
+    }
+    all
 }
 
 /// A write and a read that never returned. All of 3 to 12 are met. Had the two returned before the others of their site
@@ -179,11 +248,29 @@ pub fn rehearsals() -> Vec<Named<Rehearsal>> {
     plain.chain(refused_twice()).collect()
 }
 
+/// As many events as the store takes and two more, of either kind, with record buffers about as long as they must be.
+pub fn full_stores() -> Vec<Named<Rehearsal>> {
+    let put = |k: usize| Call::Put { site: k % 8, object: k % OBJECTS, value: k as u32 };
+    let get = |k: usize| Call::Get { site: k % 8, object: k % OBJECTS };
+    let calls = |n: usize| (0..n).map(|k| if k % 3 == 2 { get(k) } else { put(k) });
+    let script = |n: usize| calls(n).chain([Call::Close]).chain(calls(3)).flat_map(Call::to_bytes).collect::<Vec<_>>();
+    let mut all = Vec::new();
+    for events in [253, 254, 380, 381, 382, 384] {
+        let rehearsal = Rehearsal::plain(8, figures(|_| true).to_bytes().to_vec(), script(events));
+        all.push((format!("events-{events}"), rehearsal));
+    }
+    for record_bytes in [19_455, 19_456, MOST_BYTES - 1, MOST_BYTES, MOST_BYTES + 1, 40_000] {
+        let rehearsal = Rehearsal::plain(8, vec![0; OPENINGS_BYTES], script(384));
+        all.push((format!("buffer-{record_bytes}"), Rehearsal { record_bytes, ..rehearsal }));
+    }
+    all
+}
+
 /// What the program reads: the same, and an input that ends after each of its bytes up to the script.
 pub fn program_inputs() -> Vec<Named<Vec<u8>>> {
     let whole = as_read(&Rehearsal::plain(2, figures(|_| true).to_bytes().to_vec(), vec![]));
     let cut = (0..=whole.len()).map(|length| (format!("cut-{length}"), whole[..length].to_vec()));
-    let rehearsed = rehearsals().into_iter().map(|(name, rehearsal)| (name, as_read(&rehearsal)));
+    let rehearsed = rehearsals().into_iter().chain(full_stores()).map(|(name, rehearsal)| (name, as_read(&rehearsal)));
     rehearsed.chain(cut).collect()
 }
 
