@@ -17,7 +17,7 @@ extern "C" {
 #endif
 
 #define GCR_PREDICATES 13       /* the words that gcr_judge_all writes at most */
-#define GCR_EXPLAIN_ENTRIES 256 /* the entries that gcr_explain asks for, and writes at most */
+#define GCR_EXPLAIN_ENTRIES 384 /* the entries that gcr_explain asks for, and writes at most */
 #define GCR_SCRIPT_MOST 32768   /* bytes of the longest script */
 #define GCR_CALL_BYTES 8        /* bytes of a script's call, and of its answer */
 
@@ -27,7 +27,7 @@ extern "C" {
 #define GCR_DELIVER 3 /* byte 1 the site that the put is delivered to, bytes 4-5 the event that the put became */
 #define GCR_CLOSE 4   /* bytes 1-7 are 0; delivers to each site every put that it lacks, and only 31 refuses it */
 
-#define GCR_JUDGE_STACK_BYTES 131072    /* stack for any of the three judging calls and gcr_explain */
+#define GCR_JUDGE_STACK_BYTES 262144    /* stack for any of the three judging calls and gcr_explain */
 #define GCR_REHEARSE_STACK_BYTES 131072 /* stack for gcr_rehearse */
 
 /* Judges a model, 1 to 13, of a record.
@@ -60,13 +60,13 @@ uint64_t gcr_judge_all(const uint8_t *record, size_t len, uint64_t *out, size_t 
  *           ring: two steps or more, the last to a itself
  *   5, 8    the lowest middle event, then b. It is a read of b's site that sees a and returned before b started
  *   others  b alone
- * Answer: how many entries were written, 1 to 256; 2,097,152 + 1,024 * number + place refused. The questions are 2,
- * then 41, then 3 to 10, then 42, and the place is 0 but for 4 and 7 to 10. 41 asks for 256 entries however few there
+ * Answer: how many entries were written, 1 to 384; 2,097,152 + 1,024 * number + place refused. The questions are 2,
+ * then 41, then 3 to 10, then 42, and the place is 0 but for 4 and 7 to 10. 41 asks for 384 entries however few there
  * are to write; 42 refuses exactly where gcr_judge_predicate answers met.
  * `events` afterwards: the entries beyond those written stay, and where it was refused all of them do. */
 uint64_t gcr_explain(uint32_t predicate, const uint8_t *record, size_t len, uint16_t *events, size_t entries);
 
-/* Runs a script over a store of `sites` sites and writes the record of what happened, in edition GCR2.
+/* Runs a script over a store of `sites` sites and writes the record of what happened, in edition GCR3.
  * `openings` are the figures that the objects start with at every site: GCR_OPENINGS_BYTES bytes as gcr_reader.h says,
  * all zero where no object has one (see gcr_set_opening). A get of an object of which its site knows no put finds the
  * object's opening, or none where it has none; the first put of the object that is done or delivered at a site replaces it
@@ -119,7 +119,7 @@ static inline int gcr_is_judged(uint64_t answer) { return answer == 0; }
 /* Of what gcr_explain answers: the entries written, 0 where it was refused (see gcr_is_refused). */
 static inline size_t gcr_explained_count(uint64_t answer) { return gcr_is_refused(answer) ? 0 : (size_t)answer; }
 
-/* Of what gcr_rehearse answers: what refused it, or 0; the record's bytes; the copies outstanding, at most 1,792. */
+/* Of what gcr_rehearse answers: what refused it, or 0; the record's bytes; the copies outstanding, at most 2,688. */
 static inline uint32_t gcr_rehearsed_number(uint64_t answer) { return (uint32_t)(answer & 255); }
 static inline size_t gcr_rehearsed_length(uint64_t answer) { return (size_t)(answer >> 8 & 65535); }
 static inline uint64_t gcr_rehearsed_outstanding(uint64_t answer) { return answer >> 24; }

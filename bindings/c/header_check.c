@@ -6,10 +6,15 @@
 #include <string.h>
 
 #define CALLS 12    /* of the rehearsal's script */
-#define LENGTH 1024 /* bytes of the rehearsal's record */
+#define LENGTH 1536 /* bytes of the rehearsal's record: seven events, six of them in block 1 */
 #define ROOM 15     /* words lent to gcr_judge_all: two more than it writes */
-#define ENTRIES 258 /* entries lent to gcr_explain: two more than it writes */
+#define ENTRIES 386 /* entries lent to gcr_explain: two more than it writes */
 #define STAYS 7     /* what they hold before */
+
+/* A row has a bit for each event, there is a row for each, and a ring through all of them can be told. */
+_Static_assert(64 * GCR_ROW_WORDS == GCR_EVENTS_MOST, "a row");
+_Static_assert(GCR_WORK_WORDS == GCR_ROW_WORDS * GCR_EVENTS_MOST, "the work slice");
+_Static_assert(GCR_EXPLAIN_ENTRIES == GCR_EVENTS_MOST, "the entries");
 
 static uint8_t record[GCR_RECORD_MOST];
 
@@ -92,7 +97,7 @@ static int openings_are_right(const uint8_t *openings) {
     return right;
 }
 
-/* The record has the openings that were lent, and clocks that do not differ. */
+/* The record is of the latest edition, and has the openings that were lent, and clocks that do not differ. */
 static int rehearsal_is_right(void) {
     uint8_t openings[GCR_OPENINGS_BYTES] = {0}, answers[sizeof script];
     int set = set_openings(openings) && openings_are_right(openings);
@@ -100,12 +105,13 @@ static int rehearsal_is_right(void) {
                                  sizeof answers);
     return set && gcr_rehearsed_number(done) == 0 && gcr_rehearsed_length(done) == LENGTH &&
            gcr_rehearsed_outstanding(done) == 1 && answers_are_right(answers) && copies_add_up(answers, 1) &&
-           openings_are_right(record + GCR_OPENINGS_AT) && gcr_difference(record) == 0;
+           memcmp(record, "GCR3", 4) == 0 && openings_are_right(record + GCR_OPENINGS_AT) &&
+           gcr_difference(record) == 0;
 }
 
 /* All four bytes, and no others. */
 static int difference_is_right(void) {
-    static const uint8_t head[] = {'G', 'C', 'R', '2', 5, 0, 2, 0, 0x28, 0x01, 0x02, 0xff, 0x20, 0};
+    static const uint8_t head[] = {'G', 'C', 'R', '3', 5, 0, 2, 0, 0x28, 0x01, 0x02, 0xff, 0x20, 0};
     return gcr_difference(head) == 0xff020128;
 }
 
@@ -138,6 +144,24 @@ static int reading_is_right(void) {
     uint64_t short_work = gcr_read(record, LENGTH, work, GCR_WORK_WORDS - 1);
     return gcr_is_passed(passed) && !gcr_is_refused(passed) && gcr_is_visible(work, 0, 1) &&
            !gcr_is_visible(work, 1, 0) && !gcr_is_passed(short_work) && gcr_refused_number(short_work) == 1;
+}
+
+/* Of as many gets at one site as there can be, and one more: each sees all before it, and the last is refused. */
+static int rows_are_right(void) {
+    static uint8_t gets[(GCR_EVENTS_MOST + 1) * GCR_CALL_BYTES], answers[sizeof gets], longest[GCR_RECORD_MOST];
+    static const uint8_t openings[GCR_OPENINGS_BYTES];
+    static uint64_t work[GCR_WORK_WORDS];
+    for (size_t k = 0; k <= GCR_EVENTS_MOST; k++)
+        gets[GCR_CALL_BYTES * k] = GCR_GET;
+    uint64_t done = gcr_rehearse(1, openings, sizeof openings, gets, sizeof gets, longest, sizeof longest, answers,
+                                 sizeof answers);
+    int right = gcr_rehearsed_length(done) == GCR_RECORD_MOST && gcr_answer_number(answers, GCR_EVENTS_MOST) == 34 &&
+                gcr_answer_event(answers, GCR_EVENTS_MOST - 1) == GCR_EVENTS_MOST - 1 &&
+                gcr_is_passed(gcr_read(longest, GCR_RECORD_MOST, work, GCR_WORK_WORDS));
+    for (size_t a = 0; a < GCR_EVENTS_MOST; a++)
+        for (size_t b = 0; b < GCR_EVENTS_MOST; b++)
+            right &= gcr_is_visible(work, a, b) == (a < b);
+    return right;
 }
 
 /* What a rehearsal leaves is causal; there is no model 14. */
@@ -219,7 +243,7 @@ static int is_not_explained(uint32_t predicate, size_t len, size_t entries, uint
 /* At the ends of its range, and of the two refusals that nothing else has. */
 static int count_is_right(void) {
     uint64_t refused = UINT64_C(2097152);
-    return gcr_explained_count(1) == 1 && gcr_explained_count(256) == GCR_EXPLAIN_ENTRIES &&
+    return gcr_explained_count(1) == 1 && gcr_explained_count(384) == GCR_EXPLAIN_ENTRIES &&
            gcr_explained_count(refused + 41 * 1024) == 0 && gcr_explained_count(refused + 42 * 1024) == 0;
 }
 
@@ -285,6 +309,7 @@ int main(void) {
     failed += wrong("a refusal of openings", openings_are_refused());
     failed += wrong("a difference of clocks", difference_is_right());
     failed += wrong("a read", reading_is_right());
+    failed += wrong("a read of the longest record", rows_are_right());
     failed += wrong("a judgment", judging_is_right());
     failed += wrong("a refusal", refusal_is_right());
     failed += wrong("gcr_judge_all of a record that passes", every_length_is_right(LENGTH));

@@ -7,7 +7,7 @@
     print(gcr.explain(record, "CausalVisibility"))   # [1, 2]
 
 A record is bytes. One that is refused raises Refusal, which has the number, the place and the sentence. Predicates and
-models are named by number or by name. Calls may run on several threads at once; each takes up to 131,072 bytes of
+models are named by number or by name. Calls may run on several threads at once; each takes up to 262,144 bytes of
 stack, which a thread has unless threading.stack_size made it smaller.
 
 This module needs the standard library and the shared object libgcr.so of its own version. That is looked for in the
@@ -24,12 +24,14 @@ from dataclasses import dataclass
 from pathlib import Path
 from typing import Callable, Dict, FrozenSet, List, NoReturn, Optional, Union
 
-VERSION = "0.7.1"
-RECORD_MOST = 19456  # bytes of the longest record
+VERSION = "0.8.0"
+EVENTS_MOST = 384  # events of the longest record
+RECORD_MOST = 33280  # bytes of the longest record
 SCRIPT_MOST = 32768  # bytes of the longest script
 OPENINGS_BYTES = 132
-_EXPLAIN_ENTRIES = 256
-_WORK_WORDS = 1024
+_EXPLAIN_ENTRIES = EVENTS_MOST
+_ROW_WORDS = EVENTS_MOST // 64
+_WORK_WORDS = _ROW_WORDS * EVENTS_MOST
 _UNWRITTEN = 2**64 - 1  # of a word that is about to be written: anything but met
 
 Bytes = Union[bytes, bytearray, memoryview]
@@ -230,7 +232,7 @@ def read(record: Bytes) -> List[FrozenSet[int]]:
     if answer:
         _refuse(answer)
     events = range(int.from_bytes(record[4:6], "little"))
-    return [frozenset(a for a in events if work[4 * b + a // 64] >> a % 64 & 1) for b in events]
+    return [frozenset(a for a in events if work[_ROW_WORDS * b + a // 64] >> a % 64 & 1) for b in events]
 
 
 def _field(what: str, number: int, size: int) -> bytes:

@@ -6,6 +6,7 @@ RIZHAKKON_HOSTS names the folder of the hosts, as tools/hosts fills it; without 
 """
 
 import os
+import re
 import subprocess
 import threading
 import unittest
@@ -92,7 +93,7 @@ class BadInput(Refused):
 
     def test_a_refusal_says_why(self):
         refusal = self.refused(3, 0, gcr.judge, b"")
-        self.assertEqual(refusal.sentence, "The record's length is not a multiple of 512 from 512 to 19,456 bytes.")
+        self.assertEqual(refusal.sentence, "The record's length is not a multiple of 512 from 512 to 33,280 bytes.")
         self.assertEqual(str(refusal), f"refused 3 0: {refusal.sentence}")
         self.assertEqual(gcr.Refusal(11).sentence, "The scope has no such refusal number.")
 
@@ -132,11 +133,26 @@ class Names(unittest.TestCase):
     def test_one_version(self):
         self.assertEqual(gcr.version(), gcr.VERSION)
 
+    def test_limits_are_those_of_the_headers(self):
+        headers = [Path(RECORDS.parent, "include", name).read_text() for name in ("gcr_reader.h", "gcr.h")]
+        defined = dict(re.findall(r"^#define GCR_(\w+) (\d+)", "".join(headers), re.MULTILINE))
+        for name in ("EVENTS_MOST", "RECORD_MOST", "SCRIPT_MOST", "OPENINGS_BYTES"):
+            self.assertEqual(getattr(gcr, name), int(defined[name]), name)
+        for name in ("EXPLAIN_ENTRIES", "ROW_WORDS", "WORK_WORDS"):
+            self.assertEqual(getattr(gcr, f"_{name}"), int(defined[name]), name)
+
 
 class Rehearsing(Refused):
     def test_scripts_leave_their_records(self):
-        for name in ("listing", "opening"):
+        for name in ("listing", "opening", "harvest-day"):
             self.assertEqual(rehearsed(RECORDS / f"{name}.script").record, record(name))
+
+    def test_a_full_store_refuses_the_next_event(self):
+        done = gcr.rehearse(1, {}, gcr.get(0, 5) * (gcr.EVENTS_MOST + 1))
+        self.assertEqual([answer.event for answer in done.answers], [*range(384), None])
+        self.assertEqual(done.answers[384].refusal.number, 34)
+        self.assertEqual(len(done.record), gcr.RECORD_MOST)
+        self.assertEqual(gcr.read(done.record), [set(range(event)) for event in range(384)])
 
     def test_what_a_script_leaves_is_causal(self):
         for path in files("script"):

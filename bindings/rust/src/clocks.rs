@@ -1,10 +1,10 @@
 //! By how much the clocks of a record's sites may differ.
 
 use crate::blocks::{seal, BLOCK};
+use crate::Edition;
 use alloc::vec::Vec;
 use core::ops::Range;
 
-const GCR2: &[u8] = b"GCR2";
 const DIFFERENCE: Range<usize> = 8..12;
 
 /// The milliseconds by which the clocks of two sites may differ, of a record that passed its questions. In edition
@@ -26,12 +26,12 @@ const DIFFERENCE: Range<usize> = 8..12;
 /// ```
 pub fn difference(record: &[u8]) -> u32 {
     match record.get(DIFFERENCE) {
-        Some(&[a, b, c, d]) if record.starts_with(GCR2) => u32::from_le_bytes([a, b, c, d]),
+        Some(&[a, b, c, d]) if has_difference(record) => u32::from_le_bytes([a, b, c, d]),
         _ => 0,
     }
 }
 
-/// The same record with another difference. `None` of a record that is not of edition `GCR2`: no other has one.
+/// The same record with another difference. `None` of a record of edition `GCR1`, which has none, or of no edition.
 ///
 /// Block 0's check is made anew, so ask the record's questions before.
 ///
@@ -48,7 +48,7 @@ pub fn difference(record: &[u8]) -> u32 {
 /// # let record = &record[..length];
 ///
 /// let judged = |difference| {
-///     let record = with_difference(record, difference).expect("a rehearsal writes GCR2");
+///     let record = with_difference(record, difference).expect("a rehearsal writes GCR3");
 ///     judge_predicate(Predicate::RealTime, &record)
 /// };
 /// assert_eq!(judged(0)?, Verdict::Broken { a: 1, b: 2 });
@@ -56,11 +56,15 @@ pub fn difference(record: &[u8]) -> u32 {
 /// # Ok::<(), gcr::Refusal>(())
 /// ```
 pub fn with_difference(record: &[u8], difference: u32) -> Option<Vec<u8>> {
-    if !record.starts_with(GCR2) || record.len() < BLOCK {
+    if !has_difference(record) || record.len() < BLOCK {
         return None;
     }
     let mut record = record.to_vec();
     record[DIFFERENCE].copy_from_slice(&difference.to_le_bytes());
     seal(&mut record[..BLOCK]);
     Some(record)
+}
+
+fn has_difference(record: &[u8]) -> bool {
+    Edition::of(record).is_some_and(Edition::has_terms)
 }

@@ -6,15 +6,17 @@ use core::fmt;
 #[derive(Clone, Copy, Debug, PartialEq, Eq, Hash, PartialOrd, Ord)]
 #[non_exhaustive]
 pub enum Edition {
-    /// It has neither openings nor a difference of clocks.
+    /// It has neither openings nor a difference of clocks, and at most 256 events.
     Gcr1,
-    /// It has both. A rehearsal writes it.
+    /// It has both, and at most 256 events.
     Gcr2,
+    /// It has both, and at most 384 events. A rehearsal writes it.
+    Gcr3,
 }
 
 impl Edition {
     /// All of them, the first one first.
-    pub const ALL: &'static [Edition] = &[Edition::Gcr1, Edition::Gcr2];
+    pub const ALL: &'static [Edition] = &[Edition::Gcr1, Edition::Gcr2, Edition::Gcr3];
 
     /// The letters that a record of it begins with.
     ///
@@ -25,6 +27,30 @@ impl Edition {
         match self {
             Edition::Gcr1 => "GCR1",
             Edition::Gcr2 => "GCR2",
+            Edition::Gcr3 => "GCR3",
+        }
+    }
+
+    /// The most events that a record of it has.
+    ///
+    /// ```
+    /// use gcr::{Edition, EVENTS_MOST};
+    ///
+    /// assert_eq!(Edition::Gcr2.events_most(), 256);
+    /// assert_eq!(Edition::Gcr3.events_most(), EVENTS_MOST);
+    /// ```
+    pub const fn events_most(self) -> usize {
+        match self {
+            Edition::Gcr1 | Edition::Gcr2 => 256,
+            Edition::Gcr3 => 384,
+        }
+    }
+
+    /// Whether block 0 has openings and a difference of clocks.
+    pub const fn has_terms(self) -> bool {
+        match self {
+            Edition::Gcr1 => false,
+            Edition::Gcr2 | Edition::Gcr3 => true,
         }
     }
 

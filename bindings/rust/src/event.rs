@@ -3,11 +3,9 @@
 use crate::VisibleSet;
 use core::ops::Range;
 
-pub(crate) const SLOT: usize = 64;
-
 /// Where a slot has what.
 mod at {
-    use super::Range;
+    use core::ops::{Range, RangeFrom};
 
     pub const KIND: usize = 0;
     pub const SITE: usize = 1;
@@ -18,7 +16,8 @@ mod at {
     pub const POSITION: Range<usize> = 10..12;
     pub const START: Range<usize> = 16..24;
     pub const END: Range<usize> = 24..32;
-    pub const VISIBLE: Range<usize> = 32..64;
+    /// To the end of the slot, which goes by the edition.
+    pub const VISIBLE: RangeFrom<usize> = 32..;
 }
 
 /// What an event does.
@@ -78,8 +77,6 @@ impl Event {
     /// Reads a slot of a record that passed its questions.
     pub(crate) fn from_slot(slot: &[u8]) -> Event {
         let number = |at: Range<usize>| slot[at].iter().rev().fold(0, |sum, &byte| sum << 8 | u64::from(byte));
-        let mut visible = *VisibleSet::none().as_bytes();
-        visible.copy_from_slice(&slot[at::VISIBLE]);
         Event {
             kind: if slot[at::KIND] == 1 { Kind::Write } else { Kind::Read },
             site: slot[at::SITE],
@@ -88,12 +85,13 @@ impl Event {
             start: number(at::START),
             end: (slot[at::STATE] == 0).then(|| number(at::END)),
             position: number(at::POSITION) as u16,
-            visible: VisibleSet::from_bytes(visible),
+            visible: VisibleSet::from_bytes(&slot[at::VISIBLE]),
         }
     }
 
-    /// Over a slot that is zero.
-    pub(crate) fn store(&self, slot: &mut [u8]) {
+    /// Over a slot that is zero, as the event of this number. Where it sees an event for which slots of this size have no
+    /// bit, it is stored as one that sees itself too: question 9 refuses both, so that it is the reader that answers.
+    pub(crate) fn store(&self, number: usize, slot: &mut [u8]) {
         slot[at::KIND] = u8::from(self.kind == Kind::Write);
         slot[at::SITE] = self.site;
         slot[at::OBJECT] = self.object;
@@ -103,6 +101,11 @@ impl Event {
         slot[at::POSITION].copy_from_slice(&self.position.to_le_bytes());
         slot[at::START].copy_from_slice(&self.start.to_le_bytes());
         slot[at::END].copy_from_slice(&self.end.unwrap_or(0).to_le_bytes());
-        slot[at::VISIBLE].copy_from_slice(self.visible.as_bytes());
+        let room = &mut slot[at::VISIBLE];
+        let (stored, beyond) = self.visible.as_bytes().split_at(room.len());
+        room.copy_from_slice(stored);
+        if let (true, Some(byte)) = (beyond.iter().any(|&byte| byte != 0), room.get_mut(number / 8)) {
+            *byte |= 1 << (number % 8);
+        }
     }
 }

@@ -1,10 +1,10 @@
 //! Telling what happened where a predicate is broken.
 
-use crate::{ffi, Predicate, Refusal};
+use crate::{ffi, Predicate, Refusal, EVENTS_MOST};
 use alloc::vec::Vec;
 
-/// The entries that [`explain_into`] asks for, and the most that it writes.
-pub const EXPLAIN_ENTRIES: usize = 256;
+/// The entries that [`explain_into`] asks for, and the most that it writes, 384: a ring may go through all events.
+pub const EXPLAIN_ENTRIES: usize = EVENTS_MOST;
 
 /// Tells what happened where a predicate is broken: the events after a, b last, where (a, b) is the pair that
 /// [`judge_predicate`](crate::judge_predicate) finds.
@@ -17,7 +17,7 @@ pub const EXPLAIN_ENTRIES: usize = 256;
 ///   middle event, then b. It is a read of b's site that sees a and returned before b started.
 /// - All others: b alone.
 ///
-/// There are 1 to 256 of them.
+/// There are 1 to 384 of them.
 ///
 /// # Errors
 ///

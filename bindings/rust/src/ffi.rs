@@ -132,14 +132,14 @@ mod tests {
     fn an_explanation_is_asked_2_then_41_then_of_its_record_then_42() {
         for predicate in [0, 14, u32::MAX] {
             assert_eq!(explained(predicate, &[], 0), Err(2));
-            assert_eq!(explained(predicate, LISTING, 300), Err(2));
+            assert_eq!(explained(predicate, LISTING, 400), Err(2));
         }
-        for entries in [0, 1, 255] {
+        for entries in [0, 1, 256, 383] {
             assert_eq!(explained(2, LISTING, entries), Err(41));
             assert_eq!(explained(10, LISTING, entries), Err(41));
             assert_eq!(explained(10, &[], entries), Err(41));
         }
-        for entries in [256, 257, 300] {
+        for entries in [384, 385, 400] {
             assert_eq!(explained(2, LISTING, entries), Ok(vec![1]));
             assert_eq!(explained(10, LISTING, entries), Err(42));
             assert_eq!(explained(10, &[], entries), Err(3));

@@ -32,7 +32,7 @@
 //! script were answered is taken from its buffer by [`answers()`]: a typed [`Answer`] for each.
 //!
 //! The library has no static state and keeps nothing that it is lent, so every call here may run on several threads
-//! at once. 128 KB of the thread's stack are enough for any of them.
+//! at once. 256 KB of the thread's stack are enough for any of them.
 //!
 //! Nothing here needs `std`; there must be an allocator.
 
@@ -63,6 +63,7 @@ mod reading;
 mod record;
 mod refusal;
 mod rehearsal;
+mod slots;
 mod visible;
 
 pub use answer::{answers, Answer};

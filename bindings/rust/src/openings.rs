@@ -11,8 +11,8 @@ const OBJECTS: usize = 32;
 /// What each of objects 0 to 31 starts the day with: a figure, or none. A read that sees no write on its object
 /// should hold the object's opening. An opening of 0 is one too; objects from 32 on have none.
 ///
-/// As bytes they are lent to a rehearsal, and are bytes 12 to 143 of a record of edition `GCR2`. No value stands in
-/// them without its bit, so 40 never refuses them.
+/// As bytes they are lent to a rehearsal, and are bytes 12 to 143 of a record of edition `GCR2` or `GCR3`. No value
+/// stands in them without its bit, so 40 never refuses them.
 ///
 /// ```
 /// use gcr::Openings;

@@ -38,7 +38,7 @@ impl Judgment {
     }
 }
 
-/// What was told of a break: how many entries were written, 1 to 256; else refused, as a reading.
+/// What was told of a break: how many entries were written, 1 to 384; else refused, as a reading.
 #[repr(transparent)]
 #[derive(Clone, Copy, Debug, PartialEq, Eq)]
 #[must_use]
@@ -92,9 +92,9 @@ mod tests {
     fn judgments_come_apart_at_the_ends_of_their_ranges() {
         assert_eq!(verdict(0), Ok(Verdict::Met));
         assert_eq!(verdict(1_048_576), Ok(Verdict::Broken { a: 0, b: 0 }));
-        assert_eq!(verdict(1_048_576 + 1_024 * 255 + 254), Ok(Verdict::Broken { a: 255, b: 254 }));
+        assert_eq!(verdict(1_048_576 + 1_024 * 383 + 382), Ok(Verdict::Broken { a: 383, b: 382 }));
         assert_eq!(verdict(2_097_152 + 1_024), Err(Refusal { number: 1, place: 0 }));
-        assert_eq!(verdict(2_097_152 + 1_024 * 10 + 255), Err(Refusal { number: 10, place: 255 }));
+        assert_eq!(verdict(2_097_152 + 1_024 * 10 + 383), Err(Refusal { number: 10, place: 383 }));
         assert!(Judgment::UNWRITTEN.verdict().is_err());
     }
 
@@ -102,21 +102,21 @@ mod tests {
     fn readings_come_apart_at_the_ends_of_their_ranges() {
         assert_eq!(Reading(0).passed(), Ok(()));
         assert_eq!(Reading(2_097_152 + 1_024).passed(), Err(Refusal { number: 1, place: 0 }));
-        assert_eq!(Reading(2_097_152 + 1_024 * 10 + 255).passed(), Err(Refusal { number: 10, place: 255 }));
+        assert_eq!(Reading(2_097_152 + 1_024 * 10 + 383).passed(), Err(Refusal { number: 10, place: 383 }));
     }
 
     #[test]
     fn explanations_come_apart_at_the_ends_of_their_ranges() {
-        assert_eq!([1, 256].map(|answer| Explanation(answer).count()), [Ok(1), Ok(256)]);
+        assert_eq!([1, 384].map(|answer| Explanation(answer).count()), [Ok(1), Ok(384)]);
         assert_eq!(Explanation(2_097_152 + 1_024 * 2).count(), Err(Refusal { number: 2, place: 0 }));
-        assert_eq!(Explanation(2_097_152 + 1_024 * 10 + 255).count(), Err(Refusal { number: 10, place: 255 }));
+        assert_eq!(Explanation(2_097_152 + 1_024 * 10 + 383).count(), Err(Refusal { number: 10, place: 383 }));
         assert_eq!(Explanation(2_097_152 + 1_024 * 42).count(), Err(Refusal { number: 42, place: 0 }));
     }
 
     #[test]
     fn rehearsals_come_apart_at_the_ends_of_their_ranges() {
-        let most = Rehearsed { length: 19_456, outstanding: 256 * 7 };
-        assert_eq!(Rehearsal(256 * 19_456 + 16_777_216 * 256 * 7).done(), Ok(most));
+        let most = Rehearsed { length: 33_280, outstanding: 384 * 7 };
+        assert_eq!(Rehearsal(256 * 33_280 + 16_777_216 * 384 * 7).done(), Ok(most));
         assert_eq!(Rehearsal(20).done(), Err(Refusal { number: 20, place: 0 }));
     }
 }

@@ -1,12 +1,16 @@
 //! The record reader, and the visible sets that it lays out.
 
-use crate::{ffi, Refusal};
+use crate::slots::Slots;
+use crate::{ffi, Edition, Refusal, EVENTS_MOST};
 
-/// The words of work memory that [`read`] asks for; more will do.
-pub const WORK_WORDS: usize = 1024;
+/// The words of an event's visible set, whatever the edition: a bit for each event of the longest record.
+const ROW_WORDS: usize = EVENTS_MOST / 64;
 
-/// The bytes of the longest record.
-pub const RECORD_MOST: usize = 19_456;
+/// The words of work memory that [`read`] asks for, 2,304; more will do.
+pub const WORK_WORDS: usize = ROW_WORDS * EVENTS_MOST;
+
+/// The bytes of the longest record, 33,280.
+pub const RECORD_MOST: usize = Slots::of(Edition::Gcr3).record_bytes(EVENTS_MOST);
 
 /// Asks the questions of a record, and lays its visible sets into `work` where all are answered yes.
 ///
@@ -41,7 +45,7 @@ pub fn count(record: &[u8]) -> u16 {
 ///
 /// # Panics
 ///
-/// Where `work` has no such word: `a` and `b` are below 256, and the words [`WORK_WORDS`] or more.
+/// Where `work` has no such word: `a` and `b` are below [`EVENTS_MOST`], and the words [`WORK_WORDS`] or more.
 ///
 /// ```
 /// # use gcr::{is_visible, read, rehearse, script, Call, Openings, RECORD_MOST, WORK_WORDS};
@@ -56,5 +60,5 @@ pub fn count(record: &[u8]) -> u16 {
 /// ```
 pub fn is_visible(work: &[u64], a: u16, b: u16) -> bool {
     let (a, b) = (usize::from(a), usize::from(b));
-    work[4 * b + a / 64] >> (a % 64) & 1 == 1
+    work[ROW_WORDS * b + a / 64] >> (a % 64) & 1 == 1
 }

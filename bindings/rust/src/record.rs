@@ -1,21 +1,20 @@
 //! What a record says, and its bytes.
 
-use crate::blocks::{seal, BLOCK};
-use crate::event::SLOT;
+use crate::blocks::seal;
+use crate::slots::Slots;
 use crate::{count, difference, read, Edition, Event, Openings, Refusal, WORK_WORDS};
 use alloc::vec;
 use alloc::vec::Vec;
 use core::ops::Range;
 
-const SLOTS: usize = 7;
 const COUNT: Range<usize> = 4..6;
 const SITES: usize = 6;
 const DIFFERENCE: Range<usize> = 8..12;
 /// In edition `GCR1`, which has none, these bytes are zero.
 const OPENINGS: Range<usize> = 12..144;
 
-/// The most events that a record has.
-pub const EVENTS_MOST: usize = 256;
+/// The most events that a record has: 384, of the latest edition. [`Edition::events_most`] tells them of each.
+pub const EVENTS_MOST: usize = Edition::Gcr3.events_most();
 
 /// All that a record says: it is read from the bytes of a record that passes its questions, or filled in by a host.
 ///
@@ -68,7 +67,8 @@ impl Record {
         let refused = Refusal { number: 5, place: 0 }; // by no record that passed
         let edition = Edition::of(bytes).ok_or(refused)?;
         let openings = Openings::from_bytes(&bytes[OPENINGS]).ok_or(refused)?;
-        let events = (0..count(bytes).into()).map(|number| Event::from_slot(&bytes[slot(number)])).collect();
+        let slots = Slots::of(edition);
+        let events = (0..count(bytes).into()).map(|number| Event::from_slot(&bytes[slots.at(number)])).collect();
         Ok(Record { edition, sites: bytes[SITES], difference: difference(bytes), openings, events })
     }
 
@@ -103,8 +103,9 @@ impl Record {
     ///
     /// # Errors
     ///
-    /// By 3 to 10, where a record cannot say this: with 257 events, or with openings in edition `GCR1`, by 5, with
-    /// a site that is not there by 7 and so on. What is answered is what [`read`](crate::read()) finds of the bytes.
+    /// By 3 to 10, where a record cannot say this: with 257 events in edition `GCR2`, or with openings in `GCR1`, by 5,
+    /// with a site that is not there by 7 and so on. What is answered is what [`read`](crate::read()) finds of the
+    /// bytes.
     ///
     /// ```
     /// use gcr::{Edition, Event, Record};
@@ -115,7 +116,8 @@ impl Record {
     /// assert_eq!(record.encode().unwrap_err().number, 8); // both are first in arbitration
     /// ```
     pub fn encode(&self) -> Result<Vec<u8>, Refusal> {
-        let mut bytes = vec![0; BLOCK * (1 + self.events.len().div_ceil(SLOTS))];
+        let slots = Slots::of(self.edition);
+        let mut bytes = vec![0; slots.record_bytes(self.events.len())];
         bytes[..COUNT.start].copy_from_slice(self.edition.letters().as_bytes());
         // more than fit into 16 bits are more than fit into a record, which question 3 asks first
         bytes[COUNT].copy_from_slice(&(self.events.len() as u16).to_le_bytes());
@@ -123,16 +125,10 @@ impl Record {
         bytes[DIFFERENCE].copy_from_slice(&self.difference.to_le_bytes());
         bytes[OPENINGS].copy_from_slice(self.openings.as_bytes());
         for (number, event) in self.events.iter().enumerate() {
-            event.store(&mut bytes[slot(number)]);
+            event.store(number, &mut bytes[slots.at(number)]);
         }
         seal(&mut bytes);
         read(&bytes, &mut [0; WORK_WORDS])?;
         Ok(bytes)
     }
-}
-
-/// Where an event's slot is.
-fn slot(number: usize) -> Range<usize> {
-    let at = BLOCK * (1 + number / SLOTS) + SLOT * (number % SLOTS);
-    at..at + SLOT
 }

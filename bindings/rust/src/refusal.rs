@@ -18,8 +18,8 @@ impl Refusal {
     /// The refusal in plain words.
     ///
     /// ```
-    /// let refusal = gcr::read(&[], &mut [0; 1024]).unwrap_err();
-    /// assert_eq!(refusal.sentence(), "The record's length is not a multiple of 512 from 512 to 19,456 bytes.");
+    /// let refusal = gcr::read(&[], &mut [0; gcr::WORK_WORDS]).unwrap_err();
+    /// assert_eq!(refusal.sentence(), "The record's length is not a multiple of 512 from 512 to 33,280 bytes.");
     /// ```
     pub fn sentence(&self) -> &'static str {
         let mut entries = LIST.split("\nGCR_REFUSAL(").skip(1);

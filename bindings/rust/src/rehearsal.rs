@@ -17,7 +17,7 @@ pub struct Rehearsed {
 }
 
 /// Runs a script over a store of so many sites, at each of which objects start with their openings. The record of it,
-/// of edition `GCR2` and with a [`difference`](crate::difference()) of 0, goes to `record`, which has
+/// of edition `GCR3` and with a [`difference`](crate::difference()) of 0, goes to `record`, which has
 /// [`RECORD_MOST`](crate::RECORD_MOST) bytes or more, and an answer for each call to `answers`, which is at least as
 /// long as the script; bytes beyond what is written stay. A call that is refused changes only its own answer.
 ///
@@ -79,7 +79,7 @@ pub struct Rehearsed {
 /// let mut record = [7; RECORD_MOST];
 /// let empty = rehearse(1, &Openings::none(), &[], &mut record, &mut [])?;
 /// assert_eq!((empty.length, empty.outstanding), (512, 0));
-/// assert_eq!(&record[..4], b"GCR2");
+/// assert_eq!(&record[..4], b"GCR3");
 /// assert_eq!(record[512], 7);
 ///
 /// let refusal = rehearse(9, &Openings::none(), &[], &mut record, &mut []).unwrap_err();

@@ -11,10 +11,10 @@ const BYTES: usize = EVENTS_MOST / 8;
 /// ```
 /// use gcr::VisibleSet;
 ///
-/// let seen: VisibleSet = [0, 7, 255].into_iter().collect();
+/// let seen: VisibleSet = [0, 7, 383].into_iter().collect();
 /// assert!(seen.contains(7) && !seen.contains(8));
-/// assert_eq!(seen.iter().collect::<Vec<_>>(), [0, 7, 255]);
-/// assert_eq!(VisibleSet::none().with(256), None);
+/// assert_eq!(seen.iter().collect::<Vec<_>>(), [0, 7, 383]);
+/// assert_eq!(VisibleSet::none().with(384), None);
 /// ```
 #[derive(Clone, Copy, PartialEq, Eq, Hash)]
 pub struct VisibleSet {
@@ -52,7 +52,10 @@ impl VisibleSet {
         (0..EVENTS_MOST as u16).filter(|&event| self.contains(event))
     }
 
-    pub(crate) fn from_bytes(bytes: [u8; BYTES]) -> VisibleSet {
+    /// From a slot, which may have bits for fewer events.
+    pub(crate) fn from_bytes(stored: &[u8]) -> VisibleSet {
+        let mut bytes = [0; BYTES];
+        bytes[..stored.len()].copy_from_slice(stored);
         VisibleSet { bytes }
     }
 
@@ -78,7 +81,7 @@ impl FromIterator<u16> for VisibleSet {
     }
 }
 
-/// The events that are seen: `{0, 7, 255}`.
+/// The events that are seen: `{0, 7, 383}`.
 impl fmt::Debug for VisibleSet {
     fn fmt(&self, f: &mut fmt::Formatter<'_>) -> fmt::Result {
         f.debug_set().entries(self.iter()).finish()

@@ -1,11 +1,13 @@
 //! Records of sites whose clocks may differ.
 
 mod changing;
+mod editions;
 mod sealing;
 
 use changing::changed;
+use editions::in_edition;
 use gcr::{difference, judge_all, judge_model, judge_predicate, read, rehearse, with_difference};
-use gcr::{Model, Openings, Predicate, Refusal, Verdict, RECORD_MOST, WORK_WORDS};
+use gcr::{Edition, Model, Openings, Predicate, Refusal, Verdict, RECORD_MOST, WORK_WORDS};
 use sealing::sealed;
 
 const LISTING: &[u8] = include_bytes!("../../../records/listing.gcr");
@@ -24,7 +26,7 @@ const BROKEN: Verdict = Verdict::Broken { a: 0, b: 1 };
 const BY_CLOCKS: [Model; 3] = [Model::Linearizable, Model::Regular, Model::RealTimeCausal];
 
 fn apart(record: &[u8], difference: u32) -> Vec<u8> {
-    with_difference(record, difference).expect("it is of edition GCR2")
+    with_difference(record, difference).expect("it is of edition GCR2 or GCR3")
 }
 
 /// Predicates 3 and 4.
@@ -42,7 +44,15 @@ fn a_record_tells_its_difference() {
         assert_eq!(record[8..12], number.to_le_bytes());
         assert_eq!(read(&record, &mut [0; WORK_WORDS]), Ok(()));
     }
-    assert_eq!([&[][..], b"GCR2", b"GCR1    \x01\0\0\0"].map(difference), [0; 3]);
+    assert_eq!([&[][..], b"GCR2", b"GCR3", b"GCR1    \x01\0\0\0", b"GCR4    \x01\0\0\0"].map(difference), [0; 5]);
+}
+
+#[test]
+fn edition_3_has_a_difference_as_edition_2_has() {
+    let [clocks, early_read] = [CLOCKS, EARLY_READ].map(|record| in_edition(Edition::Gcr3, record));
+    assert_eq!([&clocks[..], &early_read].map(difference), [40, 39]);
+    assert_eq!(apart(&clocks, 39), early_read);
+    assert_eq!((timed(&clocks), timed(&early_read)), ([Verdict::Met; 2], [BROKEN; 2]));
 }
 
 #[test]

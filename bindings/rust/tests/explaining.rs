@@ -4,7 +4,7 @@ mod changing;
 mod sealing;
 
 use changing::changed;
-use gcr::{explain, judge_predicate, rehearse, script, Call, Openings, Predicate, Refusal, Verdict, RECORD_MOST};
+use gcr::{explain, judge_predicate, Edition, Event, Predicate, Record, Refusal, Verdict};
 
 /// Six events of two sites. Event 1 is before event 0 in arbitration.
 const OPENING: &[u8] = include_bytes!("../../../records/opening.gcr");
@@ -148,22 +148,26 @@ fn the_middle_event_is_the_lowest_that_returned_in_time() {
     assert_eq!(told([4, 4, 4]), refused(42, 0));
 }
 
-/// Each event sees the one before it alone, and event 255 returned before event 0 started.
+/// So many reads of one site. Each sees the one before it alone, and the last returned before event 0 started.
+fn ring(edition: Edition, count: u16) -> Vec<u8> {
+    let mut record = Record::new(edition, 1);
+    for number in 0..count {
+        let mut read = Event::blank();
+        (read.start, read.end) = (if number == 0 { 4 } else { 0 }, Some(if number == count - 1 { 3 } else { 9 }));
+        (read.position, read.visible) = (number, number.checked_sub(1).into_iter().collect());
+        record.push(read);
+    }
+    record.encode().expect("it passes")
+}
+
+/// In the latest edition it fills the slice.
 #[test]
-fn a_ring_through_all_events_fills_the_slice() {
-    let mut record = [0; RECORD_MOST];
-    let gets = script(&[Call::Get { site: 0, object: 0 }; 256]);
-    rehearse(1, &Openings::none(), &gets, &mut record, &mut vec![0; gets.len()]).expect("it is done");
-    let times = |event| match event {
-        0 => lasting(event, 4, 9),
-        255 => lasting(event, 0, 3),
-        _ => lasting(event, 0, 9),
-    };
-    let before = |event: usize| event.checked_sub(1).into_iter().collect::<Vec<_>>();
-    let changes = (0..256).flat_map(|event| [&seeing(event, &before(event))[..], &times(event)].concat());
-    let ring = changed(&record, &changes.collect::<Vec<_>>());
-    let all: Vec<u16> = (1..256).chain([0]).collect();
-    assert_eq!(judge_predicate(Predicate::CausalVisibility, &ring), Ok(Verdict::Broken { a: 0, b: 0 }));
-    assert_eq!(explain(Predicate::CausalVisibility, &ring), Ok(all.clone()));
-    assert_eq!(explain(Predicate::CausalArbitration, &ring), Ok(all));
+fn a_ring_through_all_events_is_told_by_all_of_them() {
+    for &edition in Edition::ALL {
+        let count = edition.events_most() as u16;
+        let (ring, all): (_, Vec<u16>) = (ring(edition, count), (1..count).chain([0]).collect());
+        assert_eq!(judge_predicate(Predicate::CausalVisibility, &ring), Ok(Verdict::Broken { a: 0, b: 0 }));
+        assert_eq!(explain(Predicate::CausalVisibility, &ring), Ok(all.clone()), "{edition}");
+        assert_eq!(explain(Predicate::CausalArbitration, &ring), Ok(all), "{edition}");
+    }
 }

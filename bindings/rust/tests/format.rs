@@ -1,6 +1,9 @@
 //! The dumps of docs/FORMAT.md are the bytes that they say they are, and so is its way to compute a block's check.
 
-use gcr::{rehearse_raw, Call, OPENINGS_BYTES, RECORD_MOST};
+mod editions;
+
+use editions::in_edition;
+use gcr::{rehearse_raw, Call, Edition, OPENINGS_BYTES, RECORD_MOST};
 
 const PAGE: &str = include_str!("../../../docs/FORMAT.md");
 const EMPTY: &[u8] = include_bytes!("../../../records/empty-one-site.gcr");
@@ -32,12 +35,17 @@ fn dump(name: &str, length: usize) -> Vec<u8> {
     bytes
 }
 
-/// Of what `rehearse` reads.
-fn answers(input: &[u8]) -> Vec<u8> {
+/// Of what `rehearse` reads: the record, and the answers.
+fn rehearsed(input: &[u8]) -> (Vec<u8>, Vec<u8>) {
     let (openings, script) = (&input[1..SCRIPT_AT], &input[SCRIPT_AT..]);
-    let mut buffer = vec![0; script.len()];
-    rehearse_raw(input[0].into(), openings, script, &mut [0; RECORD_MOST], &mut buffer).unwrap();
-    buffer
+    let (mut record, mut buffer) = (vec![0; RECORD_MOST], vec![0; script.len()]);
+    let done = rehearse_raw(input[0].into(), openings, script, &mut record, &mut buffer).unwrap();
+    record.truncate(done.length);
+    (record, buffer)
+}
+
+fn answers(input: &[u8]) -> Vec<u8> {
+    rehearsed(input).1
 }
 
 #[test]
@@ -48,6 +56,19 @@ fn dumps_are_the_bytes_of_their_files() {
     assert_eq!(dump("records/opening.gcr", OPENING.len()), OPENING);
     assert_eq!(dump("records/opening.script", OPENING_SCRIPT.len()), OPENING_SCRIPT);
     assert_eq!(dump("records/clocks.gcr", CLOCKS.len()), CLOCKS);
+}
+
+#[test]
+fn the_listing_is_shown_in_the_older_edition_too() {
+    assert_eq!(dump("the listing in GCR2", LISTING.len()), in_edition(Edition::Gcr2, LISTING));
+    let first = in_edition(Edition::Gcr1, LISTING);
+    assert_eq!((first[3], &first[508..512]), (0x31, &[0xa1, 0x74, 0x19, 0x8d][..]));
+}
+
+#[test]
+fn scripts_leave_their_records() {
+    assert_eq!(rehearsed(LISTING_SCRIPT).0, LISTING);
+    assert_eq!(rehearsed(OPENING_SCRIPT).0, OPENING);
 }
 
 #[test]
@@ -82,7 +103,7 @@ fn check(number: usize, block: &[u8]) -> (u32, u32) {
 #[test]
 fn checks_are_as_the_page_computes_them() {
     let stored = |at: &[u8]| u32::from(at[0]) + 256 * u32::from(at[1]);
-    for record in [EMPTY, LISTING, OPENING, CLOCKS] {
+    for record in [EMPTY, LISTING, &in_edition(Edition::Gcr2, LISTING), OPENING, CLOCKS] {
         for (number, block) in record.chunks(512).enumerate() {
             assert_eq!(check(number, block), (stored(&block[508..]), stored(&block[510..])));
         }

@@ -56,6 +56,16 @@ fn a_read_lays_out_who_sees_whom() {
     assert_eq!(work[WORK_WORDS], u64::MAX);
 }
 
+/// Event 2 of the record sees event 1 alone, and event 1 event 0; there are three.
+#[test]
+fn a_row_has_six_words_in_an_older_edition_too() {
+    let mut work = [u64::MAX; WORK_WORDS + 1];
+    assert_eq!(read(STALE_READ, &mut work), Ok(()));
+    let mut due = [0; WORK_WORDS + 1];
+    (due[6], due[12], due[WORK_WORDS]) = (1, 2, u64::MAX);
+    assert_eq!(work, due);
+}
+
 #[test]
 fn refusals_carry_number_and_place() {
     let mut short = [7; WORK_WORDS - 1];

@@ -1,9 +1,11 @@
 //! Openings: what they hold, what gets find of them, and what a judge expects of reads.
 
+mod editions;
 mod sealing;
 
+use editions::in_edition;
 use gcr::{answers, judge_all, judge_model, judge_predicate, rehearse, rehearse_raw, script};
-use gcr::{Answer, Call, Model, Openings, Predicate, Refusal, Verdict, OPENINGS_BYTES, RECORD_MOST};
+use gcr::{Answer, Call, Edition, Model, Openings, Predicate, Refusal, Verdict, OPENINGS_BYTES, RECORD_MOST};
 use sealing::sealed;
 
 const OPENING: &[u8] = include_bytes!("../../../records/opening.gcr");
@@ -181,15 +183,19 @@ fn the_script_with_openings_gives_its_record_and_answers() {
 /// Each is the lowest read that is wrong then: event 0 of object 5, event 4 of object 31, event 5 of object 7.
 #[test]
 fn a_read_that_sees_no_write_should_hold_its_objects_opening() {
-    let judged = |openings: Option<Openings>| judge_predicate(Predicate::RVal, &reopened(OPENING, &openings.unwrap()));
-    let broken = |read| Ok(Verdict::Broken { a: read, b: read });
-    let five = || Openings::none().with(5, 300);
-    assert_eq!(judged(five().and_then(|openings| openings.with(31, 0))), Ok(Verdict::Met));
-    assert_eq!(judged(Some(Openings::none())), broken(0));
-    assert_eq!(judged(Openings::none().with(5, 350)), broken(0));
-    assert_eq!(judged(five()), broken(4));
-    assert_eq!(judged(five().and_then(|openings| openings.with(31, 1))), broken(4));
-    assert_eq!(judged(five().and_then(|openings| openings.with(31, 0)?.with(7, 0))), broken(5));
+    for edition in [Edition::Gcr2, Edition::Gcr3] {
+        let record = in_edition(edition, OPENING);
+        let judged =
+            |openings: Option<Openings>| judge_predicate(Predicate::RVal, &reopened(&record, &openings.unwrap()));
+        let broken = |read| Ok(Verdict::Broken { a: read, b: read });
+        let five = || Openings::none().with(5, 300);
+        assert_eq!(judged(five().and_then(|openings| openings.with(31, 0))), Ok(Verdict::Met));
+        assert_eq!(judged(Some(Openings::none())), broken(0));
+        assert_eq!(judged(Openings::none().with(5, 350)), broken(0));
+        assert_eq!(judged(five()), broken(4));
+        assert_eq!(judged(five().and_then(|openings| openings.with(31, 1))), broken(4));
+        assert_eq!(judged(five().and_then(|openings| openings.with(31, 0)?.with(7, 0))), broken(5));
+    }
 }
 
 #[test]
@@ -200,17 +206,30 @@ fn a_read_that_sees_a_write_should_not_hold_the_opening() {
 }
 
 #[test]
-fn block_0_has_openings_in_edition_2_alone_and_no_value_without_its_bit() {
-    let asked = |at: usize, byte: u8| {
-        let mut record = OPENING.to_vec();
-        record[at] = byte;
-        judge_model(Model::Causal, &sealed(record))
-    };
-    for (at, byte) in [(3, b'1'), (3, b'3'), (7, 1), (16, 1), (143, 1), (144, 1), (507, 1)] {
-        let verdict = asked(at, byte);
-        // Object 31 has the last value and an opening, so that its value may be any.
-        let due = if at == 143 { Ok(Verdict::Broken { a: 4, b: 4 }) } else { Err(refused(5)) };
-        assert_eq!(verdict, due, "byte {at} is {byte}");
+fn block_0_has_openings_from_edition_2_on_and_no_value_without_its_bit() {
+    for edition in [Edition::Gcr2, Edition::Gcr3] {
+        let asked = |at: usize, byte: u8| {
+            let mut record = in_edition(edition, OPENING);
+            record[at] = byte;
+            judge_model(Model::Causal, &sealed(record))
+        };
+        for (at, byte) in [(3, b'1'), (3, b'4'), (7, 1), (16, 1), (143, 1), (144, 1), (507, 1)] {
+            let verdict = asked(at, byte);
+            // Object 31 has the last value and an opening, so that its value may be any.
+            let due = if at == 143 { Ok(Verdict::Broken { a: 4, b: 4 }) } else { Err(refused(5)) };
+            assert_eq!(verdict, due, "byte {at} of {edition} is {byte}");
+        }
+        assert_eq!(asked(12, 0), Err(refused(5)));
     }
-    assert_eq!(asked(12, 0), Err(refused(5)));
+}
+
+/// Two editions whose headers are laid out alike differ in their slots: slot 1 is where the other has bytes of slot 0.
+#[test]
+fn the_letters_of_another_edition_are_refused_for_its_slots() {
+    for (edition, letter) in [(Edition::Gcr2, b'3'), (Edition::Gcr3, b'2')] {
+        let mut record = in_edition(edition, OPENING);
+        record[3] = letter;
+        let refusal = judge_model(Model::Causal, &sealed(record)).unwrap_err();
+        assert_eq!(refusal.number, 7, "{edition}: {refusal}");
+    }
 }

@@ -1,9 +1,14 @@
 //! What records say, and that it leads back to their bytes.
 
-use gcr::{broken_by, is_visible, judge_model, judge_predicate, rehearse, script, Model, Predicate, Verdict};
-use gcr::{Call, Edition, Event, Kind, Openings, Record, VisibleSet, RECORD_MOST, WORK_WORDS};
+use gcr::{broken_by, explain, is_visible, judge_all, judge_model, judge_predicate, rehearse, script};
+use gcr::{Call, Edition, Event, Kind, Model, Openings, Predicate, Record, Refusal, Verdict, VisibleSet};
+use gcr::{EVENTS_MOST, RECORD_MOST, WORK_WORDS};
 
+mod editions;
+mod sealing;
 mod shipped;
+use editions::in_edition;
+use sealing::sealed;
 use shipped::shipped;
 
 #[test]
@@ -21,7 +26,7 @@ fn events_see_what_the_library_lays_out() {
         let mut work = [0; WORK_WORDS];
         gcr::read(&bytes, &mut work).unwrap();
         for (b, event) in Record::read(&bytes).unwrap().events() {
-            let seen: Vec<u16> = (0..=255).filter(|&a| is_visible(&work, a, b)).collect();
+            let seen: Vec<u16> = (0..EVENTS_MOST as u16).filter(|&a| is_visible(&work, a, b)).collect();
             assert_eq!(event.visible.iter().collect::<Vec<_>>(), seen, "{name}, event {b}");
         }
     }
@@ -30,7 +35,7 @@ fn events_see_what_the_library_lays_out() {
 /// The longest record that a rehearsal leaves.
 fn longest() -> Vec<u8> {
     let call = |k: u32| Call::Put { site: (k % 8) as u8, object: (k % 32) as u8, value: u32::MAX - k };
-    let calls: Vec<Call> = (0..256).map(call).collect();
+    let calls: Vec<Call> = (0..EVENTS_MOST as u32).map(call).collect();
     let script = script(&calls);
     let openings = Openings::none().with(0, 0).and_then(|openings| openings.with(31, u32::MAX)).unwrap();
     let mut record = vec![0; RECORD_MOST];
@@ -39,15 +44,103 @@ fn longest() -> Vec<u8> {
 }
 
 #[test]
-fn the_longest_record_and_more_events_than_it_has() {
+fn the_longest_record_that_a_rehearsal_leaves() {
     let bytes = longest();
-    let mut record = Record::read(&bytes).unwrap();
+    let record = Record::read(&bytes).unwrap();
+    assert_eq!((record.edition, record.count(), bytes.len()), (Edition::Gcr3, EVENTS_MOST, RECORD_MOST));
     assert_eq!(record.encode(), Ok(bytes));
-    for (count, number) in [(257, 5), (259, 5), (260, 3), (65_536 + 1, 3)] {
-        while record.count() < count {
-            record.push(Event::blank());
+}
+
+/// As much of it as the documentation says.
+#[test]
+fn the_longest_record_is_judged_on_a_stack_of_256_kb() {
+    let bytes = longest();
+    let asked = move || {
+        for &predicate in Predicate::ALL {
+            assert_eq!(explain(predicate, &bytes).is_ok(), judge_predicate(predicate, &bytes) != Ok(Verdict::Met));
         }
-        assert_eq!(record.encode().unwrap_err().number, number, "{count} events");
+        (judge_all(&bytes).is_ok(), Record::read(&bytes).is_ok())
+    };
+    let thread = std::thread::Builder::new().stack_size(256 * 1024).spawn(asked).unwrap();
+    assert_eq!(thread.join().unwrap(), (true, true));
+}
+
+/// So many writes of one site, each of which sees all before it.
+fn rising(edition: Edition, count: usize) -> Record {
+    let mut record = Record::new(edition, 1);
+    let mut seen = VisibleSet::none();
+    for number in 0..count as u64 {
+        let mut write = Event::blank();
+        (write.kind, write.value, write.position) = (Kind::Write, Some(7), number as u16);
+        (write.start, write.end, write.visible) = (2 * number, Some(2 * number + 1), seen);
+        record.push(write);
+        seen = seen.with(number as u16).unwrap_or(seen);
+    }
+    record
+}
+
+/// Whole blocks, one more, and as many events as there can be.
+#[test]
+fn each_edition_has_as_many_events_as_it_says() {
+    for (edition, in_a_block) in [(Edition::Gcr1, 7), (Edition::Gcr2, 7), (Edition::Gcr3, 6)] {
+        for count in [0, 1, 6, 7, 8, edition.events_most() - 1, edition.events_most()] {
+            let record = rising(edition, count);
+            let bytes = record.encode().unwrap_or_else(|refusal| panic!("{count} in {edition}: {refusal}"));
+            assert_eq!(bytes.len(), 512 * (1 + usize::div_ceil(count, in_a_block)), "{count} in {edition}");
+            assert_eq!(bytes[..6], [edition.letters().as_bytes(), &(count as u16).to_le_bytes()].concat());
+            assert_eq!(Record::read(&bytes), Ok(record), "{count} in {edition}");
+            assert_eq!(judge_all(&bytes), Ok([Verdict::Met; 13]), "{count} in {edition}");
+        }
+    }
+}
+
+/// Of the older editions 5 refuses them where 3 does not: up to 448 events are no more bytes than a record may have.
+#[test]
+fn more_events_than_an_edition_has_are_refused() {
+    for (edition, count, number) in [
+        (Edition::Gcr1, 257, 5),
+        (Edition::Gcr2, 257, 5),
+        (Edition::Gcr2, 300, 5),
+        (Edition::Gcr2, 384, 5),
+        (Edition::Gcr2, 448, 5),
+        (Edition::Gcr2, 449, 3),
+        (Edition::Gcr3, 385, 3),
+        (Edition::Gcr3, 65_536 + 1, 3),
+    ] {
+        let refusal = rising(edition, count).encode().unwrap_err();
+        assert_eq!(refusal, Refusal { number, place: 0 }, "{count} in {edition}");
+    }
+    for edition in Edition::ALL {
+        let mut bytes = rising(*edition, edition.events_most()).encode().unwrap();
+        bytes[4..6].copy_from_slice(&(edition.events_most() as u16 + 1).to_le_bytes());
+        assert_eq!(Record::read(&sealed(bytes)), Err(Refusal { number: 5, place: 0 }), "{edition}");
+    }
+}
+
+/// Slots of the older editions have no bit for it.
+#[test]
+fn an_event_that_is_not_there_is_seen_in_no_edition() {
+    for &edition in Edition::ALL {
+        for seen in [3, 255, 256, 383] {
+            let mut record = rising(edition, 1);
+            for number in [1, 2] {
+                let mut write = *rising(edition, 3).event(number).unwrap();
+                write.visible = write.visible.with(seen).unwrap();
+                record.push(write);
+            }
+            assert_eq!(record.encode(), Err(Refusal { number: 9, place: 1 }), "{seen} in {edition}");
+        }
+    }
+}
+
+#[test]
+fn a_record_is_judged_alike_in_every_edition_that_can_say_it() {
+    for (name, bytes) in shipped() {
+        let record = Record::read(&bytes).unwrap();
+        let later = Edition::ALL.iter().filter(|&&later| later >= record.edition);
+        for &edition in later.filter(|later| record.count() <= later.events_most()) {
+            assert_eq!(judge_all(&in_edition(edition, &bytes)), judge_all(&bytes), "{name} in {edition}");
+        }
     }
 }
 
@@ -122,13 +215,15 @@ fn names_lead_back_to_what_has_them() {
     for word in ["", "14", "0", "-1", "+5", "RVal2", "causal causal"] {
         assert!(word.parse::<Predicate>().is_err() && word.parse::<Model>().is_err(), "{word}");
     }
-    assert_eq!("gcr1".parse(), Ok(Edition::Gcr1));
-    assert!("GCR9".parse::<Edition>().is_err());
+    for &edition in Edition::ALL {
+        assert_eq!(edition.letters().to_lowercase().parse(), Ok(edition));
+    }
+    assert!("GCR4".parse::<Edition>().is_err());
 }
 
 #[test]
 fn a_visible_set_has_no_event_beyond_a_record() {
-    assert_eq!(VisibleSet::none().with(255).map(|seen| seen.contains(255)), Some(true));
-    assert_eq!([256, u16::MAX].map(|event| VisibleSet::none().with(event)), [None; 2]);
+    assert_eq!(VisibleSet::none().with(383).map(|seen| seen.contains(383)), Some(true));
+    assert_eq!([384, u16::MAX].map(|event| VisibleSet::none().with(event)), [None; 2]);
     assert!(!VisibleSet::none().contains(u16::MAX));
 }

@@ -68,6 +68,6 @@ fn a_refusal_prints_number_place_and_sentence() {
 #[test]
 fn a_refusal_has_its_sentence_where_it_is_debugged() {
     let refusal = gcr::judge_all(&[]).unwrap_err();
-    let sentence = "The record's length is not a multiple of 512 from 512 to 19,456 bytes.";
+    let sentence = "The record's length is not a multiple of 512 from 512 to 33,280 bytes.";
     assert_eq!(format!("{refusal:?}"), format!("Refusal {{ number: 3, place: 0, sentence: {sentence:?} }}"));
 }

@@ -1,7 +1,7 @@
 //! Rehearsals through the library.
 
 use gcr::{answers, judge_model, rehearse, script, Answer, Call, Model, Openings, Refusal, Verdict};
-use gcr::{OPENINGS_BYTES, RECORD_MOST, SCRIPT_MOST};
+use gcr::{EVENTS_MOST, OPENINGS_BYTES, RECORD_MOST, SCRIPT_MOST};
 
 const LISTING: &[u8] = include_bytes!("../../../records/listing.gcr");
 const LISTING_SCRIPT: &[u8] = include_bytes!("../../../records/listing.script");
@@ -116,13 +116,13 @@ fn refused_calls_answer_with_their_number() {
 }
 
 #[test]
-fn the_257th_event_is_refused() {
-    let script = script(&[get(0); 257]);
+fn the_385th_event_is_refused() {
+    let script = script(&[get(0); EVENTS_MOST + 1]);
     let mut buffer = vec![0; script.len()];
     let done = rehearse(1, NONE, &script, &mut [0; RECORD_MOST], &mut buffer).unwrap();
     assert_eq!((done.length, done.outstanding), (RECORD_MOST, 0));
-    let last: Vec<_> = answers(&script, &buffer).skip(255).collect();
-    assert_eq!(last, [Answer::Get { event: 255, value: None }, refused(34)]);
+    let last: Vec<_> = answers(&script, &buffer).skip(383).collect();
+    assert_eq!(last, [Answer::Get { event: 383, value: None }, refused(34)]);
 }
 
 #[test]
@@ -156,10 +156,26 @@ fn each_put_is_outstanding_at_the_sites_that_lack_it() {
     assert_eq!(outstanding(1, &[put(0, 1), put(0, 2)]), 0);
 }
 
+/// As many as there can be, at eight sites in turn.
+fn full_of_puts() -> Vec<Call> {
+    (0..EVENTS_MOST as u32).map(|k| put((k % 8) as u8, k)).collect()
+}
+
 #[test]
 fn a_full_store_of_puts_is_outstanding_at_seven_sites() {
-    let calls: Vec<_> = (0..=255).map(|k| put(k % 8, u32::from(k))).collect();
-    assert_eq!(outstanding(8, &calls), 256 * 7);
+    assert_eq!(outstanding(8, &full_of_puts()), 384 * 7);
+}
+
+/// Events from 256 on are delivered by numbers of two bytes.
+#[test]
+fn the_last_event_is_delivered() {
+    let puts = vec![put(0, 1); EVENTS_MOST];
+    let deliver = |event| Call::Deliver { site: 1, event };
+    let deliveries = (0..EVENTS_MOST as u16).map(deliver);
+    let calls: Vec<_> = puts.into_iter().chain(deliveries).chain([deliver(384), Call::Close]).collect();
+    let last = &answered(2, &calls)[2 * EVENTS_MOST - 1..];
+    assert_eq!(last, [Answer::Delivered, refused(33), Answer::Closed { copies: 0 }]);
+    assert_eq!(outstanding(2, &calls[..2 * EVENTS_MOST - 1]), 1);
 }
 
 #[test]
@@ -170,10 +186,10 @@ fn one_site_lacks_nothing() {
 
 #[test]
 fn a_full_store_is_closed() {
-    let mut calls: Vec<_> = (0..=255).map(|k| put(k % 8, u32::from(k))).collect();
+    let mut calls = full_of_puts();
     calls.extend([put(0, 1), Call::Close, Call::Close]);
-    let last = &answered(8, &calls)[256..];
-    assert_eq!(last, [refused(34), Answer::Closed { copies: 256 * 7 }, Answer::Closed { copies: 0 }]);
+    let last = &answered(8, &calls)[EVENTS_MOST..];
+    assert_eq!(last, [refused(34), Answer::Closed { copies: 384 * 7 }, Answer::Closed { copies: 0 }]);
 }
 
 #[test]

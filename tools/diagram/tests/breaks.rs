@@ -120,6 +120,7 @@ fn of_long_chains() -> Vec<Case> {
         (10, long_chain(8), "event 1 does not see event 0, though event 0 leads to event 1 by visibility through events 2, 3, 4, 5, 6, 7"),
         (10, long_chain(9), "event 1 does not see event 0, though event 0 leads to event 1 by visibility through events 2, 3, 4, 5, 6 and 2 more, the last of them event 8"),
         (10, long_chain(256), "event 1 does not see event 0, though event 0 leads to event 1 by visibility through events 2, 3, 4, 5, 6 and 249 more, the last of them event 255"),
+        (10, long_chain(384), "event 1 does not see event 0, though event 0 leads to event 1 by visibility through events 2, 3, 4, 5, 6 and 377 more, the last of them event 383"),
     ]
 }
 

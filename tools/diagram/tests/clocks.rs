@@ -24,7 +24,7 @@ fn tells(drawing: &Drawing, difference: u32) {
 fn the_title_and_the_legend_tell_a_difference_and_nothing_of_none() {
     let (mut with, mut without) = (0, 0);
     for record in records::random().map(|(_, record)| record).chain(records::shipped()) {
-        let difference = record.edition.difference();
+        let difference = record.difference;
         tells(&plain(&record), difference);
         *if difference > 0 { &mut with } else { &mut without } += 1;
     }
@@ -61,8 +61,8 @@ fn the_sentences_of_3_and_4_are_true_by_any_difference() {
 /// What a difference does not change: marks, arrows, and the breaks of other predicates than 3 and 4.
 #[test]
 fn a_difference_leaves_the_rest_of_a_picture() {
-    let bare = |record: &Record| Record { edition: Edition::Gcr1, ..record.clone() };
-    for (seed, record) in records::random().filter(|(_, record)| record.edition.difference() > 0) {
+    let bare = |record: &Record| record.clone().in_edition(Edition::GCR1);
+    for (seed, record) in records::random().filter(|(_, record)| record.difference > 0) {
         let even = record.clone().apart(0);
         for predicate in (1..=13).filter(|predicate| ![3, 4].contains(predicate)) {
             let (one, other) = (asked(predicate, &record), asked(predicate, &even));

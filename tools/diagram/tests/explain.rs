@@ -68,7 +68,7 @@ fn is_kind(predicate: u32, at: usize, line: &Line, is_seen: bool) -> bool {
 }
 
 fn clocks(record: &Record) -> Option<String> {
-    let most = record.edition.difference();
+    let most = record.difference;
     (most > 0).then(|| format!("times are by each site's own clock, and clocks may differ by {most} ms"))
 }
 

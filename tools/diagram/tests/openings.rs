@@ -17,7 +17,7 @@ fn sees_write(record: &Record, read: &Event) -> bool {
 }
 
 fn due(record: &Record) -> Vec<usize> {
-    let opening = |event: &Event| record.edition.openings().of(event.object.into());
+    let opening = |event: &Event| record.openings.of(event.object.into());
     let is_due = |event: &Event| event.value.is_some() && event.value == opening(event) && !sees_write(record, event);
     (0..record.events.len())
         .filter(|&number| record.events[number].is_read() && is_due(&record.events[number]))

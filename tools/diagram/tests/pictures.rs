@@ -89,9 +89,9 @@ fn labels_are_those_of_the_events() {
 
 #[test]
 fn a_refused_record_gives_no_picture() {
-    let length = "refused 3 0: The record's length is not a multiple of 512 from 512 to 19,456 bytes.";
+    let length = "refused 3 0: The record's length is not a multiple of 512 from 512 to 33,280 bytes.";
     assert_eq!(refused(&[], Asked::Nothing), length);
-    assert_eq!(refused(&[0; 20_000], Asked::Model(Model::Causal)), length);
+    assert_eq!(refused(&[0; gcr::RECORD_MOST + 512], Asked::Model(Model::Causal)), length);
     let mut damaged = LISTING.to_vec();
     damaged[600] ^= 1;
     assert!(refused(&damaged, Asked::Predicate(Predicate::RVal)).starts_with("refused 4 1: "));

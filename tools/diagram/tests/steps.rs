@@ -104,7 +104,7 @@ fn the_steps_of_a_picture_are_what_is_told_of_the_break() {
     }
     assert!(long >= 50 && rings >= 50 && middles >= 50, "{long}, {rings}, {middles}");
     let longest = |case: &Case| case.pictures.iter().map(|picture| picture.1.len()).max();
-    assert_eq!(cases().iter().filter_map(longest).max(), Some(257));
+    assert_eq!(cases().iter().filter_map(longest).max(), Some(385));
 }
 
 #[test]

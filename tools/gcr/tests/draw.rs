@@ -166,7 +166,7 @@ fn words_that_are_not_understood_get_the_nearest_right_one() {
 fn a_refused_record_leaves_the_file_as_it_was() {
     let folder = Folder::new();
     let path = folder.file("picture.svg", "<svg>");
-    let sentence = "refused 3 0: The record's length is not a multiple of 512 from 512 to 19,456 bytes.";
+    let sentence = "refused 3 0: The record's length is not a multiple of 512 from 512 to 33,280 bytes.";
     piped(&["draw", "-o", &path], &[1; 700]).ended(2, &format!("standard input: {sentence}"));
     assert_eq!(fs::read_to_string(&path).expect("it is there"), "<svg>");
 }

@@ -39,6 +39,32 @@ fn without_an_option_the_causal_model_is_told() {
     }
 }
 
+/// The text of so many reads of one site. Each sees the one before it alone, and the last returned before event 0 started.
+fn ring(count: usize) -> String {
+    let row = |number: usize| {
+        let seen = number.checked_sub(1).map_or("-".to_string(), |before| before.to_string());
+        let (start, end) = (if number == 0 { 4 } else { 0 }, if number == count - 1 { 3 } else { 9 });
+        format!("0 read 5 none {start} {end} {number} {seen}\n")
+    };
+    let rows: String = (0..count).map(row).collect();
+    format!("edition GCR3\nsites 1\nsite kind object value start return position sees\n{rows}")
+}
+
+/// From event 0 back to it, by as many steps as there are events.
+#[test]
+fn a_ring_through_all_events_is_told_by_all_of_them() {
+    for count in [2, 6, 7, 256, 257, 383, 384] {
+        let record = piped(&["make"], ring(count).as_bytes()).done().out;
+        let told = piped(&["explain", "--predicate", "10"], &record).ends(1);
+        assert_eq!(told.lines()[0], "standard input: predicate 10 CausalVisibility is broken at event 0");
+        let events: Vec<&str> = told.lines().into_iter().filter_map(|line| line.strip_prefix("  event ")).collect();
+        let numbers: Vec<&str> =
+            events.iter().filter_map(|event| event.split_once(':')).map(|(number, _)| number).collect();
+        let due: Vec<String> = (0..count).chain([0]).map(|number| number.to_string()).collect();
+        assert_eq!(numbers, due, "{count} events");
+    }
+}
+
 #[test]
 fn what_is_met_is_said_to_be() {
     let clocks = "records/clocks.gcr";
@@ -177,7 +203,7 @@ fn what_is_no_record_is_refused() {
     let path = folder.file("damaged.gcr", damaged);
     let sentence = "refused 4 1: The block at this place does not have the check sums of its bytes.";
     gcr(&["explain", &path]).ended(2, &format!("{path}: {sentence}"));
-    let sentence = "refused 3 0: The record's length is not a multiple of 512 from 512 to 19,456 bytes.";
+    let sentence = "refused 3 0: The record's length is not a multiple of 512 from 512 to 33,280 bytes.";
     piped(&["explain", "--all"], &[]).ended(2, &format!("standard input: {sentence}"));
     piped(&["explain"], &[0; 20_000]).ended(2, &format!("standard input: {sentence}"));
 }

@@ -107,7 +107,7 @@ fn the_highest_status_counts() {
 #[test]
 fn a_refusal_has_its_sentence_and_a_missing_file_its_reason() {
     let ran = gcr(&["judge", "README.md", "no-such.gcr"]);
-    let sentence = "The record's length is not a multiple of 512 from 512 to 19,456 bytes.";
+    let sentence = "The record's length is not a multiple of 512 from 512 to 33,280 bytes.";
     assert_eq!(ran.lines()[0], format!("README.md: refused 3 0: {sentence}"));
     assert!(ran.lines()[1].starts_with("no-such.gcr: not read: "), "{}", ran.lines()[1]);
 }
@@ -430,14 +430,14 @@ fn unknown_words_get_the_nearest_right_one() {
     }
 }
 
-/// Records of 256 events, of many shapes.
+/// Records of 384 events, of many shapes.
 fn longest(count: u64) -> Vec<Vec<u8>> {
     use second::generate::{random::Random, shapes};
-    (0..count).map(|seed| shapes::of_either_edition(&mut Random::new(seed), 256).to_bytes()).collect()
+    (0..count).map(|seed| shapes::of_any_edition(&mut Random::new(seed), gcr::EVENTS_MOST).to_bytes()).collect()
 }
 
-/// A season of the longest records, 190 MB in all, under a limit of address space that is half of that. Links stand for
-/// most of them.
+/// A season of the longest records, 333 MB in all, under a limit of address space that is a third of that. Links stand
+/// for most of them.
 #[test]
 fn a_season_goes_through_under_a_limit_of_memory() {
     let folder = Folder::new();

@@ -79,7 +79,7 @@ fn the_page_shows_what_is_written() {
 
 #[test]
 fn the_texts_that_ship_are_the_scripts_that_ship() {
-    for name in ["listing", "closing", "opening"] {
+    for name in ["listing", "closing", "opening", "harvest-day"] {
         let (text, script) = (format!("records/{name}.script.txt"), format!("records/{name}.script"));
         assert_eq!(gcr(&["rehearse", &text, "--bytes-to", "-"]).done().out, bytes(&script), "{name}");
         let (of_text, of_bytes) = (gcr(&["rehearse", &text]), gcr(&["rehearse", "--bytes", &script]));
@@ -90,7 +90,7 @@ fn the_texts_that_ship_are_the_scripts_that_ship() {
 #[test]
 fn the_records_are_those_that_ship() {
     let folder = Folder::new();
-    for name in ["listing", "opening"] {
+    for name in ["listing", "opening", "harvest-day"] {
         let due = bytes(&format!("records/{name}.gcr"));
         let (text, record) = (format!("records/{name}.script.txt"), folder.at("out.gcr"));
         let ran = gcr(&["rehearse", &text, "-o", &record]).done();
@@ -139,16 +139,31 @@ fn refused_calls_are_told_by_number_and_sentence_and_the_script_goes_on() {
 }
 
 #[test]
-fn the_257th_event_is_refused_by_34() {
-    let ran = rehearsed(&format!("sites 1\n{}close\n", "get 0 5\n".repeat(257)));
+fn the_385th_event_is_refused_by_34() {
+    let ran = rehearsed(&format!("sites 1\n{}close\n", "get 0 5\n".repeat(385)));
     assert_eq!(ran.status, 2);
     assert_eq!(
-        told(&ran)[255..],
-        ["event 255, found none", "refused 34: The store has 256 events already.", "0 copies delivered"]
+        told(&ran)[383..],
+        ["event 383, found none", "refused 34: The store has 384 events already.", "0 copies delivered"]
     );
     assert!(ran
         .text()
-        .contains("\n# 258 calls: 257 done, 1 refused; 256 events; 0 copies outstanding; a record of 19456 bytes\n"));
+        .contains("\n# 386 calls: 385 done, 1 refused; 384 events; 0 copies outstanding; a record of 33280 bytes\n"));
+}
+
+/// What it leaves is judged, shown and drawn as any other, and all of its events are there.
+#[test]
+fn a_full_store_leaves_a_record_for_every_command() {
+    let folder = Folder::new();
+    let (record, picture) = (folder.at("day.gcr"), folder.at("day.svg"));
+    let puts: String = (0..384).map(|number| format!("put {} 5 {number}\n", number % 8)).collect();
+    piped(&["rehearse", "-o", &record], format!("sites 8\n{puts}close\n").as_bytes()).done();
+    assert_eq!(gcr(&["judge", "--quiet", &record]).done().lines().len(), 1);
+    let shown = gcr(&["show", &record]).done();
+    assert_eq!(shown.lines()[..4], ["edition GCR3", "sites 8", "clocks 0", "events 384"]);
+    assert!(piped(&["make"], &shown.out).done().out == fs::read(&record).unwrap());
+    let drawn = gcr(&["draw", &record, "-o", &picture]).done();
+    assert!(drawn.text().contains(": 384 events at 8 sites; "), "{}", drawn.text());
 }
 
 /// What is written then is what stood there before.

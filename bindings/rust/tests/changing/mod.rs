@@ -6,8 +6,14 @@ use crate::sealing::sealed;
 pub fn changed(record: &[u8], changes: &[(usize, usize, u64)]) -> Vec<u8> {
     let mut record = record.to_vec();
     for &(event, at, number) in changes {
-        let slot = 512 * (1 + event / 7) + 64 * (event % 7);
+        let slot = slot(&record, event);
         record[slot + at..][..8].copy_from_slice(&number.to_le_bytes());
     }
     sealed(record)
+}
+
+/// Where an event's slot begins, which goes by the record's edition.
+fn slot(record: &[u8], event: usize) -> usize {
+    let (bytes, in_a_block) = if record.starts_with(b"GCR3") { (80, 6) } else { (64, 7) };
+    512 * (1 + event / in_a_block) + bytes * (event % in_a_block)
 }

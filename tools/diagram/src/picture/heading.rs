@@ -116,7 +116,7 @@ fn shortened(events: &[String]) -> Vec<String> {
     [&events[..ENDS], &[between], &events[events.len() - ENDS..]].concat()
 }
 
-/// `3 events`, or `17 of 256 events` where some are left out.
+/// `3 events`, or `17 of 384 events` where some are left out.
 fn counted(drawn: usize, all: usize, what: &str) -> String {
     let part = if drawn < all { format!("{drawn} of ") } else { String::new() };
     format!("{part}{all} {what}{}", if all == 1 { "" } else { "s" })

@@ -54,7 +54,7 @@ pub fn in_words(record: &Record, steps: &[Step]) -> Option<String> {
     Some(format!("event {first} {}", steps.join(", which ")))
 }
 
-/// `2, 3, 4, 5, 6, 7`, or of more `2, 3, 4, 5, 6 and 249 more, the last of them event 255`.
+/// `2, 3, 4, 5, 6, 7`, or of more `2, 3, 4, 5, 6 and 377 more, the last of them event 383`.
 fn named(events: &[usize]) -> String {
     let (first, more) = events.split_at(NAMED.min(events.len()));
     let list = |events: &[usize]| events.iter().map(usize::to_string).collect::<Vec<_>>().join(", ");

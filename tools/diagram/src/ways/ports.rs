@@ -82,7 +82,7 @@ mod tests {
 
     #[test]
     fn all_lines_at_one_side_of_the_narrowest_mark_are_apart_and_on_it() {
-        for scale in [20, 80, 256].map(Scale::of) {
+        for scale in [20, 80, 384].map(Scale::of) {
             for span in spans(scale.width("R 0→?")) {
                 let parts = [Says::SeesAll, Says::SeesAlone, Says::Unseen].map(entering_part);
                 let parts = [&parts[..], &[Says::SeesAll, Says::Unseen].map(leaving_part)].concat();

@@ -86,7 +86,7 @@ impl Events<'_> {
     }
 
     fn opening(&self, event: usize) -> Option<u64> {
-        self.record.edition.openings().of(self.record.events[event].object.into()).map(u64::from)
+        self.record.openings.of(self.record.events[event].object.into()).map(u64::from)
     }
 
     fn sees_no_write(&self, read: usize) -> bool {
@@ -103,7 +103,7 @@ impl Events<'_> {
         let (events, Relations { rb, so, vis, .. }) = (&self.record.events, &self.relations);
         let difference = match events[before].site == events[event].site {
             true => 0,
-            false => self.record.edition.difference() as usize,
+            false => self.record.difference as usize,
         };
         match (shape(words).as_str(), &numbers(words)[..]) {
             ("it saw event #", &[from]) => from == before && vis.has(from, event),

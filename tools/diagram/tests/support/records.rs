@@ -2,8 +2,9 @@
 
 use second::generate::random::Random;
 use second::generate::{chains, openings, shapes};
+use second::limits::MOST_EVENTS;
 use second::openings::Openings;
-use second::record::{Event, Record};
+use second::record::{Edition, Event, Record};
 use second::store::{Call, Store};
 
 /// Records of every shape and of a moderate size, each with a number to tell it by.
@@ -28,7 +29,7 @@ fn of_seed(seed: u64) -> Record {
         }
         _ => {
             let n = random.index(45);
-            shapes::of_either_edition(&mut random, n)
+            shapes::of_any_edition(&mut random, n)
         }
     }
 }
@@ -70,7 +71,7 @@ pub fn large() -> Vec<Record> {
             let seen: Vec<usize> = (0..number as usize).filter(|_| random.chance(20)).collect();
             event.sees(&seen)
         };
-        Record::in_order(sites, (0..256).map(&mut event).collect())
+        Record::in_order(sites, (0..MOST_EVENTS as u64).map(&mut event).collect())
     };
     vec![of_sites(1), of_sites(8)]
 }
@@ -98,7 +99,8 @@ pub fn long_way() -> Record {
 }
 
 /// `records/busy-day.gcr`: a day of 256 events at eight sites, as a store leaves it, but for one read that has lost sight of
-/// a write which an earlier read of its site saw, and holds what the object had before that.
+/// a write which an earlier read of its site saw, and holds what the object had before that. It is of the edition that
+/// stores left when it was made.
 pub fn busy_day() -> Record {
     let mut random = Random::new(5);
     let openings = (0..6).fold(Openings::none(), |openings, object| openings.with(2 * object, 10 * object as u32));
@@ -113,10 +115,10 @@ pub fn busy_day() -> Record {
             store.call(&Call::Deliver { site, event }.to_bytes());
         }
     }
-    let mut record = store.record();
+    let mut record = store.record().in_edition(Edition::GCR2);
     let (read, write) = stale(&record).expect("a day has reads of one site on one object");
     record.events[read].visible[write] = false;
-    let opening = record.edition.openings().of(record.events[read].object.into());
+    let opening = record.openings.of(record.events[read].object.into());
     record.events[read].value = last_seen(&record, read).map_or(opening, |write| record.events[write].value);
     record
 }

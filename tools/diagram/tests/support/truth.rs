@@ -131,7 +131,7 @@ impl Facts<'_> {
     /// a's return, b's start, and by how much their clocks may differ.
     fn times(&self, (a, end): (usize, usize), (b, start): (usize, usize), by: usize) -> bool {
         let (first, second) = (&self.record.events[a], &self.record.events[b]);
-        let skew = if first.site == second.site { 0 } else { self.record.edition.difference() };
+        let skew = if first.site == second.site { 0 } else { self.record.difference };
         self.relations.rb.has(a, b)
             && (first.end, second.start) == (Some(end as u64), start as u64)
             && skew as usize == by
@@ -153,7 +153,7 @@ impl Facts<'_> {
     }
 
     fn opening(&self, object: usize) -> Option<u32> {
-        self.record.edition.openings().of(object)
+        self.record.openings.of(object)
     }
 
     fn last_write(&self, object: usize) -> Option<usize> {

@@ -42,7 +42,8 @@ where it is -, the text comes from standard input.
 
 const NOTES: &str = "
 Before the columns come the number of sites and, where there are such, the difference of clocks, openings and
-the number of events, to which the rows are held. Where the last column is [sees], as gcr show writes it, its
+the number of events, to which the rows are held. Without a row that says another, the edition is GCR2, and
+GCR3 where there are more than 256 events. Where the last column is [sees], as gcr show writes it, its
 cells are in brackets, so that a cell that was cut is refused too; where it is sees they need none.
 The columns event and state may be left out. # begins a remark. What is wrong is told by line and column.
 ";

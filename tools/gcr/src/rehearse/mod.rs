@@ -59,6 +59,7 @@ Sites have numbers from 0; # begins a remark.
 ";
 
 const NOTES: &str = "
+The record is of edition GCR3, and has at most 384 events: puts and gets beyond them are refused.
 Where RECORD or FILE is -, its bytes go to standard output, in place of the lines.
 Exit status: 0 every call was done; 2 a call, or all of the script, was refused.
 ";

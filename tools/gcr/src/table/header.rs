@@ -51,11 +51,29 @@ impl<'a> Header<'a> {
     pub fn record(&self, columns: Word) -> Result<Record, Bad> {
         let missing =
             || columns.bad("the number of sites is missing: sites and the number stand in a row before the columns");
-        let edition = self.edition.map_or(Edition::Gcr2, |said| said.value);
-        let mut record = Record::new(edition, self.sites.ok_or_else(missing)?.value);
+        let mut record = Record::new(self.edition(0), self.sites.ok_or_else(missing)?.value);
         record.difference = self.clocks.map_or(0, |said| said.value);
         record.openings = self.openings;
         Ok(record)
+    }
+
+    /// Of a record with so many events. Where none is said it is the second, which readers have known for longer, unless
+    /// there are more events than it has.
+    pub fn edition(&self, events: usize) -> Edition {
+        match self.edition {
+            Some(said) => said.value,
+            None if events <= Edition::Gcr2.events_most() => Edition::Gcr2,
+            None => Edition::Gcr3,
+        }
+    }
+
+    /// What is to be said where the events alone made it a later edition than the second.
+    pub fn grown(&self, events: usize) -> Option<String> {
+        let edition = self.edition(events);
+        let is_grown = self.edition.is_none() && edition != Edition::Gcr2;
+        is_grown.then(|| {
+            format!("{events} events: the record is of edition {edition}, which readers before version 0.8 refuse")
+        })
     }
 }
 
@@ -101,7 +119,7 @@ pub fn rows(record: &Record) -> Vec<Vec<String>> {
     };
     let mut rows = vec![vec![Entry::Edition.name().to_string(), record.edition.letters().to_string()]];
     rows.push(row(Entry::Sites, &[record.sites.into()]));
-    if record.edition != Edition::Gcr1 {
+    if record.edition.has_terms() {
         rows.push(row(Entry::Clocks, &[record.difference.into()]));
     }
     let opening = |(object, value): (u8, u32)| row(Entry::Opening, &[object.into(), value.into()]);

@@ -76,24 +76,24 @@ mod tests {
 
     #[test]
     fn ranges_have_both_ends() {
-        assert_eq!(read_of("0..3 7  255"), Ok(vec![0, 1, 2, 3, 7, 255]));
+        assert_eq!(read_of("0..3 7  383"), Ok(vec![0, 1, 2, 3, 7, 383]));
         assert_eq!(read_of("7 5..5 4..6"), Ok(vec![4, 5, 6, 7]));
-        assert_eq!(read_of("0..255").map(|seen| seen.len()), Ok(256));
+        assert_eq!(read_of("0..383").map(|seen| seen.len()), Ok(384));
         assert_eq!((read_of(""), read_of("-")), (Ok(vec![]), Ok(vec![])));
     }
 
     #[test]
     fn a_range_that_is_wrong_has_its_own_place() {
         for (text, column, what) in [
-            ("0 256", 12, "256, and may be 0 to 255, or a range as 0..5"),
-            ("0 3..256", 15, "256, and may be 0 to 255"),
-            ("0 ..3", 12, "missing, and may be 0 to 255"),
-            ("3..", 13, "missing, and may be 0 to 255"),
-            ("1...3", 13, ".3, and may be a whole number from 0 to 255"),
-            ("1-3", 10, "1-3, and may be a whole number from 0 to 255, or a range as 0..5"),
-            ("#REF!", 10, "#REF!, and may be a whole number from 0 to 255, or a range as 0..5"),
-            ("0 #N/A", 12, "#N/A, and may be a whole number from 0 to 255, or a range as 0..5"),
-            ("0#0", 10, "0#0, and may be a whole number from 0 to 255, or a range as 0..5"),
+            ("0 384", 12, "384, and may be 0 to 383, or a range as 0..5"),
+            ("0 3..384", 15, "384, and may be 0 to 383"),
+            ("0 ..3", 12, "missing, and may be 0 to 383"),
+            ("3..", 13, "missing, and may be 0 to 383"),
+            ("1...3", 13, ".3, and may be a whole number from 0 to 383"),
+            ("1-3", 10, "1-3, and may be a whole number from 0 to 383, or a range as 0..5"),
+            ("#REF!", 10, "#REF!, and may be a whole number from 0 to 383, or a range as 0..5"),
+            ("0 #N/A", 12, "#N/A, and may be a whole number from 0 to 383, or a range as 0..5"),
+            ("0#0", 10, "0#0, and may be a whole number from 0 to 383, or a range as 0..5"),
         ] {
             assert_eq!(read_of(text), Err(format!("line 4, column {column}: the seen event is {what}")), "{text}");
         }
@@ -104,7 +104,7 @@ mod tests {
     fn written_ranges_are_the_fewest() {
         let written = |seen: &[u16]| written(&seen.iter().copied().collect());
         assert_eq!(written(&[]), "");
-        assert_eq!(written(&[0, 1, 2, 4, 6, 7, 255]), "0..2 4 6..7 255");
-        assert_eq!(written(&(0..256).collect::<Vec<_>>()), "0..255");
+        assert_eq!(written(&[0, 1, 2, 4, 6, 7, 383]), "0..2 4 6..7 383");
+        assert_eq!(written(&(0..384).collect::<Vec<_>>()), "0..383");
     }
 }

@@ -28,11 +28,12 @@ impl<'a> Table<'a> {
         let mut rows = Rows::of(form, text);
         let (header, named) = head(form, &mut rows)?;
         let columns = Columns::read(form, others, &named)?;
-        let record = header.record(named.first())?;
+        let mut record = header.record(named.first())?;
         let events = event_rows(&mut rows, columns.count())?;
         let doubt = rows.unended();
         is_whole(&header, &events, doubt.as_ref())?;
-        are_not_too_many(&events)?;
+        record.edition = header.edition(events.len());
+        are_not_too_many(record.edition, &events)?;
         let mut table = Table { record, header, columns, rows: events, doubt };
         table.fill()?;
         Ok(table)
@@ -53,7 +54,8 @@ impl<'a> Table<'a> {
     /// What is to be said of a text though it is taken.
     pub fn remarks(&self) -> Vec<String> {
         let others = passed_over(&self.columns.others());
-        others.into_iter().chain(self.doubt.iter().map(Bad::to_string)).collect()
+        let grown = self.header.grown(self.rows.len());
+        others.into_iter().chain(grown).chain(self.doubt.iter().map(Bad::to_string)).collect()
     }
 }
 

@@ -3,8 +3,9 @@
 use super::samples::{fixed, random, Named};
 use super::{written, Form, Others};
 use crate::make::{encoded, Encoded};
+use ::second::limits::MOST_EVENTS;
+use ::second::record as second;
 use gcr::{Edition, Record};
-use second::record as second;
 
 fn record(bytes: &[u8]) -> Record {
     Record::read(bytes).expect("a sample passes")
@@ -53,7 +54,7 @@ fn says_what_the_second_checker_reads((name, bytes): &Named) {
     for (number, (row, event)) in rows.iter().zip(&other.events).enumerate() {
         let cells: Vec<&str> = row.split_whitespace().collect();
         assert_eq!(cells[..9], expected(number, event), "{name}");
-        let visible: Vec<usize> = (0..second::MOST_EVENTS).filter(|&other| event.visible[other]).collect();
+        let visible: Vec<usize> = (0..MOST_EVENTS).filter(|&other| event.visible[other]).collect();
         let ranges = cells[9..].join(" ");
         let ranges = ranges.strip_prefix('[').and_then(|rest| rest.strip_suffix(']')).expect("brackets");
         assert_eq!(seen(ranges), visible, "{name}, event {number}");
@@ -71,6 +72,8 @@ fn random_records_come_back_from_text_and_csv() {
     let is_among = |is: fn(&Record) -> bool| records.iter().any(|(_, bytes)| is(&record(bytes)));
     assert!(is_among(|record| record.edition == Edition::Gcr1 && record.count() == 256));
     assert!(is_among(|record| record.edition == Edition::Gcr2 && record.count() == 256));
+    assert!(is_among(|record| record.edition == Edition::Gcr3 && record.count() == 384));
+    assert!(is_among(|record| record.edition == Edition::Gcr3 && record.count() == 6));
     assert!(is_among(|record| record.difference > 1_000 && record.openings.get(31).is_some()));
     assert!(is_among(|record| record.sites == 8 && record.events().any(|(_, event)| event.is_pending())));
     assert!(is_among(|record| record.count() == 0));

@@ -3,7 +3,7 @@
 use super::header::Header;
 use super::rows::Row;
 use crate::text::Bad;
-use gcr::EVENTS_MOST;
+use gcr::{Edition, EVENTS_MOST};
 
 /// Where the header has the number of events, they are held to it, and the last line ends: what writes the number ends
 /// its lines too.
@@ -26,13 +26,17 @@ fn counts(said: u64, events: &[Row]) -> String {
     format!("the number of events is {said}, and {follow}{cut}")
 }
 
-/// No record has more events, and what they see has no place in one.
-pub fn are_not_too_many(events: &[Row]) -> Result<(), Bad> {
-    match events.get(EVENTS_MOST) {
-        Some(row) => {
-            let count = events.len();
-            Err(row.first().bad(format!("the text has {count} events, and a record has at most {EVENTS_MOST}")))
-        }
+/// No record has more events, or none of this edition, and what they see may have no place in one.
+pub fn are_not_too_many(edition: Edition, events: &[Row]) -> Result<(), Bad> {
+    let (count, most) = (events.len(), edition.events_most());
+    let told = |most: usize, record: String| match events.get(most) {
+        Some(row) => Err(row.first().bad(format!("the text has {count} events, and a record{record}"))),
         None => Ok(()),
+    };
+    match Edition::ALL.iter().find(|other| other.events_most() >= count) {
+        Some(other) => {
+            told(most, format!(" of edition {edition} has at most {most}; one of {other} has room for them"))
+        }
+        None => told(EVENTS_MOST, format!(" has at most {EVENTS_MOST}")),
     }
 }

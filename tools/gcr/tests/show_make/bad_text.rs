@@ -42,7 +42,7 @@ fn header_rows() {
         ("sites 256\n", "line 1, column 7: the number of sites is 256, and may be 1 to 8"),
         ("sites two\n", "line 1, column 7: the number of sites is two, and may be a whole number from 1 to 8"),
         ("clocks 4294967296\n", "line 1, column 8: the difference of clocks is 4294967296, and may be 0 to 4294967295"),
-        ("edition GCR3\n", "line 1, column 9: there is no edition GCR3; the nearest is GCR1; the editions are GCR1, GCR2"),
+        ("edition GCR4\n", "line 1, column 9: there is no edition GCR4; the nearest is GCR1; the editions are GCR1, GCR2, GCR3"),
         ("opening 32 0\n", "line 1, column 9: the object of an opening is 32, and may be 0 to 31"),
         ("opening 256 0\n", "line 1, column 9: the object of an opening is 256, and may be 0 to 31"),
         ("opening 5 -1\n", "line 1, column 11: the opening is -1, and may be a whole number from 0 to 4294967295"),
@@ -115,9 +115,9 @@ fn cells_of_events() {
     let time = "column 25: the return is 18446744073709551616, and may be 0 to 18446744073709551615, or -";
     row_is_bad("1 0 read 5 9 returned 0 18446744073709551616 1 -", time);
     row_is_bad("1 0 read 5 9 returned 0 1 65536 -", "column 27: the position is 65536, and may be 0 to 65535");
-    let seen = |found: &str| format!("the seen event is {found} 0 to 255");
+    let seen = |found: &str| format!("the seen event is {found} 0 to 383");
     let range = "or a range as 0..5";
-    row_is_bad("1 0 read 5 9 returned 0 1 1 0  256 3", &format!("column 32: {}, {range}", seen("256, and may be")));
+    row_is_bad("1 0 read 5 9 returned 0 1 1 0  384 3", &format!("column 32: {}, {range}", seen("384, and may be")));
     let seen_dash = seen("-, and may be a whole number from");
     row_is_bad("1 0 read 5 9 returned 0 1 1 0 - 3", &format!("column 31: {seen_dash}, {range}"));
     let seen_x = seen("x, and may be a whole number from");
@@ -151,7 +151,7 @@ fn empty_cells_between_tabs() {
 fn cells_of_csv() {
     let head = "sites,2,,\nsite,kind,object,value,start,return,position,sees\n0,write,5,100,0,1,0,\n";
     let value = "and may be a whole number from 0 to 4294967295, or none";
-    let seen = "and may be a whole number from 0 to 255, or a range as 0..5";
+    let seen = "and may be a whole number from 0 to 383, or a range as 0..5";
     let site = "the site is #REF!, and may be a whole number from 0 to 255";
     for (row, what) in [
         ("0,read,5,\"100,0,1,1,0", "column 10: this quote is not closed in its line"),
@@ -161,7 +161,7 @@ fn cells_of_csv() {
         ("0,,5,,0,1,1,0", "column 3: the kind is missing; the kinds are read, write"),
         ("0,read,5,,,1,1,0", "column 11: the start is missing, and may be 0 to 18446744073709551615"),
         ("0,read,5,1.7E+12,0,1,1,", &format!("column 10: the value is 1.7E+12, {value}")),
-        ("0,read,5,,0,1,1,\" 0 1..300\"", "column 24: the seen event is 300, and may be 0 to 255"),
+        ("0,read,5,,0,1,1,\" 0 1..400\"", "column 24: the seen event is 400, and may be 0 to 383"),
         ("0,read,5,,0,1,1,#REF!", &format!("column 17: the seen event is #REF!, {seen}")),
         ("0,read,5,,0,1,1,0 #N/A", &format!("column 19: the seen event is #N/A, {seen}")),
         ("0,read,5;100,,0,1,1,0", "column 8: the object is 5;100, and may be a whole number from 0 to 255"),

@@ -127,11 +127,48 @@ fn cells_may_be_copied_from_a_spreadsheet() {
     makes_the_same(&["make"], &rows.replace("[0 2]", "[0 2]\t\t# the last"));
 }
 
+/// What `show` writes of what `make` makes of these rows.
+fn shown_again(head: &str, count: usize) -> String {
+    let row = |number: usize| format!("0 write 5 1 {number} {number} {number} {}\n", seen(number));
+    let rows: String = (0..count).map(row).collect();
+    let text = format!("{head}site kind object value start return position sees\n{rows}");
+    piped(&["show"], &piped(&["make"], text.as_bytes()).done().out).done().text().to_string()
+}
+
+/// All before it.
+fn seen(event: usize) -> String {
+    match event {
+        0 => "-".to_string(),
+        _ => format!("0..{}", event - 1),
+    }
+}
+
 #[test]
-fn the_edition_is_the_second_where_none_is_said() {
-    let text = "sites 3\nsite kind object value start return position sees\n";
-    let shown = piped(&["show"], &piped(&["make"], text.as_bytes()).done().out).done();
-    assert_eq!(shown.lines()[..4], ["edition GCR2", "sites 3", "clocks 0", "events 0"]);
+fn the_edition_is_the_second_where_none_is_said_and_the_third_where_that_has_no_room() {
+    for (count, edition) in [(0, "GCR2"), (6, "GCR2"), (7, "GCR2"), (256, "GCR2"), (257, "GCR3"), (384, "GCR3")] {
+        let shown = shown_again("sites 3\n", count);
+        let head =
+            [format!("edition {edition}"), "sites 3".to_string(), "clocks 0".to_string(), format!("events {count}")];
+        assert_eq!(shown.lines().take(4).collect::<Vec<_>>(), head);
+    }
+}
+
+#[test]
+fn a_record_of_the_third_edition_is_shown_as_one_of_the_second() {
+    for count in [0, 6, 7, 255, 256] {
+        let shown = |edition| shown_again(&format!("edition {edition}\nclocks 40\nopening 31 7\nsites 1\n"), count);
+        assert_eq!(shown("GCR3"), shown("GCR2").replace("edition GCR2", "edition GCR3"), "{count} events");
+    }
+    for count in [257, 383, 384] {
+        let shown = shown_again("edition GCR3\nopening 31 7\nsites 1\n", count);
+        let last = format!("[0..{}]", count - 2);
+        assert!(
+            shown.starts_with("edition GCR3\nsites 1\nclocks 0\nopening 31 7\nevents ")
+                && shown.trim_end().ends_with(&last)
+        );
+        let again = piped(&["make"], shown.as_bytes()).done();
+        assert_eq!(piped(&["show"], &again.out).done().text(), shown);
+    }
 }
 
 #[test]

@@ -81,7 +81,7 @@ fn under_a_name_in_brackets_cells_are_in_brackets() {
         is_refused(&log.replace("[0]", cell), &what);
     }
     is_refused(&log.replace(",[0]", ""), "line 4, column 19: the row ends before its [Sees], which may be []");
-    is_refused(&log.replace("[0]", "[0..]"), "line 4, column 24: the seen event is missing, and may be 0 to 255");
+    is_refused(&log.replace("[0]", "[0..]"), "line 4, column 24: the seen event is missing, and may be 0 to 383");
     is_refused(&log.replace("sites", "sees,[sees],x\nsites"), "line 1, column 6: the column sees is named twice");
 }
 
@@ -92,7 +92,7 @@ fn under_a_name_without_them_they_may_be() {
         assert_eq!(piped(&["make", "--csv"], LOG.replace("1,0,\n", same).as_bytes()).done(), whole, "{same}");
     }
     assert_eq!(piped(&["make", "--csv"], LOG.replace("3,1,0\n", "3,1,[0]\n").as_bytes()).done(), whole);
-    let what = "the seen event is [0, and may be a whole number from 0 to 255, or a range as 0..5";
+    let what = "the seen event is [0, and may be a whole number from 0 to 383, or a range as 0..5";
     is_refused(&LOG.replace("3,1,0\n", "3,1,[0\n"), &format!("line 4, column 20: {what}"));
 }
 

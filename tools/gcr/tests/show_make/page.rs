@@ -1,7 +1,9 @@
 //! What docs/COMMAND.md shows of both commands is what they write.
 
 use crate::support::folder::Folder;
-use crate::support::gcr;
+use crate::support::{gcr, shell_in};
+use gcr::{judge_all, Edition, Record};
+use std::fs;
 
 const PAGE: &str = include_str!("../../../../docs/COMMAND.md");
 
@@ -47,6 +49,34 @@ fn a_log_and_what_is_wrong_with_others() {
     ] {
         is_shown(&refusal(&folder, "log.csv", &LOG.replacen(from, to, 1)));
     }
+}
+
+#[test]
+fn more_events_than_there_may_be() {
+    let folder = Folder::new();
+    let columns = LOG.lines().nth(1).expect("it has columns");
+    for (head, count) in [("edition,GCR2\n", 300), ("", 400)] {
+        let rows: String = (0..count).map(|number| format!("0,write,5,100,0,1,{number},\n")).collect();
+        is_shown(&refusal(&folder, "log.csv", &format!("{head}sites,2\n{columns}\n{rows}")));
+    }
+}
+
+/// The page's commands lead from a rehearsal to a record of the older edition that says the same.
+#[test]
+fn a_record_goes_to_another_edition() {
+    let (_, section) = PAGE.split_once("### In another edition\n").expect("the page has it");
+    let (section, _) = section.split_once("\n## ").expect("more comes after it");
+    let commands: Vec<&str> = section.lines().filter_map(|line| line.strip_prefix("    ")).collect();
+    let folder = Folder::new();
+    folder.file("day.txt", "sites 2\nopen 5 300\nput 0 5 350\nget 1 5\nclose\nget 1 5\n");
+    let ran = shell_in(folder.path(), &commands.join(" && "));
+    assert_eq!((ran.status, ran.err.as_str()), (0, ""));
+    let [left, made] = ["day.gcr", "day-2.gcr"].map(|name| fs::read(folder.at(name)).expect("it is there"));
+    assert_eq!(judge_all(&left), judge_all(&made));
+    let mut said = Record::read(&left).expect("it passes");
+    assert_eq!(said.edition, Edition::Gcr3);
+    said.edition = Edition::Gcr2;
+    assert_eq!(said.encode(), Ok(made));
 }
 
 #[test]

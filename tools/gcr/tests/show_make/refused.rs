@@ -1,7 +1,7 @@
 //! Texts that say what no record may: the proved reader's refusals, with the place in the text.
 
 use crate::support::folder::Folder;
-use crate::support::{bytes, gcr, piped};
+use crate::support::{bytes, gcr, piped, Ran};
 use std::fs;
 
 const COLUMNS: &str = "site kind object value start return position sees\n";
@@ -38,8 +38,10 @@ fn positions() {
 #[test]
 fn visible_sets() {
     is_refused("1 write 5 1 0 1 1 0  0..1\n", "line 5, column 22: refused 9 1: event 1 sees itself");
-    let beyond = "line 5, column 19: refused 9 1: there is no event 255: the record has events 0 to 1";
-    is_refused("1 write 5 1 0 1 1 255\n", beyond);
+    for seen in [255, 256, 383] {
+        let beyond = format!("line 5, column 19: refused 9 1: there is no event {seen}: the record has events 0 to 1");
+        is_refused(&format!("1 write 5 1 0 1 1 {seen}\n"), &beyond);
+    }
     let range = "line 5, column 21: refused 9 1: there is no event 7: the record has events 0 to 1";
     is_refused("1 write 5 1 0 1 1 0 0..7\n", range);
     let ring = "line 5, column 21: refused 10 1: event 1 sees itself through event 2";
@@ -53,8 +55,8 @@ fn visible_sets_in_brackets() {
         piped(&["make"], text.as_bytes()).ended(2, &format!("standard input: {what}"));
     };
     is_refused("1 write 5 1 0 1 1 [0  0..1]\n", "line 4, column 23: refused 9 1: event 1 sees itself");
-    let beyond = "line 4, column 20: refused 9 1: there is no event 255: the record has events 0 to 1";
-    is_refused("1 write 5 1 0 1 1 [255]\n", beyond);
+    let beyond = "line 4, column 20: refused 9 1: there is no event 383: the record has events 0 to 1";
+    is_refused("1 write 5 1 0 1 1 [383]\n", beyond);
     let ring = "line 4, column 22: refused 10 1: event 1 sees itself through event 2";
     is_refused("1 write 5 1 0 1 1 [0 2]\n1 write 5 1 0 1 2 [1]\n", ring);
 }
@@ -72,6 +74,7 @@ fn rings_are_told_by_their_shortest_way() {
         (7, "events 1, 2, 3, 4, 5 and 6"),
         (8, "events 1, 2, 3, 4, 5, 6 and 1 more"),
         (256, "events 1, 2, 3, 4, 5, 6 and 249 more"),
+        (384, "events 1, 2, 3, 4, 5, 6 and 377 more"),
     ] {
         let what = format!("line 3, column 19: refused 10 0: event 0 sees itself through {through}");
         let text = ring(count).replacen("0 write 5 1 0 1 0 1\n", "0 write 5 1 0 1 0 1..1\n", 1);
@@ -109,17 +112,48 @@ fn heads_that_no_record_has() {
     is_refused("edition GCR1\nsites 1\nopening 7 0\nopening 5 0", opening);
 }
 
+/// The record of so many events under this header, or what is told.
+fn made(header: &str, count: usize) -> Ran {
+    piped(&["make"], format!("{header}sites 8\n{}", events(count)).as_bytes())
+}
+
 #[test]
 fn more_events_than_a_record_has() {
-    let made = |count| piped(&["make"], format!("sites 8\n{}", events(count)).as_bytes());
-    assert_eq!(made(256).done().out.len(), 19_456);
-    for count in [257, 300, 66_000] {
-        let what = format!("the text has {count} events, and a record has at most 256");
-        made(count).ended(2, &format!("standard input: line 259, column 1: {what}"));
+    assert_eq!(made("", 384).done().out.len(), 33_280);
+    for count in [385, 400, 66_000] {
+        let what = format!("the text has {count} events, and a record has at most 384");
+        made("", count).ended(2, &format!("standard input: line 387, column 1: {what}"));
+        for edition in ["GCR1", "GCR2", "GCR3"] {
+            let said = format!("edition {edition}\n");
+            made(&said, count).ended(2, &format!("standard input: line 388, column 1: {what}"));
+        }
     }
-    let seeing = events(300).replacen("299 299 -", "299 299 298", 1);
+    let seeing = events(400).replacen("399 399 -", "399 399 398", 1);
     piped(&["make"], format!("sites 1\n{seeing}").as_bytes())
-        .ended(2, "standard input: line 259, column 1: the text has 300 events, and a record has at most 256");
+        .ended(2, "standard input: line 387, column 1: the text has 400 events, and a record has at most 384");
+}
+
+#[test]
+fn more_events_than_its_edition_has() {
+    for edition in ["GCR1", "GCR2"] {
+        let said = format!("edition {edition}\n");
+        assert_eq!(made(&said, 256).done().out.len(), 19_456);
+        for count in [257, 300, 384] {
+            let has = format!("a record of edition {edition} has at most 256; one of GCR3 has room for them");
+            let what = format!("the text has {count} events, and {has}");
+            made(&said, count).ended(2, &format!("standard input: line 260, column 1: {what}"));
+        }
+    }
+}
+
+/// A slot of an older edition has no bit for it, and yet it is the reader that refuses.
+#[test]
+fn an_event_is_seen_that_the_edition_cannot_have() {
+    for edition in ["GCR1", "GCR2", "GCR3"] {
+        let text = format!("edition {edition}\nsites 1\n{COLUMNS}0 write 5 1 0 1 0 -\n0 write 5 1 2 3 1 0 256..300\n");
+        let what = "line 5, column 21: refused 9 1: there is no event 300: the record has events 0 to 1";
+        piped(&["make"], text.as_bytes()).ended(2, &format!("standard input: {what}"));
+    }
 }
 
 #[test]
@@ -145,7 +179,7 @@ fn a_record_that_is_refused_is_not_shown() {
     gcr(&["show", &damaged]).ended(2, &format!("{damaged}: {what}"));
     gcr(&["show", &damaged, "-o", &there]).ended(2, &format!("{damaged}: {what}"));
     assert_eq!(fs::read_to_string(&there).unwrap(), "as it was");
-    let length = "refused 3 0: The record's length is not a multiple of 512 from 512 to 19,456 bytes.";
+    let length = "refused 3 0: The record's length is not a multiple of 512 from 512 to 33,280 bytes.";
     piped(&["show"], &[]).ended(2, &format!("standard input: {length}"));
     piped(&["show"], &vec![0; 1_000_000]).ended(2, &format!("standard input: {length}"));
 }

@@ -2,10 +2,10 @@
 
 use super::super::header::{no_sites, Header, SITES};
 use crate::text::Bad;
-use gcr::{Edition, Record};
+use gcr::Record;
 
 pub fn why(record: &Record, header: &Header) -> Option<Bad> {
-    let is_first = record.edition == Edition::Gcr1;
+    let is_first = !record.edition.has_terms();
     let sites = header.sites.filter(|said| !SITES.contains(&said.value));
     let clocks = header.clocks.filter(|said| said.value != 0 && is_first);
     let opening = header.opening.filter(|_| is_first);
