@@ -132,7 +132,19 @@ fn shown_again(head: &str, count: usize) -> String {
     let row = |number: usize| format!("0 write 5 1 {number} {number} {number} {}\n", seen(number));
     let rows: String = (0..count).map(row).collect();
     let text = format!("{head}site kind object value start return position sees\n{rows}");
-    piped(&["show"], &piped(&["make"], text.as_bytes()).done().out).done().text().to_string()
+    let made = piped(&["make"], text.as_bytes());
+    assert_eq!((made.status, made.err.as_str()), (0, grown(head, count).as_str()));
+    piped(&["show"], &made.out).done().text().to_string()
+}
+
+/// What `make` says where the events alone make it a later edition.
+fn grown(head: &str, count: usize) -> String {
+    match head.contains("edition") || count <= 256 {
+        true => String::new(),
+        false => format!(
+            "gcr: standard input: {count} events: the record is of edition GCR3, which readers before version 0.8 refuse\n"
+        ),
+    }
 }
 
 /// All before it.

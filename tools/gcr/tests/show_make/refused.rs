@@ -119,7 +119,7 @@ fn made(header: &str, count: usize) -> Ran {
 
 #[test]
 fn more_events_than_a_record_has() {
-    assert_eq!(made("", 384).done().out.len(), 33_280);
+    assert_eq!(made("edition GCR3\n", 384).done().out.len(), 33_280);
     for count in [385, 400, 66_000] {
         let what = format!("the text has {count} events, and a record has at most 384");
         made("", count).ended(2, &format!("standard input: line 387, column 1: {what}"));
