@@ -101,10 +101,13 @@ def table():
     for name in sorted(names):
         if is_camel(name) and name not in KEPT:
             turned[name] = words_of(name)
-        elif name in found and DASHED.fullmatch(name):
+        elif name in found and name not in KEPT and DASHED.fullmatch(name):
             new = lemma(name, snakes)
             if new != name:
                 turned[name] = new
+    for name in fields() & names:
+        if "-" in name and not of_rattle(name):
+            turned[name] = "_".join(words_of(p) for p in name.split("-"))
     # A lemma that would have a definition's name ends in _lem.
     taken = {b for a, b in turned.items() if is_camel(a)} | definitions | {"bit_and", "bit_or"}
     for name in found:
@@ -114,12 +117,35 @@ def table():
     return turned, names
 
 
+FIELD = re.compile(r"\s+(?:pub )?([^\s:()]+) :(?=\s|$)")
+
+
+def fields():
+    """The fields of records: labels, in which no dash stays."""
+    found = set()
+    for path in antt_files():
+        inside = False
+        for line in open(path, encoding="utf-8"):
+            code = code_of(line)
+            if re.match(r"\s*(?:pub )?record .*where", code):
+                inside = True
+            elif re.match(r"\S", code):
+                inside = False
+            elif inside and (m := FIELD.match(code)):
+                found.add(m[1])
+    return found
+
+
 def lemmas_of(found, definitions):
     return found - definitions
 
 
 # Names that are Rattle's own or the source's.
-KEPT = {"decLt", "decEq", "decLe"}
+KEPT = {"decLt", "decEq", "decLe", "or-false"}
+
+
+def of_rattle(name):
+    return name in KEPT
 
 
 def together(turned, names):
@@ -167,7 +193,8 @@ def turn_source(text, turned):
             while depth:
                 depth += {"{": 1, "}": -1}.get(text[end], 0)
                 end += 1
-        out.append(turn(text[m.start() : end], turned))
+        label = text[m.start() : m.end()] if m[2] else ""
+        out.append(label + turn(text[m.start() + len(label) : end], turned))
         at = end
     out.append(text[at:])
     return "".join(out)

@@ -52,8 +52,8 @@ module _ (n : ℕ) (n≤8 : n ≤ 8) (t : Terms) (z : Lent) (h : Fit n t z) wher
   held-few : (s i : ℕ) → s < 8 → get_or (row_at z.counts 8 s) i 0 ≤ most_events
   held-few s i l = omega (arith, (sizes n n≤8 st h.keeps).held s i, ap (λ (x : Site). x.held i) (site-at t z s l), h.limits.count)
 
-  clock-few : (s : ℕ) → s < 8 → get_or z.cells (clocks_at + s) 0 ≤ most_events
-  clock-few s l = omega (arith, (sizes n n≤8 st h.keeps).clock s, ap (λ (x : Site). x.clock) (site-at t z s l), h.limits.count)
+  clock_few : (s : ℕ) → s < 8 → get_or z.cells (clocks_at + s) 0 ≤ most_events
+  clock_few s l = omega (arith, (sizes n n≤8 st h.keeps).clock s, ap (λ (x : Site). x.clock) (site-at t z s l), h.limits.count)
 
   -- a put or a get that is not refused
   pub makable : (s o : ℕ) → Doable n st s o → Makable z s o
@@ -65,7 +65,7 @@ module _ (n : ℕ) (n≤8 : n ≤ 8) (t : Terms) (z : Lent) (h : Fit n t z) wher
         room = rw (store-count t z) at d.room;
         site = low;
         object = d.object;
-        clock = clock-few s low;
+        clock = clock_few s low;
         held = λ i. held-few s i low;
       }
 

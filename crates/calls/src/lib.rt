@@ -9,7 +9,7 @@ pub mod script;
 pub mod sites;
 
 // A call as it was decoded: kind 1 put, 2 get, 3 deliver, 4 close, 0 malformed.
-#[derive(Drop)]
+#[derive(Clone, Copy)]
 pub struct Asked {
     pub kind: u8,
     pub site: u8,
@@ -19,7 +19,7 @@ pub struct Asked {
 }
 
 // What a site keeps beside its cells and its known events: its clock, and the count of held puts from each site.
-#[derive(Drop)]
+#[derive(Clone, Copy)]
 pub struct Kept {
     pub clock: u64,
     pub counts: [u16; 8],

@@ -14,7 +14,7 @@ use Rattle.rows.proofs.Tests.{tell, never}
 use Rattle.rows.proofs.LowestLaws.{none-some}
 use Rattle.rows.proofs.RowLaws.{row_in}
 use Rattle.rows.proofs.FrontLaws.{front-more, take_more}
-use Rattle.rows.proofs.ShortestLaws.{leads-before, from_one, from_more, from-length, Onward, go_on, reached_near, at-distance, none_nearer}
+use Rattle.rows.proofs.ShortestLaws.{leads-before, from_one, from_more, from_length, Onward, go_on, reached_near, at-distance, none_nearer}
 use Rattle.chains.specs.Near.{within, Near}
 use Rattle.chains.proofs.NearLaws.{next_on}
 
@@ -50,7 +50,7 @@ module _ {n : ℕ} {r : Rel} {a b last : ℕ} {out₀ out : List ℕ} {e i : ℕ
   module _ (q : last ≡ distance n r a b) (room : last < length out₀) where
     chain_length : length chain ≡ suc last
     unfolding shortest_chain
-    chain_length = from-length n r b (distance n r a b) a ∙ ap suc (sym q)
+    chain_length = from_length n r b (distance n r a b) a ∙ ap suc (sym q)
 
     -- entry x is written, and the entries m are left
     module _ (x : ℕ) (m : List ℕ) (s : drop i chain ≡ x ∷ m) where

@@ -201,6 +201,7 @@ module _ (h : History) (d : DistinctPositions h) where
 
   not-broken : (ps : List ℕ) (p a b : ℕ) → FirstNot h ps p → FirstBreak p h a b → first_broken ps h ≡ BrokenAt p a b
   unfolding first_broken
+  not-broken [] p a b x k = elim x [ ]
   not-broken (q ∷ ps) p a b (here f) k = rw (break_broken q a b k)
   not-broken (q ∷ ps) p a b (after m f) k = rw (holds-met (numbered q) h d m) (not-broken ps p a b f k)
 

@@ -57,12 +57,12 @@ module _ (h : History) (a b : ℕ) where
   rb_far =
       split (ss h a b)
       (λ e. at-one-site e ∙ absorb (returned h a (h.start b - d)) (returned h a (h.start b)) sooner ∙ ap (λ (t : Bool). returned h a (h.start b - d) || t) (sym (so-own ∙ rw e (and-true (returned h a (h.start b))))))
-      (λ e. between_sites e ∙ sym (ap (λ (t : Bool). returned h a (h.start b - d) || t) (so-own ∙ rw e (and-false (returned h a (h.start b)))) ∙ or_false (returned h a (h.start b - d))))
+      (λ e. between_sites e ∙ sym (ap (λ (t : Bool). returned h a (h.start b - d) || t) (so-own ∙ rw e (and-false (returned h a (h.start b)))) ∙ or-false (returned h a (h.start b - d))))
     where
       absorb : (x y : Bool) → (x ≡ true → y ≡ true) → y ≡ x || y
       absorb true y f = f refl
       absorb false y f = refl
 
-      or_false : (x : Bool) → x || false ≡ x
-      or_false true = refl
-      or_false false = refl
+      or-false : (x : Bool) → x || false ≡ x
+      or-false true = refl
+      or-false false = refl

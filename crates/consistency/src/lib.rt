@@ -1,7 +1,7 @@
 // Which records are consistent: the relations between events, the thirteen predicates and the thirteen models in specs/, and what follows from these in proofs/. The code has their types alone.
 
 // A predicate, in the paper's order.
-#[derive(Drop)]
+#[derive(Clone, Copy)]
 pub enum Predicate {
     RVal,
     SingleOrder,
@@ -19,28 +19,28 @@ pub enum Predicate {
 }
 
 // Whether a predicate is met, or the first pair that breaks it.
-#[derive(Drop)]
+#[derive(Clone, Copy)]
 pub enum Verdict {
     Met,
     Broken(usize, usize),
 }
 
 // The last write that a read sees.
-#[derive(Drop)]
+#[derive(Clone, Copy)]
 pub enum Last {
     Nothing,
     At(usize),
 }
 
 // Whether all predicates of a list are met, or the first that is broken, by its number, and its pair.
-#[derive(Drop)]
+#[derive(Clone, Copy)]
 pub enum Outcome {
     AllMet,
     BrokenAt(usize, usize, usize),
 }
 
 // How the break of a predicate is told: by a chain of events, by the one in the middle, or by its pair alone.
-#[derive(Drop)]
+#[derive(Clone, Copy)]
 pub enum Telling {
     ByChain,
     ByMiddle,

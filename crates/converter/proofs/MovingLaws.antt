@@ -88,8 +88,8 @@ module _ (s : List ℕ) (right : Passes (edition_of s) s) where
       omega (arith, few, slots-few M (edition-sound (named k)), div-le_self (count_in s + (M.per_block - 1)) M.per_block)
 
   -- its terms, where its edition has them and where it has none
-  pub none-lacking : L.terms ≡ false → true ≡ says_none (history_of (edition_of s) s).terms
-  none-lacking e =
+  pub none_lacking : L.terms ≡ false → true ≡ says_none (history_of (edition_of s) s).terms
+  none_lacking e =
       sym (ap says_none (terms-none L s e) ∙ ap not (none-some 32 (λ o. false) (λ o l. refl)))
 
   pub none-zero : Bytes s → L.terms ≡ true → zeros 8 s 8 ≡ says_none (history_of (edition_of s) s).terms

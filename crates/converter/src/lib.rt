@@ -9,7 +9,7 @@ ghost use Rattle.converter.specs.Means.{Converts};
 use record::{Reading, layout};
 
 // The answer of a converting call: how many bytes were written, or what refused it.
-#[derive(Drop)]
+#[derive(Clone, Copy)]
 pub enum Conversion {
     Written(usize),
     NoSuchEdition,

@@ -61,7 +61,7 @@ fn copy_part(s: &[u8], here: usize, size: usize, target: &mut [u8], there: usize
 {
     let end = here + size;
     let stop = there + size;
-    bytes::copy(&s[here..end], &mut target[there..stop]);
+    target[there..stop].copy_from_slice(&s[here..end]);
 }
 
 // The terms, where both editions have them.

@@ -70,8 +70,8 @@ none_told p h e out = rw e (refl, refl)
 -- ---- the tables
 
 -- row b of so's table, as code cuts it out
-pub so-row : (n b : ℕ) (t : List ℕ) → b < n → slice_at t row_words (1 * n + b) ≡ row_at (part n row_words 1 t) row_words b
-so-row n b t h = slice_row t row_words (1 * n + b) ∙ sym (part-row n row_words 1 t b h)
+pub so_row : (n b : ℕ) (t : List ℕ) → b < n → slice_at t row_words (1 * n + b) ≡ row_at (part n row_words 1 t) row_words b
+so_row n b t h = slice_row t row_words (1 * n + b) ∙ sym (part-row n row_words 1 t b h)
 
 module _ (n : ℕ) (l v g t : List ℕ) (q : Terms) (given : Given n row_words l v) (ready : Prepared n row_words (under q (history_from n row_words l v)) t) where
   abbrev h : History

@@ -12,7 +12,7 @@ use judge::{Admission, lists};
 use record::{Reading, layout};
 
 // The answer of an explaining call: how many entries were written, or what refused it.
-#[derive(Drop)]
+#[derive(Clone, Copy)]
 pub enum Explanation {
     Told(usize),
     NoSuchNumber,

@@ -21,7 +21,7 @@ use consistency::Outcome;
 use record::{Reading, layout};
 
 // How questions 1 and 2 were answered.
-#[derive(Drop)]
+#[derive(Clone, Copy)]
 pub enum Admission {
     Granted,
     TooFewWords,
@@ -29,7 +29,7 @@ pub enum Admission {
 }
 
 // The answer of a judging call.
-#[derive(Drop)]
+#[derive(Clone, Copy)]
 pub enum Judgment {
     Judged(Outcome),
     NoSuchNumber,
@@ -37,7 +37,7 @@ pub enum Judgment {
 }
 
 // A record's reading, and the numbers of its thirteen judgments, each the refusal's where it was refused.
-#[derive(Drop)]
+#[derive(Clone, Copy)]
 pub struct AllJudged {
     pub reading: Reading,
     pub judgments: [u64; 13],

@@ -2,7 +2,7 @@
 -- those. Assumes nothing.
 use mathlib.Core.Path.{◌≡◌, refl, sym, ap, ap₂, ◌∙◌}
 use mathlib.Core.Logic.{◌≢◌}
-use mathlib.Core.Bool.{Bool, true, false, not, ◌&&◌, ◌||◌, or_false, and-true, and-false}
+use mathlib.Core.Bool.{Bool, true, false, not, ◌&&◌, ◌||◌, or-false, and-true, and-false}
 use mathlib.Core.List.{List}
 use Prim.Native.Nat.{ℕ, suc, ◌+◌, ◌-◌, ◌*◌, ◌/◌, ◌%◌, ◌^◌, ◌<◌, ◌≤◌, min}
 use native.Mathlib.Omega.{arith}
@@ -80,7 +80,7 @@ module _ (w : ℕ) (q starts ends r : List ℕ) where
   collected_skip b l i e a =
       let one : b + 1 ≡ suc b = omega arith in
       i a
-      ∙ sym (or_false (some b (lacks w q starts ends r a)))
+      ∙ sym (or-false (some b (lacks w q starts ends r a)))
       ∙ ap (λ (t : Bool). some b (lacks w q starts ends r a) || t) (sym (none (has starts a) (has ends b) (related q w a b) (not (related r w a b)) e))
       ∙ sym (some_more b (lacks w q starts ends r a))
       ∙ ap (λ (k : ℕ). some k (lacks w q starts ends r a)) (sym one)
@@ -105,7 +105,7 @@ next_of : (j : ℕ) (f : ℕ → Bool) (i : ℕ) → (ltb i j && f i) || (eqb j 
 next_of j f i =
     split (eqb j i)
     (λ e. let q : j ≡ i = eqb-true j i e in rw (← q, le-ltb j j (omega arith), eq-eqb j j refl, lt-ltb j (j + 1) (omega arith)))
-    (λ e. rw (e, or_false (ltb i j && f i)) (ap (λ (t : Bool). t && f i) (same_test (ltb i j) (ltb i (j + 1))
+    (λ e. rw (e, or-false (ltb i j && f i)) (ap (λ (t : Bool). t && f i) (same_test (ltb i j) (ltb i (j + 1))
     (λ t. lt-ltb i (j + 1) (omega (arith, ltb-true i j t)))
     (λ t. lt-ltb i j (omega (arith, ltb-true i (j + 1) t, eqb-false j i e))))))
 

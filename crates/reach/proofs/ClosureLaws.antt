@@ -1,6 +1,6 @@
 -- Laws of closing a table in place: round k adds the steps over event k to each row. Assumes nothing.
 use mathlib.Core.Path.{◌≡◌, refl, sym, ap, ap₂, ◌∙◌}
-use mathlib.Core.Bool.{Bool, true, false, ◌&&◌, ◌||◌, and_comm, or_false}
+use mathlib.Core.Bool.{Bool, true, false, ◌&&◌, ◌||◌, and_comm, or-false}
 use mathlib.Core.List.{List}
 use Prim.Native.Nat.{ℕ, ◌+◌, ◌*◌, ◌≤◌, ◌<◌}
 use native.Mathlib.Numerals.{add-one}
@@ -50,7 +50,7 @@ module _ (g₀ : List ℕ) (k : ℕ) (m : List ℕ) (b : ℕ) (g : List ℕ) (i 
 
   pub taken_skip : (g' : List ℕ) → g' ≡ g → has (row_at g (length m) b) k ≡ false → Taken g₀ k m (b + 1) g'
   taken_skip g' e t = rw e (taken_next g refl
-      (λ x. sym (ap (λ (u : Bool). has (row_at g (length m) b) x || u && has m x) t ∙ or_false (has (row_at g (length m) b) x)))
+      (λ x. sym (ap (λ (u : Bool). has (row_at g (length m) b) x || u && has m x) t ∙ or-false (has (row_at g (length m) b) x)))
       (λ c ne. refl))
 
 -- ---- all rounds

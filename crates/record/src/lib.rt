@@ -7,7 +7,7 @@ ghost use Rattle.std.specs.Prelude.{◌≡◌};
 ghost use Rattle.record.specs.Questions.{number_of, place_of};
 
 // How a record was read: passed, or the first question that got a no, with its place.
-#[derive(Drop)]
+#[derive(Clone, Copy)]
 pub enum Reading {
     Passed,
     ShortWork,
@@ -23,7 +23,7 @@ pub enum Reading {
 
 // The numbers by which editions differ: a record's four letters, the bytes of a slot, those from the start of a block's last slot to the next block, the slots
 // of a block, the words of a visible set, the most events, and whether block 0 has terms.
-#[derive(Drop)]
+#[derive(Clone, Copy)]
 pub struct Edition {
     pub letters: [u8; 4],
     pub slot: usize,
@@ -35,7 +35,7 @@ pub struct Edition {
 }
 
 // The fields of a slot; its visible set is a row beside it.
-#[derive(Drop)]
+#[derive(Clone, Copy)]
 pub struct Slot {
     pub write: bool,
     pub site: u8,

@@ -4,7 +4,7 @@ ghost use Rattle.record.specs.Blocks.{sum_a, sum_b};
 
 use rows::octets;
 
-#[derive(Drop)]
+#[derive(Clone, Copy)]
 pub struct Check {
     pub a: u64,
     pub b: u64,

@@ -38,7 +38,7 @@ use Rattle.store.proofs.RunKeeps.{every-run}
 use Rattle.store.proofs.Invariant.{StoreInv}
 use Rattle.store.proofs.Sizes.{every_limits, sizes}
 use Rattle.store.proofs.StoreIsCausal.{key_once}
-use Rattle.store.proofs.WholeList.{each-answer, beyond-answers}
+use Rattle.store.proofs.WholeList.{each_answer, beyond_answers}
 use Rattle.store.proofs.EveryClose.{every-close, close_at}
 use Rattle.store.proofs.EveryCopy.{every_copy}
 use Rattle.store.proofs.CopiesTold.{every_copy_told}
@@ -192,8 +192,8 @@ module _ (n : ℕ) (openings script rec ans : List ℕ) where
         clocks = λ z j l. absurd (some z);
         opened = λ z j l. absurd (some z);
         causal = λ z. absurd (some z);
-        each-answer = λ z k l. absurd (some z);
-        beyond-answers = λ z. absurd (some z);
+        each_answer = λ z k l. absurd (some z);
+        beyond_answers = λ z. absurd (some z);
         closes = λ z before after e. absurd (some z);
         closes_at = λ z k l e. absurd (some z);
         adds_up = λ z. absurd (some z);
@@ -246,8 +246,8 @@ module _ (n : ℕ) (openings script rec ans : List ℕ) where
           clocks = λ q. record_clocks n openings script;
           opened = λ q. record_opened n openings script rec ans ok opens;
           causal = λ q. third_demand n right.least n≤8 openings script opens bytes;
-          each-answer = λ q k l. ap (λ (a : List ℕ). answer_in a k) answered ∙ each-answer n openings script rest k l;
-          beyond-answers = λ q. ap (drop (8 * call_count script)) answered ∙ beyond-answers n openings script rest ∙ ap (λ (i : ℕ). drop i ans) calls;
+          each_answer = λ q k l. ap (λ (a : List ℕ). answer_in a k) answered ∙ each_answer n openings script rest k l;
+          beyond_answers = λ q. ap (drop (8 * call_count script)) answered ∙ beyond_answers n openings script rest ∙ ap (λ (i : ℕ). drop i ans) calls;
           closes = λ q before after e. every-close n n≤8 (terms_of openings) before;
           closes_at = λ q k l e.
               let c = close_at n n≤8 openings script rest k l e in

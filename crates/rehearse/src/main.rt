@@ -26,7 +26,7 @@ fn opened(sites: usize, rest: &[u8], rec: &mut [u8], answers: &mut [u8]) {
     if 132 < given {
         given = 132;
     }
-    bytes::copy(&rest[..given], &mut openings);
+    openings[..given].copy_from_slice(&rest[..given]);
     rehearse(sites, &openings, &rest[given..], rec, answers);
 }
 

@@ -1,7 +1,7 @@
 -- Laws of a loop that joins the numbers at which a test f holds to a row, word by word. Assumes nothing.
 use mathlib.Core.Path.{◌≡◌, refl, sym, ap, ap₂, ◌∙◌}
 use mathlib.Core.Logic.{◌≢◌}
-use mathlib.Core.Bool.{Bool, false, ◌&&◌, ◌||◌, or_false}
+use mathlib.Core.Bool.{Bool, false, ◌&&◌, ◌||◌, or-false}
 use mathlib.Core.List.{List}
 use Prim.Native.Nat.{ℕ, ◌+◌, ◌-◌, ◌*◌, ◌/◌, ◌%◌, ◌^◌, ◌<◌, ◌≤◌}
 use native.Mathlib.Omega.{arith}
@@ -29,7 +29,7 @@ module _ (f : ℕ → Bool) (d₀ : List ℕ) where
     pub joining_all : ((x : ℕ) → 64 * i ≤ x → f x ≡ false) → (x : ℕ) → has d x ≡ has d₀ x || f x
     joining_all none x = split (ltb x (64 * i)) (λ t. j.done x (ltb-true x (64 * i) t)) (λ t.
         let far : 64 * i ≤ x = ltb-false x (64 * i) t in
-        j.kept x far ∙ sym (or_false (has d₀ x)) ∙ ap (λ (u : Bool). has d₀ x || u) (sym (none x far)))
+        j.kept x far ∙ sym (or-false (has d₀ x)) ∙ ap (λ (u : Bool). has d₀ x || u) (sym (none x far)))
 
     -- y is f's word i
     module _ (y : ℕ) (same : (k : ℕ) → k < 64 → f (i * 64 + k) ≡ bit_of y k) (within : i < length d₀) (d' : List ℕ) (stored : d' ≡ set d i (bit_or (get_or d i 0) y)) where

@@ -87,9 +87,9 @@ module _ (n : ℕ) (r : Rel) where
   unfolding steps_from
   from_more b k a = refl
 
-  pub from-length : (b k a : ℕ) → length (steps_from n r b k a) ≡ suc k
-  from-length b zero a = rw (from_one b a) refl
-  from-length b (suc k) a = rw (from_more b k a) (ap suc (from-length b k (next_of n r b k a)))
+  pub from_length : (b k a : ℕ) → length (steps_from n r b k a) ≡ suc k
+  from_length b zero a = rw (from_one b a) refl
+  from_length b (suc k) a = rw (from_more b k a) (ap suc (from_length b k (next_of n r b k a)))
 
   module _ (b : ℕ) where
     from_entries : (k a : ℕ) → leads n r k a b ≡ true → Entries n r a b (steps_from n r b k a)
@@ -141,9 +141,9 @@ module _ (n : ℕ) (r : Rel) where
         })
 
     -- where no fewer steps lead to b, no event stands twice: what stands between would be left out
-    from-once : (k a : ℕ) → leads n r k a b ≡ true → ((j : ℕ) → j < k → leads n r j a b ≡ false)
+    from_once : (k a : ℕ) → leads n r k a b ≡ true → ((j : ℕ) → j < k → leads n r j a b ≡ false)
         → (i j : ℕ) → i < j → j ≤ k → get_or (steps_from n r b k a) i 0 ≡ get_or (steps_from n r b k a) j 0 → ⊥
-    from-once k a e fewer i j h l q =
+    from_once k a e fewer i j h l q =
         let s = entry k a e i (omega arith) in
         let t = entry k a e j l in
         let x : ℕ = get_or (steps_from n r b k a) i 0 in
@@ -169,12 +169,12 @@ module _ (n : ℕ) (r : Rel) (b : ℕ) (right : b < n) where
   -- k + 1 steps, where no fewer do, go to k + 1 different events
   fewest-small : (k a : ℕ) → leads n r k a b ≡ true → ((j : ℕ) → j < k → leads n r j a b ≡ false) → k < n
   fewest-small k a e fewer =
-      let long = from-length n r b k a in
-      omega (arith, long, few_different n (λ i. get_or (steps_from n r b k a) i 0) (length (steps_from n r b k a)) inside (λ i j h m. from-once n r b k a e fewer i j h (omega (arith, long))))
+      let long = from_length n r b k a in
+      omega (arith, long, few_different n (λ i. get_or (steps_from n r b k a) i 0) (length (steps_from n r b k a)) inside (λ i j h m. from_once n r b k a e fewer i j h (omega (arith, long))))
     where
       inside : (i : ℕ) → i < length (steps_from n r b k a) → get_or (steps_from n r b k a) i 0 < n
       inside i h =
-          let long = from-length n r b k a in
+          let long = from_length n r b k a in
           let t = entry n r b k a e i (omega (arith, long)) in
           split (ltb i k)
           (λ u. t.below (ltb-true i k u))
@@ -221,33 +221,45 @@ module _ (n : ℕ) (r : Rel) (b : ℕ) (right : b < n) where
   shortest a e =
       let near = reached_near a e in
       let k : ℕ = distance n r a b in
-      let long = from-length n r b k a in
+      let long = from_length n r b k a in
       record {
         chain = from_entries n r b k a (at-distance a near);
         fewest = λ m c. omega (arith, long, entries_length c);
-        lowest-next = λ m c q. from_first n r b k a c (q ∙ long);
-        once = λ i j h l. from-once n r b k a (at-distance a near) (none_nearer a) i j h (omega (arith, long));
+        lowest_next = λ m c q. from_first n r b k a c (q ∙ long);
+        once = λ i j h l. from_once n r b k a (at-distance a near) (none_nearer a) i j h (omega (arith, long));
         fits = omega (arith, long, near);
       }
 
 -- ---- there is one only
 
+head_not_later : {x y : ℕ} {l m : List ℕ} → NotLater (x ∷ l) (y ∷ m) → x ≤ y
+head_not_later same = omega arith
+head_not_later (lower h) = omega arith
+head_not_later (then p) = omega arith
+
+tail_not_later : {x y : ℕ} {l m : List ℕ} → NotLater (x ∷ l) (y ∷ m) → x ≡ y → NotLater l m
+tail_not_later same e = same
+tail_not_later (lower h) e = absurd (omega arith)
+tail_not_later (then p) e = p
+
+nil_not_later : {y : ℕ} {m : List ℕ} → NotLater [] (y ∷ m) → ⊥
+nil_not_later p = elim p [ ]
+
 pub not-later-both : {l m : List ℕ} → NotLater l m → NotLater m l → l ≡ m
-not-later-both same q = refl
-not-later-both (lower h) q = absurd (apart h q)
+not-later-both {l} {m} p q = both l m p q
   where
-    apart : {x y : ℕ} {l m : List ℕ} → x < y → NotLater (y ∷ m) (x ∷ l) → ⊥
-    apart h same = omega arith
-    apart h (lower k) = omega arith
-    apart h (then q) = omega arith
-not-later-both (then {x} p) same = refl
-not-later-both (then {x} p) (lower h) = absurd (omega arith)
-not-later-both (then {x} p) (then q) = ap (λ (t : List ℕ). x ∷ t) (not-later-both p q)
+    both : (l m : List ℕ) → NotLater l m → NotLater m l → l ≡ m
+    both [] [] p q = refl
+    both [] (y ∷ m) p q = absurd (nil_not_later p)
+    both (x ∷ l) [] p q = absurd (nil_not_later q)
+    both (x ∷ l) (y ∷ m) p q =
+        let e : x ≡ y = omega (arith, head_not_later p, head_not_later q) in
+        ap₂ ◌∷◌ e (both l m (tail_not_later p e) (tail_not_later q (sym e)))
 
 pub shortest_only : {n : ℕ} {r : Rel} {a b : ℕ} {l m : List ℕ} → Shortest n r a b l → Shortest n r a b m → l ≡ m
 shortest_only {l} {m} s t =
     let long : length l ≡ length m = omega (arith, s.fewest m t.chain, t.fewest l s.chain) in
-    not-later-both (s.lowest-next m t.chain (sym long)) (t.lowest-next l s.chain long)
+    not-later-both (s.lowest_next m t.chain (sym long)) (t.lowest_next l s.chain long)
 
 -- ---- relations that agree among n events
 

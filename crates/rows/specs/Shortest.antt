@@ -45,6 +45,6 @@ pub data NotLater : List ℕ → List ℕ → Type 0 where
 pub record Shortest (n : ℕ) (r : Rel) (a b : ℕ) (l : List ℕ) : Type 0 where
   pub chain : Entries n r a b l
   pub fewest : (m : List ℕ) → Entries n r a b m → length l ≤ length m
-  pub lowest-next : (m : List ℕ) → Entries n r a b m → length m ≡ length l → NotLater l m
+  pub lowest_next : (m : List ℕ) → Entries n r a b m → length m ≡ length l → NotLater l m
   pub once : (i j : ℕ) → i < j → j < length l → get_or l i 0 ≡ get_or l j 0 → ⊥
   pub fits : length l ≤ n

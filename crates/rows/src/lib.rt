@@ -1,4 +1,6 @@
 // Bit rows of any width in lent slices: a row of w words is a set of numbers below 64 * w.
+#![tactic(auto)]
+
 pub mod octets;
 pub mod table_rows;
 

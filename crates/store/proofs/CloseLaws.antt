@@ -30,7 +30,7 @@ needs-reached n F st ok w t below has i =
     (λ l.
     let c : CountedPut F (F w).sees i ((st.site t).held i) = (ok.events w below).counted i _ (ltb-true ((st.site t).held i) ((F w).needs i) l) in
     let k : (st.site t).known c.put ≡ true = has c.put ((ok.events w below).earlier c.put c.seen) c.is_put in
-    absurd (omega (arith, (ok.sites t).known-held c.put k c.is_put, c.place, ap (st.site t).held c.site)))
+    absurd (omega (arith, (ok.sites t).known_held c.put k c.is_put, c.place, ap (st.site t).held c.site)))
     (λ l. ltb-false ((st.site t).held i) ((F w).needs i) l)
 
 -- ---- one copy changes its own site

@@ -180,4 +180,4 @@ module _ (n : ℕ) (openings script rec ans rec' ans' : List ℕ) (r : Rehearsed
       let closed : AllAgree n (after_call n st close) = (h.closes z before [] e).leaves in
       h.copies
       ∙ rw (← h.number, z, e, run_more n st₀ before close)
-      (outstanding-none n (after_call n st close) closed.none-lacking))
+      (outstanding-none n (after_call n st close) closed.none_lacking))

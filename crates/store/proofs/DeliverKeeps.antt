@@ -37,7 +37,7 @@ module _ (n : ℕ) (n≤8 : n ≤ 8) {T : Terms} (F : Table) (st : Store) (ok : 
   seen-known p h i =
       let l : p < w = event_w.earlier p h in
       let m : p < st.count = omega (arith, d.done) in
-      (ok.sites t).held-known p m i
+      (ok.sites t).held_known p m i
       (omega (arith, event_w.needs p h i, d.reached (F p).site (omega (arith, (ok.events p m).site))))
 
   -- w is the next put of its site that t lacks
@@ -45,7 +45,7 @@ module _ (n : ℕ) (n≤8 : n ≤ 8) {T : Terms} (F : Table) (st : Store) (ok : 
   next =
       split (ltb (place (F w)) ((st.site t).held (F w).site))
       (λ e. absurd (tell ((st.site t).known w)
-      ((ok.sites t).held-known w d.done d.is_put (ltb-true (place (F w)) ((st.site t).held (F w).site) e))
+      ((ok.sites t).held_known w d.done d.is_put (ltb-true (place (F w)) ((st.site t).held (F w).site) e))
       d.lacks))
       (λ e. omega (
         arith,
@@ -98,21 +98,21 @@ module _ (n : ℕ) (n≤8 : n ≤ 8) {T : Terms} (F : Table) (st : Store) (ok : 
     own = λ e h s. knows e ((ok.sites t).own e h s);
     clock = λ e h.
         came e h (λ y. rw y (omega arith)) (λ y. omega (arith, event_w.rises e y)) (λ y. omega (arith, (ok.sites t).clock e y));
-    clock-few = omega (arith, (ok.sites t).clock-few, event_w.stamp, d.done);
-    known-held = λ e h i.
+    clock_few = omega (arith, (ok.sites t).clock_few, event_w.stamp, d.done);
+    known_held = λ e h i.
         upd_elim (λ (y : ℕ). place (F e) < y) (st.site t).held (F w).site (suc ((st.site t).held (F w).site)) (F e).site
         (λ s. elim (came_put e h i) [
           | inl x ↦ rw (x, next) (le_refl _)
-          | inr x ↦ omega (arith, ap (st.site t).held s, (ok.sites t).known-held e x i)
+          | inr x ↦ omega (arith, ap (st.site t).held s, (ok.sites t).known_held e x i)
         ])
-        (λ s. elim (came_put e h i) [ inl x ↦ absurd (s (ap (λ (y : ℕ). (F y).site) x)) | inr x ↦ (ok.sites t).known-held e x i ]);
-    held-known = λ e h i.
+        (λ s. elim (came_put e h i) [ inl x ↦ absurd (s (ap (λ (y : ℕ). (F y).site) x)) | inr x ↦ (ok.sites t).known_held e x i ]);
+    held_known = λ e h i.
         upd_elim (λ (y : ℕ). place (F e) < y → (after_delivery (st.site t) w (F w)).known e ≡ true)
         (st.site t).held (F w).site (suc ((st.site t).held (F w).site)) (F e).site
         (λ s l. lt_suc_elim (place (F e)) ((st.site t).held (F w).site) l
-        (λ x. knows e ((ok.sites t).held-known e h i (omega (arith, ap (st.site t).held s))))
+        (λ x. knows e ((ok.sites t).held_known e h i (omega (arith, ap (st.site t).held s))))
         (λ x. rw (one_place e h i s (x ∙ next)) knows_w))
-        (λ s l. knows e ((ok.sites t).held-known e h i l));
+        (λ s l. knows e ((ok.sites t).held_known e h i l));
     counted = λ i p.
         upd_elim (λ (y : ℕ). p < y → CountedPut F (after_delivery (st.site t) w (F w)).known i p)
         (st.site t).held (F w).site (suc ((st.site t).held (F w).site)) i
@@ -120,10 +120,10 @@ module _ (n : ℕ) (n≤8 : n ≤ 8) {T : Terms} (F : Table) (st : Store) (ok : 
         (λ x. counted-more knows ((ok.sites t).counted i p (omega (arith, ap (st.site t).held s))))
         (λ x. record { put = w; seen = knows_w; is_put = d.is_put; site = sym s; place = sym (x ∙ next) }))
         (λ s l. counted-more knows ((ok.sites t).counted i p l));
-    held-made = λ i.
+    held_made = λ i.
         upd_elim (λ (y : ℕ). y ≤ totals st.site i) (st.site t).held (F w).site (suc ((st.site t).held (F w).site)) i
         (λ s. rw (s, next) (event_w.place_made d.is_put))
-        (λ s. (ok.sites t).held-made i);
+        (λ s. (ok.sites t).held_made i);
     cell = λ o.
         upd_elim (HoldsLast T F (after_delivery (st.site t) w (F w)).known o)
         (st.site t).cell (F w).object (merge ((st.site t).cell (F w).object) (value_or0 (F w).shown) (F w).stamp (F w).site) o
@@ -156,6 +156,6 @@ module _ (n : ℕ) (n≤8 : n ≤ 8) {T : Terms} (F : Table) (st : Store) (ok : 
             (λ q. rw q (site-more more there))
             (λ q. site-more more (ok.sites u));
         few = λ i.
-            upd_elim (λ (x : Site). x.held i ≤ st.count) st.site t b i (λ q. omega (arith, there.held-made i, ok.few i))
+            upd_elim (λ (x : Site). x.held i ≤ st.count) st.site t b i (λ q. omega (arith, there.held_made i, ok.few i))
             (λ q. ok.few i);
       }

@@ -20,15 +20,15 @@ use Rattle.store.proofs.RunKeeps.{copies-keep, copies_inv, every-run}
 use Rattle.store.proofs.OutstandingLaws.{outstanding-most, known-put}
 use Rattle.store.proofs.CloseLaws.{close-none-lacking, copied-outstanding}
 use Rattle.store.proofs.Sizes.{Limits, every_limits}
-use Rattle.store.proofs.NeedsMet.{needs-met}
+use Rattle.store.proofs.NeedsMet.{needs_met}
 use Rattle.store.proofs.CellsAgree.{KnowsAll, cells_agree, gets-agree}
-use Rattle.store.proofs.WholeList.{each-answer}
+use Rattle.store.proofs.WholeList.{each_answer}
 
 -- where no site lacks a put, all agree
 all_agree : (n : ℕ) → n ≤ 8 → {T : Terms} (st : Store) → StoreInv n T st.event st
     → ((w t : ℕ) → w < st.count → t < n → lacks st t w ≡ false) → AllAgree n st
 all_agree n n≤8 st ok none = record {
-  none-lacking = none;
+  none_lacking = none;
   cells = agree;
   gets = λ s t o s<n t<n. gets-agree n st s t o s<n t<n (agree s t o s<n t<n);
 }
@@ -61,7 +61,7 @@ module _ (n : ℕ) (n≤8 : n ≤ 8) {T : Terms} (st : Store) (ok : StoreInv n T
     leaves = leaves;
     answered = answered;
     few = omega (arith, outstanding-most n st, mul-le-mul n≤8 limits.count);
-    needs-met = needs-met n n≤8 st ok;
+    needs_met = needs_met n n≤8 st ok;
   }
 
 pub every-close : (n : ℕ) → n ≤ 8 → (T : Terms) (cs : List Call) → Closes n (run n (fresh T) cs)
@@ -74,4 +74,4 @@ pub close_at : (n : ℕ) → n ≤ 8 → (openings script rest : List ℕ) (k : 
 unfolding store_before
 close_at n n≤8 openings script rest k l e =
     let c : Closes n (store_before n openings script k) = every-close n n≤8 (terms_of openings) (calls_from k script 0) in
-    (c, each-answer n openings script rest k l ∙ ap (answer n (store_before n openings script k)) e ∙ c.answered)
+    (c, each_answer n openings script rest k l ∙ ap (answer n (store_before n openings script k)) e ∙ c.answered)

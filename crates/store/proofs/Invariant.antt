@@ -68,7 +68,7 @@ pub record EventInv (n : ℕ) (T : Terms) (F : Table) (made : ℕ → ℕ) (e : 
   -- needs count the puts that it sees, and it sees every put that they count
   pub needs : (f : ℕ) → (F e).sees f ≡ true → (F f).is_put ≡ true → place (F f) < (F e).needs (F f).site
   pub counted : (i p : ℕ) → p < (F e).needs i → CountedPut F (F e).sees i p
-  pub needs-made : (i : ℕ) → (F e).needs i ≤ made i
+  pub needs_made : (i : ℕ) → (F e).needs i ≤ made i
   pub place_made : (F e).is_put ≡ true → place (F e) < made (F e).site
   pub written : (F e).is_put ≡ true → (F e).shown ≡ value (value_or0 (F e).shown)
   pub found : (F e).is_put ≡ false → ShowsLast T F (F e).sees (F e).object (F e).shown
@@ -79,12 +79,12 @@ pub record SiteInv (T : Terms) (F : Table) (m : ℕ) (made : ℕ → ℕ) (s : �
   pub closed : (e f : ℕ) → a.known e ≡ true → (F e).sees f ≡ true → a.known f ≡ true
   pub own : (e : ℕ) → e < m → (F e).site ≡ s → a.known e ≡ true
   pub clock : (e : ℕ) → a.known e ≡ true → (F e).stamp ≤ a.clock
-  pub clock-few : a.clock ≤ m
+  pub clock_few : a.clock ≤ m
   -- of each site's puts, the first `held` are known and no others
-  pub known-held : (e : ℕ) → a.known e ≡ true → (F e).is_put ≡ true → place (F e) < a.held (F e).site
-  pub held-known : (e : ℕ) → e < m → (F e).is_put ≡ true → place (F e) < a.held (F e).site → a.known e ≡ true
+  pub known_held : (e : ℕ) → a.known e ≡ true → (F e).is_put ≡ true → place (F e) < a.held (F e).site
+  pub held_known : (e : ℕ) → e < m → (F e).is_put ≡ true → place (F e) < a.held (F e).site → a.known e ≡ true
   pub counted : (i p : ℕ) → p < a.held i → CountedPut F a.known i p
-  pub held-made : (i : ℕ) → a.held i ≤ made i
+  pub held_made : (i : ℕ) → a.held i ≤ made i
   pub cell : (o : ℕ) → HoldsLast T F a.known o (a.cell o)
 
 pub record StoreInv (n : ℕ) (T : Terms) (F : Table) (st : Store) : Type 0 where
@@ -107,7 +107,7 @@ event-more {n} {T} {F} {made} {made'} {e} up h = record {
   stamp = h.stamp;
   needs = h.needs;
   counted = h.counted;
-  needs-made = λ i. omega (arith, h.needs-made i, up i);
+  needs_made = λ i. omega (arith, h.needs_made i, up i);
   place_made = λ p. omega (arith, h.place_made p, up (F e).site);
   written = h.written;
   found = h.found;
@@ -119,11 +119,11 @@ site-more up h = record {
   closed = h.closed;
   own = h.own;
   clock = h.clock;
-  clock-few = h.clock-few;
-  known-held = h.known-held;
-  held-known = h.held-known;
+  clock_few = h.clock_few;
+  known_held = h.known_held;
+  held_known = h.held_known;
   counted = h.counted;
-  held-made = λ i. omega (arith, h.held-made i, up i);
+  held_made = λ i. omega (arith, h.held_made i, up i);
   cell = h.cell;
 }
 

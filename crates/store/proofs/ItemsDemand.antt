@@ -87,4 +87,4 @@ module _ (n : ℕ) (n≤8 : n ≤ 8) (openings script rec ans rec' ans' : List �
       ∙ sym (store-remaining n T (before ++ (call close ∷ [])))
       ∙ ap (λ (d : Day Store). d.now) (stores_more n T before (call close))
       ∙ ap (λ (st : Store). after_call n st close) (store-remaining n T before) in
-      h.copies ∙ rw now (outstanding-none n (after_call n found close) (every-close n n≤8 T (remaining n T before)).leaves.none-lacking)
+      h.copies ∙ rw now (outstanding-none n (after_call n found close) (every-close n n≤8 T (remaining n T before)).leaves.none_lacking)

@@ -68,5 +68,5 @@ module _ (n : ℕ) (n≤8 : n ≤ 8) {T : Terms} (st : Store) (ok : StoreInv n T
       met_join n st (all_copies n w) (copies_of w n) (all_met w (omega arith))
       (rw (all_closed n st w (omega arith)) (row-met w l n (le_refl n)))
 
-  pub needs-met : (front rest : List Copy) (c : Copy) → close_copies n st ≡ front ++ (c ∷ rest) → copy_refusal n (after_copies n st front) c ≡ 36 → ⊥
-  needs-met front rest c e = met_at n st front rest c (rw e at (all_met st.count (le_refl _)))
+  pub needs_met : (front rest : List Copy) (c : Copy) → close_copies n st ≡ front ++ (c ∷ rest) → copy_refusal n (after_copies n st front) c ≡ 36 → ⊥
+  needs_met front rest c e = met_at n st front rest c (rw e at (all_met st.count (le_refl _)))

@@ -23,10 +23,10 @@ module _ (n : ℕ) (n≤8 : n ≤ 8) {T : Terms} (F : Table) (st : Store) (ok : 
     transitive = λ f g h y. rw e_f ((ok.sites s).closed f g (rw e_f at h) y);
     session = λ f h q. rw e_f ((ok.sites s).own f h (rw e_f at q));
     rises = λ f h. rw e_f (omega (arith, (ok.sites s).clock f (rw e_f at h)));
-    stamp = rw e_f (omega (arith, (ok.sites s).clock-few));
-    needs = λ f h i. rw e_f ((ok.sites s).known-held f (rw e_f at h) i);
+    stamp = rw e_f (omega (arith, (ok.sites s).clock_few));
+    needs = λ f h i. rw e_f ((ok.sites s).known_held f (rw e_f at h) i);
     counted = λ i q l. rw e_f ((ok.sites s).counted i q (rw e_f at l));
-    needs-made = λ i. rw e_f (omega (arith, (ok.sites s).held-made i, more i));
+    needs_made = λ i. rw e_f (omega (arith, (ok.sites s).held_made i, more i));
     place_made = λ q. rw e_f (rise (rw e_f at q));
     written = λ q. rw e_f (written (rw e_f at q));
     found = λ q. rw e_f (found (rw e_f at q));
@@ -66,17 +66,17 @@ module _ (n : ℕ) (n≤8 : n ≤ 8) {T : Terms} (F : Table) (st : Store) (ok : 
     closed = closed-then (ap (λ (x : Event). x.sees) e_f);
     own = own-then;
     clock = clock-then (ap (λ (x : Event). x.stamp) e_f);
-    clock-few = omega (arith, (ok.sites s).clock-few);
-    known-held = λ e h i.
+    clock_few = omega (arith, (ok.sites s).clock_few);
+    known_held = λ e h i.
         upd_elim (λ (y : ℕ). place (F e) < y) (st.site s).held s (suc ((st.site s).held s)) (F e).site
         (λ q. came e h (λ l. omega (arith, ap place (ap F l ∙ e_f)))
-        (λ l. omega (arith, (ok.sites s).known-held e l i, ap (st.site s).held q)))
-        (λ q. came e h (λ l. absurd (q (ap (λ (x : Event). x.site) (ap F l ∙ e_f)))) (λ l. (ok.sites s).known-held e l i));
-    held-known = λ e h i.
+        (λ l. omega (arith, (ok.sites s).known_held e l i, ap (st.site s).held q)))
+        (λ q. came e h (λ l. absurd (q (ap (λ (x : Event). x.site) (ap F l ∙ e_f)))) (λ l. (ok.sites s).known_held e l i));
+    held_known = λ e h i.
         upd_elim (λ (y : ℕ). place (F e) < y → upd (st.site s).known st.count true e ≡ true)
         (st.site s).held s (suc ((st.site s).held s)) (F e).site
         (λ q x. own-then e h q)
-        (λ q x. lt_suc_elim e st.count h (λ l. knows e ((ok.sites s).held-known e l i x)) (λ l. rw l knows_new));
+        (λ q x. lt_suc_elim e st.count h (λ l. knows e ((ok.sites s).held_known e l i x)) (λ l. rw l knows_new));
     counted = λ i p.
         upd_elim (λ (y : ℕ). p < y → CountedPut F (upd (st.site s).known st.count true) i p)
         (st.site s).held s (suc ((st.site s).held s)) i
@@ -84,10 +84,10 @@ module _ (n : ℕ) (n≤8 : n ≤ 8) {T : Terms} (F : Table) (st : Store) (ok : 
         (λ x. counted-more knows ((ok.sites s).counted i p (omega (arith, ap (st.site s).held q))))
         (λ x. record { put = st.count; seen = knows_new; is_put = rw e_f; site = rw (e_f, q); place = rw (e_f, x) }))
         (λ q l. counted-more knows ((ok.sites s).counted i p l));
-    held-made = λ i.
+    held_made = λ i.
         upd_elim (λ (y : ℕ). y ≤ totals' i) (st.site s).held s (suc ((st.site s).held s)) i
         (λ q. rw q rise)
-        (λ q. omega (arith, (ok.sites s).held-made i, more i));
+        (λ q. omega (arith, (ok.sites s).held_made i, more i));
     cell = λ o'.
         upd_elim (HoldsLast T F (upd (st.site s).known st.count true) o') (st.site s).cell o (full v (suc (st.site s).clock) s) o'
         (λ q. (
@@ -118,11 +118,11 @@ module _ (n : ℕ) (n≤8 : n ≤ 8) {T : Terms} (F : Table) (st : Store) (ok : 
     closed = closed-then (ap (λ (y : Event). y.sees) e_f);
     own = own-then;
     clock = clock-then (ap (λ (y : Event). y.stamp) e_f);
-    clock-few = omega (arith, (ok.sites s).clock-few);
-    known-held = λ e h i. came e h (λ l. absurd (false≢true (rw (l, e_f) at i))) (λ l. (ok.sites s).known-held e l i);
-    held-known = λ e h i y. lt_suc_elim e st.count h (λ l. knows e ((ok.sites s).held-known e l i y)) (λ l. rw l knows_new);
+    clock_few = omega (arith, (ok.sites s).clock_few);
+    known_held = λ e h i. came e h (λ l. absurd (false≢true (rw (l, e_f) at i))) (λ l. (ok.sites s).known_held e l i);
+    held_known = λ e h i y. lt_suc_elim e st.count h (λ l. knows e ((ok.sites s).held_known e l i y)) (λ l. rw l knows_new);
     counted = λ i p l. counted-more knows ((ok.sites s).counted i p l);
-    held-made = λ i. omega (arith, (ok.sites s).held-made i, more i);
+    held_made = λ i. omega (arith, (ok.sites s).held_made i, more i);
     cell = λ o'.
         holds_more T F (st.site s).known (upd (st.site s).known st.count true) o' ((st.site s).cell o') knows
         (λ y h i b. came y h (λ l. absurd (false≢true (rw (l, e_f) at i))) (λ l. l))
@@ -138,13 +138,13 @@ module _ (n : ℕ) (n≤8 : n ≤ 8) {T : Terms} (F : Table) (st : Store) (ok : 
     closed = (ok.sites t).closed;
     own = λ e l q. lt_suc_elim e st.count l (λ h. (ok.sites t).own e h q) (λ h. absurd (other (sym (rw (h, e_f) at q))));
     clock = (ok.sites t).clock;
-    clock-few = omega (arith, (ok.sites t).clock-few);
-    known-held = (ok.sites t).known-held;
-    held-known = λ e l i y.
-        lt_suc_elim e st.count l (λ h. (ok.sites t).held-known e h i y)
-        (λ h. let z : (st.site s).held s < (st.site t).held s = rw (h, e_f) at y in absurd (omega (arith, (ok.sites t).held-made s)));
+    clock_few = omega (arith, (ok.sites t).clock_few);
+    known_held = (ok.sites t).known_held;
+    held_known = λ e l i y.
+        lt_suc_elim e st.count l (λ h. (ok.sites t).held_known e h i y)
+        (λ h. let z : (st.site s).held s < (st.site t).held s = rw (h, e_f) at y in absurd (omega (arith, (ok.sites t).held_made s)));
     counted = (ok.sites t).counted;
-    held-made = λ i. omega (arith, (ok.sites t).held-made i, more i);
+    held_made = λ i. omega (arith, (ok.sites t).held_made i, more i);
     cell = (ok.sites t).cell;
   }
 

@@ -211,11 +211,11 @@ fresh_keeps n T F = record {
     closed = λ e f h x. absurd (false≢true h);
     own = λ e l q. absurd (omega arith);
     clock = λ e h. absurd (false≢true h);
-    clock-few = le_refl _;
-    known-held = λ e h i. absurd (false≢true h);
-    held-known = λ e l i x. absurd (omega arith);
+    clock_few = le_refl _;
+    known_held = λ e h i. absurd (false≢true h);
+    held_known = λ e l i x. absurd (omega arith);
     counted = λ i p l. absurd (omega arith);
-    held-made = λ i. le_refl _;
+    held_made = λ i. le_refl _;
     cell = λ o. ((λ q h i b. absurd (false≢true h)), refl);
   };
   few = λ i. le_refl _;

@@ -91,8 +91,8 @@ pub record Sizes (st : Store) : Type 0 where
   pub needs : (e i : ℕ) → e < st.count → (st.event e).needs i ≤ st.count
   pub clock : (s : ℕ) → (st.site s).clock ≤ st.count
   pub held : (s i : ℕ) → (st.site s).held i ≤ st.count
-  pub cell-stamp : (s o : ℕ) → cell_stamp ((st.site s).cell o) ≤ st.count
-  pub cell-site : (s o : ℕ) → cell_site ((st.site s).cell o) < 8
+  pub cell_stamp : (s o : ℕ) → cell_stamp ((st.site s).cell o) ≤ st.count
+  pub cell_site : (s o : ℕ) → cell_site ((st.site s).cell o) < 8
 
 module _ (n : ℕ) (n≤8 : n ≤ 8) {T : Terms} (st : Store) (ok : StoreInv n T st.event st) where
   cell_sizes : (s o : ℕ) (c : Cell) → HoldsLast T st.event (st.site s).known o c → (cell_stamp c ≤ st.count) × (cell_site c < 8)
@@ -104,11 +104,11 @@ module _ (n : ℕ) (n≤8 : n ≤ 8) {T : Terms} (st : Store) (ok : StoreInv n T
   pub sizes : Sizes st
   sizes = record {
     stamp = λ e l. omega (arith, (ok.events e l).stamp);
-    needs = λ e i l. omega (arith, (ok.events e l).needs-made i, ok.few i);
-    clock = λ s. (ok.sites s).clock-few;
-    held = λ s i. omega (arith, (ok.sites s).held-made i, ok.few i);
-    cell-stamp = λ s o. (cell_sizes s o ((st.site s).cell o) ((ok.sites s).cell o)).0;
-    cell-site = λ s o. (cell_sizes s o ((st.site s).cell o) ((ok.sites s).cell o)).1;
+    needs = λ e i l. omega (arith, (ok.events e l).needs_made i, ok.few i);
+    clock = λ s. (ok.sites s).clock_few;
+    held = λ s i. omega (arith, (ok.sites s).held_made i, ok.few i);
+    cell_stamp = λ s o. (cell_sizes s o ((st.site s).cell o) ((ok.sites s).cell o)).0;
+    cell_site = λ s o. (cell_sizes s o ((st.site s).cell o) ((ok.sites s).cell o)).1;
   }
 
 pub every_sizes : (n : ℕ) → n ≤ 8 → (T : Terms) (cs : List Call) → Sizes (run n (fresh T) cs)

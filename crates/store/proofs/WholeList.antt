@@ -198,14 +198,14 @@ module _ (n : ℕ) (openings s rest : List ℕ) where
   abbrev told : List ℕ
   told = answers n (fresh (terms_of openings)) (calls_of s)
 
-  pub each-answer : (k : ℕ) → k < call_count s → answer_in (told ++ rest) k ≡ answer n (store_before n openings s k) (call_in s k)
+  pub each_answer : (k : ℕ) → k < call_count s → answer_in (told ++ rest) k ≡ answer n (store_before n openings s k) (call_in s k)
   unfolding store_before
-  each-answer k l =
+  each_answer k l =
       ap (λ (a : List ℕ). answer_in (a ++ rest) k) (sym (answers-whole n (terms_of openings) s))
       ∙ answer_in_lem (call_count s) n (terms_of openings) s rest k l
       ∙ ap (λ (st : Store). answer n st (call_in s k)) (store_up_to_lem k n (terms_of openings) s)
 
-  pub beyond-answers : drop (8 * call_count s) (told ++ rest) ≡ rest
-  beyond-answers =
+  pub beyond_answers : drop (8 * call_count s) (told ++ rest) ≡ rest
+  beyond_answers =
       drop_at told rest (8 * call_count s)
       (ap length (sym (answers-whole n (terms_of openings) s)) ∙ answers_up_to-length (call_count s) n (terms_of openings) s)

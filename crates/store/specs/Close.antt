@@ -9,7 +9,7 @@ use Rattle.store.specs.Outstanding.{lacks, outstanding}
 
 -- no site below n lacks a put; their cells are the same, in value, stamp and site or in the opening that they still hold; so a get of one object is answered the same at any two of them
 pub record AllAgree (n : ℕ) (st : Store) : Type 0 where
-  pub none-lacking : (w t : ℕ) → w < st.count → t < n → lacks st t w ≡ false
+  pub none_lacking : (w t : ℕ) → w < st.count → t < n → lacks st t w ≡ false
   pub cells : (s t o : ℕ) → s < n → t < n → (st.site s).cell o ≡ (st.site t).cell o
   pub gets : (s t o : ℕ) → s < n → t < n → answer n st (get s o) ≡ answer n st (get t o)
 
@@ -23,4 +23,4 @@ pub record Closes (n : ℕ) (st : Store) : Type 0 where
   pub leaves : AllAgree n (after_call n st close)
   pub answered : answer n st close ≡ close_answer n st
   pub few : outstanding n st ≤ 8 * most_events
-  pub needs-met : (front rest : List Copy) (c : Copy) → close_copies n st ≡ front ++ (c ∷ rest) → copy_refusal n (after_copies n st front) c ≡ 36 → ⊥
+  pub needs_met : (front rest : List Copy) (c : Copy) → close_copies n st ≡ front ++ (c ∷ rest) → copy_refusal n (after_copies n st front) c ≡ 36 → ⊥

@@ -44,8 +44,8 @@ pub record Rehearses (n : ℕ) (openings script rec ans rec' ans' : List ℕ) (r
   pub opened : r.number ≡ 0 → (j : ℕ) → j < 132 → byte (record_of n openings script) (12 + j) ≡ byte openings j
   pub causal : r.number ≡ 0 → CausalRecord (record_of n openings script)
   -- bytes 8k to 8k + 7 of the answer buffer as left are the answer of call k, by the store of the calls before it; those beyond the answers stay
-  pub each-answer : r.number ≡ 0 → (k : ℕ) → k < call_count script → answer_in ans' k ≡ answer n (store_before n openings script k) (call_in script k)
-  pub beyond-answers : r.number ≡ 0 → drop (8 * call_count script) ans' ≡ drop (8 * call_count script) ans
+  pub each_answer : r.number ≡ 0 → (k : ℕ) → k < call_count script → answer_in ans' k ≡ answer n (store_before n openings script k) (call_in script k)
+  pub beyond_answers : r.number ≡ 0 → drop (8 * call_count script) ans' ≡ drop (8 * call_count script) ans
   -- each close, by the calls before it; and by its place in the list, with its eight bytes
   pub closes : r.number ≡ 0 → (before after : List Call) → calls_of script ≡ before ++ (close ∷ after) → Closes n (run n (fresh (terms_of openings)) before)
   pub closes_at : r.number ≡ 0 → (k : ℕ) → k < call_count script → call_in script k ≡ close

@@ -1,6 +1,6 @@
 -- Laws of rb's table: to each row are joined those that returned before the event's start less the difference. Assumes nothing.
 use mathlib.Core.Path.{◌≡◌, refl, sym, ap, ap₂, ◌∙◌, subst}
-use mathlib.Core.Bool.{Bool, true, false, ◌&&◌, ◌||◌, or_comm, or_false}
+use mathlib.Core.Bool.{Bool, true, false, ◌&&◌, ◌||◌, or_comm, or-false}
 use mathlib.Core.List.{List, ◌++◌}
 use Prim.Native.Nat.{ℕ, ◌+◌, ◌-◌, ◌*◌, ◌≤◌, ◌<◌}
 use native.Mathlib.Nat.{add-mul}
@@ -53,7 +53,7 @@ module _ (l : List ℕ) (n w d : ℕ) (starts returns : List ℕ) where
       held = row_same n (λ x. false) (replicate 8 0) (row_empty n 8) (taken returns 0) (λ x h. sym (taken_none returns x));
       wide = length-replicate {A = ℕ} 8 0;
       size = refl;
-      rows = λ b h x. sym (ap (λ (t : Bool). has (row_at t₀ w b) x || (t && (ltb x n && far_before x b))) (taken_none starts b) ∙ or_false (has (row_at t₀ w b) x));
+      rows = λ b h x. sym (ap (λ (t : Bool). has (row_at t₀ w b) x || (t && (ltb x n && far_before x b))) (taken_none starts b) ∙ or-false (has (row_at t₀ w b) x));
     }
 
     module _ (k i : ℕ) (far t : List ℕ) (s : Joining t₀ k i far t) where
@@ -81,11 +81,11 @@ module _ (l : List ℕ) (n w d : ℕ) (starts returns : List ℕ) where
               row-front n w (λ a. far_before a c) far' many
               (row_same n (taken returns k') far' u (λ a. far_before a c) (taken-returned l n returns (length returns) k' (start_in l c - d) by-return (rw e at b)))
 
-          here-taken : taken starts (i + 1) c ≡ true
-          here-taken = some_of (i + 1) (λ j. eqb (get_or starts j 0) c) i (omega arith) (eq-eqb c c refl)
+          here_taken : taken starts (i + 1) c ≡ true
+          here_taken = some_of (i + 1) (λ j. eqb (get_or starts j 0) c) i (omega arith) (eq-eqb c c refl)
 
-          there-taken : (y : ℕ) → (y ≡ c → ⊥) → taken starts (i + 1) y ≡ taken starts i y
-          there-taken y ne = sym (taken_more starts i y) ∙ ap (λ (r : Bool). r || taken starts i y) (ne_eqb c y (λ p. ne (sym p)))
+          there_taken : (y : ℕ) → (y ≡ c → ⊥) → taken starts (i + 1) y ≡ taken starts i y
+          there_taken y ne = sym (taken_more starts i y) ∙ ap (λ (r : Bool). r || taken starts i y) (ne_eqb c y (λ p. ne (sym p)))
 
           absorbed : (z p f : Bool) → (z || (p && f)) || f ≡ z || (true && f)
           absorbed true p f = refl
@@ -100,9 +100,9 @@ module _ (l : List ℕ) (n w d : ℕ) (starts returns : List ℕ) where
                 ∙ has-or (row_at t w c) (row_at far' w 0) u (omega (arith, length-row_le far' w 0, length-row t w c (row_room n w c (length t) low (omega (arith, s.size)))))
                 ∙ ap₂ ◌||◌ (s.rows c low u) (joined u)
                 ∙ absorbed (has (row_at t₀ w c) u) (taken starts i c) (ltb u n && far_before u c)
-                ∙ ap (λ (r : Bool). has (row_at t₀ w c) u || (r && (ltb u n && far_before u c))) (sym here-taken))
+                ∙ ap (λ (r : Bool). has (row_at t₀ w c) u || (r && (ltb u n && far_before u c))) (sym here_taken))
             | no ne ↦ ap (λ (r : List ℕ). has r u) (put.other y ne) ∙ s.rows y v u
-                ∙ ap (λ (r : Bool). has (row_at t₀ w y) u || (r && (ltb u n && far_before u y))) (sym (there-taken y ne))
+                ∙ ap (λ (r : Bool). has (row_at t₀ w y) u || (r && (ltb u n && far_before u y))) (sym (there_taken y ne))
           ]
 
       pub joining_all : length starts ≤ i → FarJoined n w d l t₀ t

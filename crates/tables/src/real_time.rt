@@ -56,7 +56,7 @@ pub fn join_far(
     t: &mut [u64],
 )
     requires n_in_bounds { (4 * n ≤ length l.now) × (n ≤ 64 * w) × (w ≤ 8) × (length t.old ≡ n * w) }
-    requires in_order_lem { InOrder l.now n false starts.now (length starts.now) × InOrder l.now n true returns.now (length returns.now) }
+    requires in_order { InOrder l.now n false starts.now (length starts.now) × InOrder l.now n true returns.now (length returns.now) }
     ensures { FarJoined n w difference l.now t.old t.new }
 {
     let mut far = [0u64; 8];

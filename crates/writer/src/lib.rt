@@ -48,7 +48,7 @@ pub fn header(s: &mut [u8], ed: Edition, n: usize, sites: u8)
     ensures { (L : Layout) → ed ≡ numbers_of L → s.new ≡ sets s.old 0 (header_bytes L n sites) }
 {
     let letters = ed.letters;
-    bytes::copy(&letters, s);
+    s[0..4].copy_from_slice(&letters);
     put_u16(s, 4, n as u16);
     s[6] = sites;
 }
@@ -60,7 +60,7 @@ pub fn terms(s: &mut [u8], ed: Edition, difference: u32, openings: &[u8])
 {
     if ed.terms {
         put_u32(s, 8, difference);
-        bytes::copy(openings, &mut s[12..144]);
+        s[12..144].copy_from_slice(openings);
     }
 }
 

@@ -1,5 +1,5 @@
 -- `converter::moving::says_none_lem` meets its contract: an edition without terms says none, and in the others their bytes tell. Assumes nothing.
-use Rattle.converter.proofs.MovingLaws.{long, none-lacking, none-zero}
+use Rattle.converter.proofs.MovingLaws.{long, none_lacking, none-zero}
 use Rattle.record.specs.Answers.{Passes}
 use Rattle.record.specs.Layout.{edition_of}
 use Rattle.record.specs.declared.Edition.{Edition}
@@ -27,7 +27,7 @@ edition-requires : tie.Need-edition-requires
 edition-requires c κs = search rules
 
 returns : tie.Need-returns
-returns c = let e = c.before.before in none-lacking (text e) (right e) (terms e ∙ not-true _ c.if1.true)
+returns c = let e = c.before.before in none_lacking (text e) (right e) (terms e ∙ not-true _ c.if1.true)
 
 is-zero-requires : tie.Need-is-zero-requires
 is-zero-requires c κs = let e = c.before.before in omega (arith, long (text e) (right e))

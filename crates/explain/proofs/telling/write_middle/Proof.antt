@@ -15,7 +15,7 @@ use Rattle.rows.proofs.TableLaws.{length-row}
 use Rattle.rows.proofs.SliceLaws.{slice_at, length_slice}
 use Rattle.record.specs.Layout.{row_words}
 use Rattle.tables.specs.Tables.{part}
-use Rattle.explain.proofs.ToldLaws.{set_two, so-row}
+use Rattle.explain.proofs.ToldLaws.{set_two, so_row}
 use Rattle.explain.proofs.telling.write_middle.Statement.{statement}
 use Rattle.explain.proofs.telling.write_middle.Tie as tie
 
@@ -30,7 +30,7 @@ wide : (s : tie.Start) → length (lent s) ≡ row_words
 wide s = length_slice s.args.t.now row_words (1 * s.args.n + s.args.b) (omega (arith, s.requires.0.2, s.requires.1.2))
 
 is_row : (s : tie.Start) → lent s ≡ row_at (part s.args.n row_words 1 s.args.t.now) row_words s.args.b
-is_row s = so-row s.args.n s.args.b s.args.t.now s.requires.1.2
+is_row s = so_row s.args.n s.args.b s.args.t.now s.requires.1.2
 
 -- m is a middle event
 abbrev between : tie.Start → ℕ → Bool

@@ -1,0 +1,16 @@
+-- `rows::insert` meets its contract: the words passed are those of the row with b in it. Assumes nothing.
+use mathlib.Core.Path.{refl, sym}
+use Prim.Native.Nat.{◌-◌, ◌≤◌}
+use native.Mathlib.Omega.{arith}
+use borrow.Author.Rules.{rules}
+use lib.ListN.{length, get_or}
+use Rattle.rows.specs.Row.{insert}
+use Rattle.rows.proofs.RowLaws.{length-insert, word_insert}
+use Rattle.rows.proofs.StoredLaws.{Stored, stored_none, stored_more, stored_all}
+use Rattle.rows.proofs.insert.Given as goal
+
+abbrev pub invariant-loop-i : goal.invariant-loop-i
+invariant-loop-i l = (l.i ≤ length l.initial.row) × Stored (λ j. get_or (insert l.initial.row l.b) j 0) l.initial.row l.row l.i
+
+abbrev pub decreases-loop-i : goal.decreases-loop-i
+decreases-loop-i l = length l.initial.row - l.i

@@ -1,0 +1,14 @@
+-- `rows::intersect` meets its contract: the first i words of `src` are and-ed in. Assumes nothing.
+use mathlib.Core.Path.{◌≡◌, sym, ◌∙◌}
+use Prim.Native.Nat.{◌-◌, ◌≤◌}
+use borrow.Author.Rules.{rules}
+use lib.Bits.{bit_and}
+use lib.ListN.{length, take}
+use Rattle.rows.proofs.RowLaws.{merge, merge_none, merge-more, merge_all, and-merge}
+use Rattle.rows.proofs.intersect.Given as goal
+
+abbrev pub invariant-loop-i : goal.invariant-loop-i
+invariant-loop-i l = (l.i ≤ length l.src) × (length l.dst ≡ length l.initial.dst) × (l.dst ≡ merge bit_and l.initial.dst (take l.i l.src))
+
+abbrev pub decreases-loop-i : goal.decreases-loop-i
+decreases-loop-i l = length l.src - l.i

@@ -1,0 +1,21 @@
+-- `rows::meet` meets its contract: the words passed are those of what all three have. Assumes nothing.
+use mathlib.Core.Path.{◌≡◌, refl, sym, ap, ◌∙◌}
+use mathlib.Core.List.{List}
+use Prim.Native.Nat.{ℕ, ◌-◌, ◌≤◌}
+use native.Mathlib.Omega.{arith}
+use borrow.Author.Rules.{rules}
+use lib.Bits.{bit_and}
+use lib.ListN.{length, get_or}
+use Rattle.rows.specs.Row.{and_row}
+use Rattle.rows.proofs.RowLaws.{length-and, get_d_and}
+use Rattle.rows.proofs.StoredLaws.{Stored, stored_none, stored_more, stored_all}
+use Rattle.rows.proofs.meet.Given as goal
+
+abbrev pub met : List ℕ → List ℕ → List ℕ → List ℕ
+met a b c = and_row (and_row a b) c
+
+abbrev pub invariant-loop-i : goal.invariant-loop-i
+invariant-loop-i l = (l.i ≤ length l.initial.dst) × Stored (λ j. get_or (met l.a l.b l.c) j 0) l.initial.dst l.dst l.i
+
+abbrev pub decreases-loop-i : goal.decreases-loop-i
+decreases-loop-i l = length l.initial.dst - l.i

@@ -1,0 +1,14 @@
+-- `rows::union` meets its contract: the first i words of `src` are or-ed in. Assumes nothing.
+use mathlib.Core.Path.{◌≡◌, sym, ◌∙◌}
+use Prim.Native.Nat.{◌-◌, ◌≤◌}
+use borrow.Author.Rules.{rules}
+use lib.Bits.{bit_or}
+use lib.ListN.{length, take}
+use Rattle.rows.proofs.RowLaws.{merge, merge_none, merge-more, merge_all, or-merge}
+use Rattle.rows.proofs.union.Given as goal
+
+abbrev pub invariant-loop-i : goal.invariant-loop-i
+invariant-loop-i l = (l.i ≤ length l.src) × (length l.dst ≡ length l.initial.dst) × (l.dst ≡ merge bit_or l.initial.dst (take l.i l.src))
+
+abbrev pub decreases-loop-i : goal.decreases-loop-i
+decreases-loop-i l = length l.src - l.i
