@@ -26,7 +26,7 @@ use Rattle.consistency.proofs.Separated.{is_met, record_right, separated}
 use Rattle.judge.specs.Judgments.{is_number, model_judgment}
 use Rattle.judge.specs.Covers.{IsBroken, broken-at, answer, Covers, Separates, TellsOthers}
 use Rattle.judge.specs.declared.Judgment.{Judgment}
-use Rattle.judge.specs.declared.Judgment.TheVariants.{Judged}
+use Rattle.judge.specs.declared.Judgment.TheVariants.{Judged, NoSuchNumber, Refused}
 use Rattle.judge.proofs.MeansLaws.{to_outcome, model_exact}
 
 -- ---- what follows
@@ -99,6 +99,8 @@ not_covered i j s t c = go (answer s j) t.breaks (c s t.meets)
   where
     go : (told : Judgment) → IsBroken told → told ≡ Judged AllMet → ⊥
     go (Judged o) broken-at e = let z : ◌≡◌ {A = ℕ} 0 1 = cc in omega arith
+    go NoSuchNumber b e = elim b [ ]
+    go (Refused r) b e = elim b [ ]
 
 module _ (i j : ℕ) (first : is_number i ≡ true) (second : is_number j ≡ true) (other : i ≡ j → ⊥) where
   -- which of the eight records separates two models of which the second does not follow from the first

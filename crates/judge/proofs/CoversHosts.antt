@@ -27,7 +27,10 @@ number-broken NoSuchNumber e = absurd (omega arith)
 number-broken (Refused r) e = absurd (omega arith)
 
 broken-number : (j : Judgment) → IsBroken j → Fitting j → packed_judgment j / broken_from ≡ 1
+broken-number (Judged AllMet) b f = elim b [ ]
 broken-number (Judged (BrokenAt p a b)) broken-at f = omega arith
+broken-number NoSuchNumber b f = elim b [ ]
+broken-number (Refused r) b f = elim b [ ]
 
 pub tells_hosts : (m : ℕ) (s : List ℕ) {number : ℕ} → number ≡ packed_judgment (answer s m) → TellsHosts m s number
 tells_hosts m s {number} e =
