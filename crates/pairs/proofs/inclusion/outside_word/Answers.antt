@@ -1,0 +1,88 @@
+use mathlib.Core.Path.{◌≡◌}
+use mathlib.Core.Logic.{⊎_elim}
+use mathlib.Core.Bool.{◌&&◌}
+use Prim.Native.Nat.{ℕ, ◌-◌, ◌+◌, ◌*◌, ◌/◌, ◌≤◌, ◌<◌, min}
+use native.Mathlib.Omega.{arith}
+use borrow.Author.Rules.{rules}
+use borrow.Author.Tests.{le-ltb}
+use lib.Dec.{ltb}
+use lib.ListN.{length}
+use Rattle.rows.specs.Row.{bit_of}
+use Rattle.rows.specs.Relation.{related}
+use Rattle.rows.proofs.Digits.{bit_of-zero}
+use Rattle.rows.proofs.TableLaws.{row_room}
+use Rattle.consistency.specs.Predicates.{outside}
+use Rattle.pairs.proofs.InclusionLaws.{word_more, word_cut}
+use Rattle.pairs.proofs.inclusion.outside_word.Goals as goal
+
+-- as many rows as a word has bits, or as are left
+count : (c : goal.Joined-rows-gt64) → c.if-rows-gt64.rows ≡ min (c.args.n - c.args.k * 64) 64
+count c = ⊎_elim (λ e. omega arith) (λ e. omega arith) c.if-rows-gt64.branch
+
+module _ (c : tie.In-loop invariant-loop decreases-loop) where
+  abbrev start : tie.Start invariant-loop decreases-loop
+  start = c
+
+  abbrev row : ℕ
+  row = start.args.k * 64 + c.loop-j.j
+
+  -- the place of a's bit in the next row
+  abbrev place : ℕ
+  place = row * start.args.w + start.args.a / 64
+
+  low : c.loop-j.j < 64
+  low = omega (arith, count c, c.loop-j-test.true)
+
+  next : row < start.args.n
+  next = omega (arith, count c, c.loop-j-test.true, start.pre.3)
+
+  in_table : (m : ℕ) → start.args.n * start.args.w ≤ m → place < m
+  in_table m h = omega (arith, row_room start.args.n start.args.w row m next h, start.pre.2)
+
+  in-q : place < length start.args.q.now
+  in-q = in_table (length start.args.q.now) start.pre.0
+
+  in-r : place < length start.args.r.now
+  in-r = in_table (length start.args.r.now) start.pre.1
+
+pub loop-j-init : goal.loop-j-init
+loop-j-init c = (omega arith, λ i. rw (bit_of-zero i, le-ltb i 0 (omega arith)))
+
+pub overflow_add-at : goal.overflow_add-at
+overflow_add-at c = omega (arith, next c)
+
+pub overflow_mul-at-in-loop-j : goal.overflow_mul-at-in-loop-j
+overflow_mul-at-in-loop-j c = omega (arith, in-q c)
+
+pub overflow_add-at-in-loop-j : goal.overflow_add-at-in-loop-j
+overflow_add-at-in-loop-j c = omega (arith, in-q c)
+
+pub offset_bounds-q-at : goal.offset_bounds-q-at
+offset_bounds-q-at c = omega (arith, in-q c)
+
+pub bounds-q-at : goal.bounds-q-at
+bounds-q-at c = in-q c.before
+
+pub offset_bounds-r-at : goal.offset_bounds-r-at
+offset_bounds-r-at c = omega (arith, in-r c.before)
+
+pub bounds-r-at : goal.bounds-r-at
+bounds-r-at c = in-r c.before.before
+
+pub overflow_shl-x : goal.overflow_shl-x
+overflow_shl-x c = low c.before.before
+
+pub overflow_step-j : goal.overflow_step-j
+overflow_step-j c = omega (arith, low c.before.before)
+
+pub loop-j-preserved : goal.loop-j-preserved
+loop-j-preserved c =
+    let s = (start c.before.before).args in
+    let l = c.loop-j in
+    (omega (arith, c.loop-j-test.true), word_more s.w s.q.now s.r.now s.a (start c.before.before).requires.2 s.k l.j l.x l.invariant.1 (low c.before.before) (c.type_inv.r (place c.before.before)).fits)
+
+pub returns : goal.returns
+returns c =
+    let l = c.loop-j in
+    let size : l.j ≡ min (c.args.n - c.args.k * 64) 64 = omega (arith, count c.before.before, l.invariant.0) in
+    word_cut c.args.w c.args.q.now c.args.r.now c.args.a c.requires.2 c.args.k c.args.n l.j l.x l.invariant.1 size

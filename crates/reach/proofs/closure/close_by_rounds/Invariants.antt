@@ -1,0 +1,17 @@
+-- `reach::closure::close_by_rounds` meets its contract: after k rounds the table has the steps over events below k. Assumes nothing.
+use borrow.Author.Rules.{rules}
+use Prim.Native.Nat.{◌+◌, ◌-◌, ◌*◌, ◌≤◌}
+use mathlib.Core.Path.{◌≡◌, refl, ap, ◌∙◌}
+use native.Mathlib.Nat.{add-sub_cancel_left}
+use native.Mathlib.Omega.{arith}
+use lib.ListN.{length}
+use Rattle.rows.specs.Row.{row_at}
+use Rattle.rows.proofs.TableLaws.{row_room, row_copied, length-row}
+use Rattle.reach.proofs.ClosureLaws.{Rounds, rounds_none, rounds_more, rounds_all}
+use Rattle.reach.proofs.closure.close_by_rounds.Given as goal
+
+abbrev pub invariant-loop-k : goal.invariant-loop-k
+invariant-loop-k l = (l.k ≤ l.n) × (length l.table ≡ length l.initial.table) × (length l.row ≡ length l.initial.row) × Rounds l.n (length l.initial.row) l.initial.table l.k l.table
+
+abbrev pub decreases-loop-k : goal.decreases-loop-k
+decreases-loop-k l = l.n - l.k

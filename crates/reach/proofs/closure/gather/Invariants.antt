@@ -1,0 +1,18 @@
+-- `reach::closure::gather` meets its contract: `row` has the rows of the members that are out of `rest`, which has fewer with each turn. Assumes nothing.
+use mathlib.Core.Path.{◌≡◌, refl, sym, ◌∙◌}
+use mathlib.Core.Bool.{true}
+use Prim.Native.Nat.{◌*◌, ◌<◌}
+use native.Mathlib.Omega.{arith}
+use borrow.Author.Rules.{rules}
+use lib.ListN.{length}
+use Rattle.rows.specs.Row.{has}
+use Rattle.rows.specs.Count.{how_many}
+use Rattle.rows.proofs.ReachLaws.{room_row}
+use Rattle.reach.proofs.GatherLaws.{Gathering, gather_begin, gather_turn, gather_less, gather_end}
+use Rattle.reach.proofs.closure.gather.Given as goal
+
+abbrev pub invariant-loop-n : goal.invariant-loop-n
+invariant-loop-n l = Gathering l.table l.n (length l.initial.row) l.initial.rest l.initial.row l.rest l.row
+
+abbrev pub decreases-loop-n : goal.decreases-loop-n
+decreases-loop-n l = how_many (64 * length l.initial.row) (has l.rest)

@@ -1,0 +1,23 @@
+-- `reader::sets::load_row` meets its contract: a word of the set where it has one, and else zero. Assumes nothing.
+use mathlib.Core.Logic.{⊎_elim}
+use mathlib.Core.Path.{◌≡◌, refl, sym, ap, ◌∙◌}
+use mathlib.Core.List.{List, ◌++◌}
+use Prim.Native.Nat.{ℕ, ◌+◌, ◌-◌, ◌≤◌, ◌<◌}
+use native.Mathlib.Omega.{arith}
+use borrow.Author.Rules.{rules}
+use lib.ListN.{length, get_or, replicate, length-append, length-replicate}
+use Rattle.rows.specs.Octets.{words}
+use Rattle.rows.proofs.ByteLaws.{length-words}
+use Rattle.rows.proofs.StoredLaws.{Stored, stored_none, stored_more, stored_all}
+use Rattle.record.proofs.WorkLaws.{row_word, row-rest}
+use Rattle.reader.proofs.sets.load_row.Given as goal
+
+-- the row as it is to be
+abbrev pub loaded : List ℕ → List ℕ → ℕ → ℕ → List ℕ
+loaded row s at k = words k s at ++ replicate (length row - k) 0
+
+abbrev pub invariant-loop-i : goal.invariant-loop-i
+invariant-loop-i l = (l.i ≤ length l.initial.row) × (length l.row ≡ length l.initial.row) × Stored (λ j. get_or (loaded l.initial.row l.s l.at l.k) j 0) l.initial.row l.row l.i
+
+abbrev pub decreases-loop-i : goal.decreases-loop-i
+decreases-loop-i l = length l.initial.row - l.i

@@ -1,0 +1,15 @@
+-- `rehearsal::slots::slot` meets its contract: the value is 0 where none is present. Assumes nothing.
+use mathlib.Core.Logic.{⊎_elim}
+use mathlib.Core.Path.{◌≡◌, sym, ◌∙◌}
+use Rattle.calls.specs.Mirror.{word_shown}
+use Rattle.record.specs.Terms.{value_or0}
+use borrow.Author.Rules.{rules}
+use Rattle.rehearsal.proofs.slots.slot.Goals as goal
+
+pub returns : goal.returns
+returns c =
+    let g = c.args in
+    let present = c.present-present in
+    let shown : c.if-present.value ≡ value_or0 (word_shown g.word) =
+    ⊎_elim (λ w. rw (sym present.ensures ∙ w.0.true) (w.2 ∙ w.1.ensures)) (λ w. rw (sym present.ensures ∙ w.0.false) w.1) c.if-present.branch in
+    rw (shown, present.ensures, c.site.ensures, c.object.ensures)

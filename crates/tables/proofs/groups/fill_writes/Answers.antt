@@ -1,0 +1,30 @@
+use Prim.Native.Nat.{◌-◌, ◌*◌, ◌≤◌}
+use mathlib.Core.Path.{◌≡◌, refl, ◌∙◌}
+use mathlib.Core.Logic.{⊎_elim, inl, inr}
+use native.Mathlib.Omega.{arith}
+use lib.ListN.{length}
+use Rattle.rows.specs.Row.{Row}
+use Rattle.record.specs.Words.{is_write_in}
+use Rattle.tables.proofs.GroupLaws.{tested_none, tested_more, tested_all}
+use borrow.Author.Rules.{rules}
+use Rattle.tables.proofs.groups.fill_writes.Goals as goal
+
+pub loop-e-init : goal.loop-e-init
+loop-e-init c =
+    let e = c.clear in
+    (omega arith, search rules, refl, tested_none (is_write_in c.args.l.now) (length c.args.row.now) e.new.row e.ensures)
+
+pub loop-e-preserved : goal.loop-e-preserved
+loop-e-preserved c =
+    let l = c.loop-e in
+    let t = c.is_write in
+    let m = tested_more (is_write_in c.args.l.now) l.e l.row c.if-is_write.row t.result l.invariant.3 (omega arith) t.ensures
+    (⊎_elim (λ w. inl (w.0.true, w.5 ∙ w.2.ensures)) (λ w. inr (w.0.false, w.1)) c.if-is_write.branch) in
+    (omega arith, omega (arith, l.invariant.1, m.0), m.0 ∙ l.invariant.2, m.1)
+
+pub returns : goal.returns
+returns c =
+    let l = c.loop-e in record {
+      row = tested_all (is_write_in c.args.l.now) l.e c.args.n l.row (omega arith) l.invariant.3;
+      row_len_unchanged = same_length c;
+    }
