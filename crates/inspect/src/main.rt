@@ -1,6 +1,4 @@
 // Reads a record from standard input and says whether it passes: `passed`, or `refused` with the question's number and place.
-#![tactic(auto)]
-
 use libc::STDIN_FILENO;
 use record::layout;
 

@@ -1,6 +1,4 @@
 // The judge of thirteen predicates and thirteen models.
-#![tactic(auto)]
-
 pub mod lists;
 pub mod packing;
 pub mod prepared;

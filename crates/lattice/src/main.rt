@@ -1,7 +1,5 @@
 // Which model covers which: a line for each ordered pair of different models. Where the second does not follow from the first, the line has a record that meets
 // the first and breaks the second: built by the writer, and judged. With an argument K, 1 to 8, record K itself.
-#![tactic(auto)]
-
 mod judged;
 mod records;
 mod table;

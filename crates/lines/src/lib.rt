@@ -1,6 +1,4 @@
 // The lines of text that the programs write to standard output.
-#![tactic(auto)]
-
 use libc::STDOUT_FILENO;
 use record::Reading;
 

@@ -1,6 +1,4 @@
 // The first pair that breaks a predicate, from tables of rows.
-#![tactic(auto)]
-
 pub mod inclusion;
 pub mod order;
 pub mod reads;

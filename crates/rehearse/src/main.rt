@@ -1,6 +1,4 @@
 // Rehearses a script: standard input has one byte, the sites, then 132 bytes of openings, and then the script. Writes the record, or `refused` with the question's number.
-#![tactic(auto)]
-
 use libc::{STDIN_FILENO, STDOUT_FILENO};
 use record::layout;
 

@@ -1,7 +1,5 @@
 // Reads each file that an argument names, over work slices one word too short, just long enough, and six words longer, and
 // writes the reading and what the slice holds afterwards.
-#![tactic(auto)]
-
 use libc::STDOUT_FILENO;
 use record::layout;
 

@@ -1,7 +1,5 @@
 // Reads a record from standard input and writes a line for each predicate, its number and `met` or `broken` with the pair;
 // or the line of the question that refused the record.
-#![tactic(auto)]
-
 use libc::{STDIN_FILENO, STDOUT_FILENO};
 use record::layout;
 

@@ -33,6 +33,6 @@ bounds-cells-264-2 c = simp length-set (omega (arith, c.requires.sized.cells))
 pub returns : goal.returns
 returns c =
     let g = c.args in
-    got_made (lent g.known.now g.sees.now g.cells.now g.events.now g.counts.now) g.c.site g.c.object c.requires c.word-word.result _ (low c.before.before.before.before.before.before.before.before.before.before.before.before.before.before.before) c.word-word.ensures
+    got_made (lent g.known.now g.sees.now g.cells.now g.events.now g.counts.now) g.c.site g.c.object c.requires c.word-word.result _ (low (goal.at.returns c).After-value-value) c.word-word.ensures
     _ _ _ _ c.enter.ensures c.answer.result _ refl (ap (λ v. bool_byte (not (eqb (get_or g.cells.now (32 * g.c.site + g.c.object) 0) 0)) * 2 ^ 32 + v) c.value-value.ensures)
     (rw c.value-value.ensures at c.answer.ensures)

@@ -84,5 +84,5 @@ loop-j-preserved c =
 pub returns : goal.returns
 returns c =
     let l = c.loop-j in
-    let size : l.j ≡ min (c.args.n - c.args.k * 64) 64 = omega (arith, count c.before.before, l.invariant.0) in
+    let size : l.j ≡ min (c.args.n - c.args.k * 64) 64 = omega (arith, count (goal.at.returns c).Joined-rows-gt64, l.invariant.0) in
     word_cut c.args.w c.args.q.now c.args.r.now c.args.a c.requires.2 c.args.k c.args.n l.j l.x l.invariant.1 size

@@ -32,17 +32,17 @@ slice_bounds-test-end c = omega (arith, place c)
 pub test-requires : goal.test-requires
 test-requires c =
     let l = c.loop-b in
-    rw add-sub_cancel_left (omega (arith, length-row l.table (length c.args.row.now) l.b (place c.before), c.requires.1))
+    rw add-sub_cancel_left (omega (arith, length-row l.table (length c.args.row.now) l.b (place (goal.at.test-requires c).In-loop-b), c.requires.1))
 
 pub union_into-requires : goal.union_into-requires
-union_into-requires c = place c.before.before.before.before
+union_into-requires c = place (goal.at.union_into-requires c).In-loop-b
 
 pub loop-b-preserved : goal.loop-b-preserved
 loop-b-preserved c =
     let l = c.loop-b in
     let t = rw add-sub_cancel_left at c.test.ensures in
     ⊎_elim
-    (λ w. (omega arith, taken_in c.args.table.now c.args.k c.args.row.now l.b l.table l.invariant.1 c.if-test.table (place c.before.before.before) (w.5 ∙ w.2.ensures) (sym t ∙ w.0.true)))
+    (λ w. (omega arith, taken_in c.args.table.now c.args.k c.args.row.now l.b l.table l.invariant.1 c.if-test.table (place (goal.at.loop-b-preserved c).In-loop-b) (w.5 ∙ w.2.ensures) (sym t ∙ w.0.true)))
     (λ w. (omega arith, taken_skip c.args.table.now c.args.k c.args.row.now l.b l.table l.invariant.1 c.if-test.table w.1 (sym t ∙ w.0.false)))
     c.if-test.branch
 
