@@ -10,10 +10,11 @@ use Rattle.calls.specs.Lent.{lent}
 use Rattle.calls.proofs.WordLaws.{shown_low}
 use Rattle.calls.proofs.MadeLaws.{got_made}
 use borrow.Author.Rules.{rules}
+use Rattle.calls.proofs.make.get.Goals.{After-value-value}
 use Rattle.calls.proofs.make.get.Goals as goal
 
 -- what it finds, with its bit
-low : (c : goal.After-value-value) → let g = c.args in bool_byte (not (eqb (get_or g.cells.now (32 * g.c.site + g.c.object) 0) 0)) * 2 ^ 32 + c.value-value.result < 2 ^ 33
+low : (c : After-value-value) → let g = c.args in bool_byte (not (eqb (get_or g.cells.now (32 * g.c.site + g.c.object) 0) 0)) * 2 ^ 32 + c.value-value.result < 2 ^ 33
 low c = let g = c.args in shown_low (not (eqb (get_or g.cells.now (32 * g.c.site + g.c.object) 0) 0)) c.value-value.result (omega (arith, c.value-value.ensures))
 
 pub overflow_mul-found : goal.overflow_mul-found

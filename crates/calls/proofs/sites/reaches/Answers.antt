@@ -6,6 +6,7 @@ use lib.ListN.{get_or}
 use borrow.Author.Tests.{le-leb, lt-leb}
 use Rattle.store.specs.Rules.{reached}
 use Rattle.calls.proofs.KeptLaws.{reached-more, reached_less}
+use Rattle.calls.proofs.sites.reaches.Goals.{else-counts-i, then-counts-i}
 use Rattle.calls.proofs.sites.reaches.Goals as goal
 
 pub loop-i-init : goal.loop-i-init
@@ -34,10 +35,7 @@ pub loop-i-preserved : goal.loop-i-preserved
 loop-i-preserved c =
     let l = c.loop-i in (
       omega arith,
-      ⊎_elim
-          (λ w. w.1 ∙ reached_less l.i _ _ (lt-leb _ _ w.0.true))
-          (λ w. w.1 ∙ l.invariant.1 ∙ reached-more l.i _ _ (le-leb _ _ w.0.false))
-          c.if-counts-i.branch,
+      elim c.if-counts-i.branch [ then-counts-i w ↦ w.1 ∙ reached_less l.i _ _ (lt-leb _ _ w.0.true) | else-counts-i w ↦ w.1 ∙ l.invariant.1 ∙ reached-more l.i _ _ (le-leb _ _ w.0.false) ],
     )
 
 pub returns : goal.returns

@@ -26,7 +26,7 @@ pub overflow_cast-result : goal.overflow_cast-result
 overflow_cast-result c = omega (arith, trailing_le 64 (word c.before))
 
 pub overflow_add-result : goal.overflow_add-result
-overflow_add-result c = omega (arith, trailing_le 64 (word c.before), few c.before, (start c.before).pre.0.2)
+overflow_add-result c = omega (arith, trailing_le 64 (word c.before), few c.before, (start c.before).requires.ends_in_bounds.2)
 
 pub returns-then-x-ne0 : goal.returns-then-x-ne0
 returns-then-x-ne0 c =

@@ -13,14 +13,15 @@ use Rattle.rows.proofs.Digits.{bit_of-zero}
 use Rattle.rows.proofs.TableLaws.{row_room}
 use Rattle.consistency.specs.Predicates.{outside}
 use Rattle.pairs.proofs.InclusionLaws.{word_more, word_cut}
+use Rattle.pairs.proofs.inclusion.outside_word.Goals.{In-loop-j, Joined-rows-gt64, Start, else-rows-gt64, then-rows-gt64}
 use Rattle.pairs.proofs.inclusion.outside_word.Goals as goal
 
 -- as many rows as a word has bits, or as are left
-count : (c : goal.Joined-rows-gt64) → c.if-rows-gt64.rows ≡ min (c.args.n - c.args.k * 64) 64
-count c = ⊎_elim (λ e. omega arith) (λ e. omega arith) c.if-rows-gt64.branch
+count : (c : Joined-rows-gt64) → c.if-rows-gt64.rows ≡ min (c.args.n - c.args.k * 64) 64
+count c = elim c.if-rows-gt64.branch [ then-rows-gt64 e ↦ omega arith | else-rows-gt64 e ↦ omega arith ]
 
-module _ (c : tie.In-loop invariant-loop decreases-loop) where
-  abbrev start : tie.Start invariant-loop decreases-loop
+module _ (c : In-loop-j) where
+  abbrev start : Start
   start = c
 
   abbrev row : ℕ
@@ -34,16 +35,16 @@ module _ (c : tie.In-loop invariant-loop decreases-loop) where
   low = omega (arith, count c, c.loop-j-test.true)
 
   next : row < start.args.n
-  next = omega (arith, count c, c.loop-j-test.true, start.pre.3)
+  next = omega (arith, count c, c.loop-j-test.true, start.requires.3)
 
   in_table : (m : ℕ) → start.args.n * start.args.w ≤ m → place < m
-  in_table m h = omega (arith, row_room start.args.n start.args.w row m next h, start.pre.2)
+  in_table m h = omega (arith, row_room start.args.n start.args.w row m next h, start.requires.2)
 
   in-q : place < length start.args.q.now
-  in-q = in_table (length start.args.q.now) start.pre.0
+  in-q = in_table (length start.args.q.now) start.requires.0
 
   in-r : place < length start.args.r.now
-  in-r = in_table (length start.args.r.now) start.pre.1
+  in-r = in_table (length start.args.r.now) start.requires.1
 
 pub loop-j-init : goal.loop-j-init
 loop-j-init c = (omega arith, λ i. rw (bit_of-zero i, le-ltb i 0 (omega arith)))

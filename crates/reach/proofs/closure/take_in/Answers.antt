@@ -7,9 +7,10 @@ use native.Mathlib.Nat.{add-sub_cancel_left}
 use native.Mathlib.Omega.{arith}
 use lib.ListN.{length}
 use Rattle.reach.proofs.ClosureLaws.{Taken, taken_none, taken_in, taken_skip}
+use Rattle.reach.proofs.closure.take_in.Goals.{In-loop-b, else-test, then-test}
 use Rattle.reach.proofs.closure.take_in.Goals as goal
 
-place : (c : goal.In-loop-b) → c.loop-b.b * length c.args.row.now + length c.args.row.now ≤ length c.loop-b.table
+place : (c : In-loop-b) → c.loop-b.b * length c.args.row.now + length c.args.row.now ≤ length c.loop-b.table
 place c =
     let l = c.loop-b in
     row_room c.args.n (length c.args.row.now) l.b (length l.table) c.loop-b-test.true (omega (arith, l.invariant.1.size, c.requires.0))
@@ -41,10 +42,7 @@ pub loop-b-preserved : goal.loop-b-preserved
 loop-b-preserved c =
     let l = c.loop-b in
     let t = rw add-sub_cancel_left at c.test.ensures in
-    ⊎_elim
-    (λ w. (omega arith, taken_in c.args.table.now c.args.k c.args.row.now l.b l.table l.invariant.1 c.if-test.table (place (goal.at.loop-b-preserved c).In-loop-b) (w.5 ∙ w.2.ensures) (sym t ∙ w.0.true)))
-    (λ w. (omega arith, taken_skip c.args.table.now c.args.k c.args.row.now l.b l.table l.invariant.1 c.if-test.table w.1 (sym t ∙ w.0.false)))
-    c.if-test.branch
+    elim c.if-test.branch [ then-test w ↦ (omega arith, taken_in c.args.table.now c.args.k c.args.row.now l.b l.table l.invariant.1 c.if-test.table (place (goal.at.loop-b-preserved c).In-loop-b) (w.table-is ∙ w.union_into.ensures) (sym t ∙ w.if-test.true)) | else-test w ↦ (omega arith, taken_skip c.args.table.now c.args.k c.args.row.now l.b l.table l.invariant.1 c.if-test.table w.table-is (sym t ∙ w.if-test.false)) ]
 
 pub returns : goal.returns
 returns c =

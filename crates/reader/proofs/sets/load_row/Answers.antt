@@ -10,6 +10,7 @@ use Rattle.rows.proofs.ByteLaws.{length-words}
 use Rattle.rows.proofs.StoredLaws.{Stored, stored_none, stored_more, stored_all}
 use Rattle.record.proofs.WorkLaws.{row_word, row-rest}
 use Rattle.reader.proofs.sets.load_row.Invariants.{loaded}
+use Rattle.reader.proofs.sets.load_row.Goals.{else-i-k, then-i-k}
 use Rattle.reader.proofs.sets.load_row.Goals as goal
 
 pub loop-i-init : goal.loop-i-init
@@ -22,7 +23,7 @@ loop-i-preserved c =
     let r : ℕ = length a.row.now - a.k in
     let within : l.i < a.k + r = omega (arith, c.requires.0, c.loop-i-test.true) in
     let word : c.if-i-k.word ≡ get_or (loaded a.row.now a.s.now a.at a.k) l.i 0 =
-    ⊎_elim (λ w. w.2 ∙ w.1.ensures ∙ sym (row_word a.k r l.i a.s.now a.at w.0.true)) (λ w. w.1 ∙ sym (row-rest a.k r l.i a.s.now a.at (omega (arith, w.0.false)) within)) c.if-i-k.branch in
+    elim c.if-i-k.branch [ then-i-k w ↦ w.2 ∙ w.1.ensures ∙ sym (row_word a.k r l.i a.s.now a.at w.0.true) | else-i-k w ↦ w.1 ∙ sym (row-rest a.k r l.i a.s.now a.at (omega (arith, w.0.false)) within) ] in
     (omega (arith, c.loop-i-test.true), search rules, stored_more _ a.row.now l.row l.i c.if-i-k.word l.invariant.2 (omega (arith, c.loop-i-test.true)) word)
 
 pub returns : goal.returns

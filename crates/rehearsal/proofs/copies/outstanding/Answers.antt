@@ -12,10 +12,11 @@ use Rattle.rows.proofs.TableLaws.{length-row}
 use Rattle.record.specs.Layout.{most_events, row_words}
 use Rattle.calls.specs.Lent.{puts_in}
 use Rattle.rehearsal.proofs.copies.outstanding.Invariants.{lacked}
+use Rattle.rehearsal.proofs.copies.outstanding.Goals.{After-count_difference-all}
 use Rattle.rehearsal.proofs.copies.outstanding.Goals as goal
 
 -- what one site more lacks
-there : (c : goal.After-count_difference-all) → c.count_difference-all.result ≡ lacked c.args.known.now c.loop-s.s
+there : (c : After-count_difference-all) → c.count_difference-all.result ≡ lacked c.args.known.now c.loop-s.s
 there c =
     let known = c.args.known.now in
     let s = c.loop-s.s in
@@ -23,7 +24,7 @@ there c =
     ∙ ap (λ (k : ℕ). how_many (64 * k) (only_first (puts_in known) (slice_at known row_words s))) (length-row known row_words 8 (omega arith))
     ∙ ap (λ (row : List ℕ). how_many most_events (only_first (puts_in known) row)) (slice_row known row_words s)
 
-few : (c : goal.After-count_difference-all) → c.count_difference-all.result ≤ most_events
+few : (c : After-count_difference-all) → c.count_difference-all.result ≤ most_events
 few c =
     let known = c.args.known.now in
     omega (arith, there c, many_most most_events (only_first (puts_in known) (row_at known row_words c.loop-s.s)))

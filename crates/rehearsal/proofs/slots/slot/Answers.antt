@@ -4,6 +4,7 @@ use mathlib.Core.Path.{◌≡◌, sym, ◌∙◌}
 use Rattle.calls.specs.Mirror.{word_shown}
 use Rattle.record.specs.Terms.{value_or0}
 use borrow.Author.Rules.{rules}
+use Rattle.rehearsal.proofs.slots.slot.Goals.{else-present, then-present}
 use Rattle.rehearsal.proofs.slots.slot.Goals as goal
 
 pub returns : goal.returns
@@ -11,5 +12,5 @@ returns c =
     let g = c.args in
     let present = c.present-present in
     let shown : c.if-present.value ≡ value_or0 (word_shown g.word) =
-    ⊎_elim (λ w. rw (sym present.ensures ∙ w.0.true) (w.2 ∙ w.1.ensures)) (λ w. rw (sym present.ensures ∙ w.0.false) w.1) c.if-present.branch in
+    elim c.if-present.branch [ then-present w ↦ rw (sym present.ensures ∙ w.0.true) (w.2 ∙ w.1.ensures) | else-present w ↦ rw (sym present.ensures ∙ w.0.false) w.1 ] in
     rw (shown, present.ensures, c.site.ensures, c.object.ensures)

@@ -7,6 +7,7 @@ use Rattle.rows.specs.Row.{Row}
 use Rattle.record.specs.Words.{is_write_in}
 use Rattle.tables.proofs.GroupLaws.{tested_none, tested_more, tested_all}
 use borrow.Author.Rules.{rules}
+use Rattle.tables.proofs.groups.fill_writes.Goals.{else-is_write, then-is_write}
 use Rattle.tables.proofs.groups.fill_writes.Goals as goal
 
 pub loop-e-init : goal.loop-e-init
@@ -19,7 +20,7 @@ loop-e-preserved c =
     let l = c.loop-e in
     let t = c.is_write in
     let m = tested_more (is_write_in c.args.l.now) l.e l.row c.if-is_write.row t.result l.invariant.3 (omega arith) t.ensures
-    (⊎_elim (λ w. inl (w.0.true, w.5 ∙ w.2.ensures)) (λ w. inr (w.0.false, w.1)) c.if-is_write.branch) in
+    (elim c.if-is_write.branch [ then-is_write w ↦ inl (w.0.true, w.5 ∙ w.2.ensures) | else-is_write w ↦ inr (w.0.false, w.1) ]) in
     (omega arith, omega (arith, l.invariant.1, m.0), m.0 ∙ l.invariant.2, m.1)
 
 pub returns : goal.returns
