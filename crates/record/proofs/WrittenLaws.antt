@@ -38,6 +38,11 @@ openings_again openings bytes long right =
     let here : j ≡ 0 + j = omega arith in
     sym (openings_stand openings bytes 0 right j l) ∙ ap (λ (p : ℕ). get_or openings p 0) (sym here))
 
+-- bytes copied over as many are all of the copy
+pub whole_copied : (src d : List ℕ) → length d ≡ length src → src ≡ take (length src) src ++ drop (length src) d
+whole_copied src d long =
+    sym (ap₂ ◌++◌ (take-length src) (drop_of_length-le d {i = length src} (omega arith)) ∙ append-nil src)
+
 -- bytes copied over k of s from `at` on, which left d there
 pub part_stored : (src s d : List ℕ) (at k : ℕ) → length src ≡ k → at + k ≤ length s → d ≡ take (length src) src ++ drop (length src) (take k (drop at s))
     → take at s ++ (d ++ drop k (drop at s)) ≡ sets s at src

@@ -56,7 +56,7 @@ many c = ap (λ (k : ℕ). k * (length c.args.s.now / 512 - 1)) (sizes c).slots
 
 -- what is known after each yes, and the questions that are left
 length_yes : (c : Else-not-length_holds) → length_right (bytes1 c) ≡ true
-length_yes c = told_true c.length_holds.ensures c.if-not-length_holds.false
+length_yes c = told_true c.length_holds.ensures (ap not c.if-not-length_holds.false)
 
 long : (c : Else-not-length_holds) → (512 ≤ length (bytes1 c)) × (length (bytes1 c) ≤ longest_record) × (length (bytes1 c) % 512 ≡ 0)
 long c = length-says (edition_of (bytes1 c)) (bytes1 c) (length_yes c)
@@ -71,7 +71,7 @@ to-header c =
     ∙ each_past (blocks_in (bytes2 c)) (λ k. not (block_right (bytes2 c) k)) WrongCheck (from_header (edition_of (bytes2 c)) (bytes2 c) Passed) w.result w.ensures c.if-block-blocks.false
 
 header_yes : (c : Else-not-header_holds) → header_right (edition_of (bytes3 c)) (bytes3 c) ≡ true
-header_yes c = told_true (c.header_holds.ensures (edition_of (bytes3 c)) (start3 c).requires) c.if-not-header_holds.false
+header_yes c = told_true (c.header_holds.ensures (edition_of (bytes3 c)) (start3 c).requires) (ap not c.if-not-header_holds.false)
 
 to-blocks : (c : Else-not-header_holds) → byte_questions (edition_of (bytes3 c)) (bytes3 c) ≡ from_blocks (edition_of (bytes3 c)) (bytes3 c) Passed
 to-blocks c = to-header (goal.at.Else-not-header_holds c).Else-block-blocks ∙ ask_yes (header_right (edition_of (bytes3 c)) (bytes3 c)) WrongHeader (from_blocks (edition_of (bytes3 c)) (bytes3 c) Passed) (header_yes c)
@@ -101,12 +101,12 @@ counted-at c = (goal.at.Else-slot-ed c).After-count-n
 -- the event that the search for a wrong position answered
 event : (c : After-wrong_position-event) → c.wrong_position-event.result ≡ lowest (count_in (bytes5 (goal.at.After-wrong_position-event c).Else-slot-ed)) (wrong_position (history_of (edition_of (bytes5 (goal.at.After-wrong_position-event c).Else-slot-ed)) (bytes5 (goal.at.After-wrong_position-event c).Else-slot-ed)))
 event c =
-    subst (λ n. c.wrong_position-event.result ≡ lowest n (wrong_position (history_of (edition_of (bytes5 (goal.at.After-wrong_position-event c).Else-slot-ed)) (bytes5 (goal.at.After-wrong_position-event c).Else-slot-ed)))) (counted-at (goal.at.After-wrong_position-event c).Else-slot-ed).count.ensures c.wrong_position-event.ensures
+    subst (λ n. c.wrong_position-event.result ≡ lowest n (wrong_position (history_of (edition_of (bytes5 (goal.at.After-wrong_position-event c).Else-slot-ed)) (bytes5 (goal.at.After-wrong_position-event c).Else-slot-ed)))) (counted-at (goal.at.After-wrong_position-event c).Else-slot-ed).count-n.ensures c.wrong_position-event.ensures
 
 pub returns-then-not-length_holds : goal.returns-then-not-length_holds
 returns-then-not-length_holds c =
     let s = c.args.s.now in
-    sym (bytes_asked (edition_of s) s ∙ ask_no (length_right s) WrongLength (from_checks (edition_of s) s Passed) (told_false c.length_holds.ensures c.if-not-length_holds.true))
+    sym (bytes_asked (edition_of s) s ∙ ask_no (length_right s) WrongLength (from_checks (edition_of s) s Passed) (told_false c.length_holds.ensures (ap not c.if-not-length_holds.true)))
 
 pub wrong_block-block-requires : goal.wrong_block-block-requires
 wrong_block-block-requires c = omega (arith, long c)
@@ -121,7 +121,7 @@ header_holds-requires c = (long (goal.at.header_holds-requires c).Else-not-lengt
 
 pub returns-then-not-header_holds : goal.returns-then-not-header_holds
 returns-then-not-header_holds c =
-    sym (to-header (goal.at.returns-then-not-header_holds c).Else-block-blocks ∙ ask_no (header_right (edition_of (bytes2 (goal.at.returns-then-not-header_holds c).Else-block-blocks)) (bytes2 (goal.at.returns-then-not-header_holds c).Else-block-blocks)) WrongHeader (from_blocks (edition_of (bytes2 (goal.at.returns-then-not-header_holds c).Else-block-blocks)) (bytes2 (goal.at.returns-then-not-header_holds c).Else-block-blocks) Passed) (told_false (c.header_holds.ensures (edition_of (bytes2 (goal.at.returns-then-not-header_holds c).Else-block-blocks)) (start (goal.at.returns-then-not-header_holds c).Else-not-length_holds).requires) c.if-not-header_holds.true))
+    sym (to-header (goal.at.returns-then-not-header_holds c).Else-block-blocks ∙ ask_no (header_right (edition_of (bytes2 (goal.at.returns-then-not-header_holds c).Else-block-blocks)) (bytes2 (goal.at.returns-then-not-header_holds c).Else-block-blocks)) WrongHeader (from_blocks (edition_of (bytes2 (goal.at.returns-then-not-header_holds c).Else-block-blocks)) (bytes2 (goal.at.returns-then-not-header_holds c).Else-block-blocks) Passed) (told_false (c.header_holds.ensures (edition_of (bytes2 (goal.at.returns-then-not-header_holds c).Else-block-blocks)) (start (goal.at.returns-then-not-header_holds c).Else-not-length_holds).requires) (ap not c.if-not-header_holds.true)))
 
 pub count-n-requires : goal.count-n-requires
 count-n-requires c = (long (goal.at.count-n-requires c).Else-not-length_holds).0
@@ -146,7 +146,7 @@ overflow_sub-blocks c = omega (arith, (long (goal.at.overflow_sub-blocks c).Else
 pub overflow_mul-ed : goal.overflow_mul-ed
 overflow_mul-ed c =
     let a = start4 (goal.at.overflow_mul-ed c).Else-blocks in
-    omega (arith, sizes a, a.well_formed, mul-le-mul_right {m = a.args.ed.slots} {n = 15} (length a.args.s.now / 512 - 1) (omega (arith, sizes a)))
+    omega (arith, sizes a, mul-le-mul_right {m = a.args.ed.slots} {n = 15} (length a.args.s.now / 512 - 1) (omega (arith, sizes a)))
 
 pub returns-then-slot-ed : goal.returns-then-slot-ed
 returns-then-slot-ed c =
@@ -162,8 +162,8 @@ wrong_position-event-requires c = record {
 
 pub returns-then-event-n : goal.returns-then-event-n
 returns-then-event-n c =
-    sym (to-positions (goal.at.returns-then-event-n c).Else-slot-ed ∙ each-found (count_in (bytes5 (goal.at.returns-then-event-n c).Else-slot-ed)) (wrong_position (history_of (edition_of (bytes5 (goal.at.returns-then-event-n c).Else-slot-ed)) (bytes5 (goal.at.returns-then-event-n c).Else-slot-ed))) WrongPosition Passed c.wrong_position-event.result (event (goal.at.returns-then-event-n c).After-wrong_position-event) (omega (arith, (counted-at (goal.at.returns-then-event-n c).Else-slot-ed).count.ensures, c.if-event-n.true)))
+    sym (to-positions (goal.at.returns-then-event-n c).Else-slot-ed ∙ each-found (count_in (bytes5 (goal.at.returns-then-event-n c).Else-slot-ed)) (wrong_position (history_of (edition_of (bytes5 (goal.at.returns-then-event-n c).Else-slot-ed)) (bytes5 (goal.at.returns-then-event-n c).Else-slot-ed))) WrongPosition Passed c.wrong_position-event.result (event (goal.at.returns-then-event-n c).After-wrong_position-event) (omega (arith, (counted-at (goal.at.returns-then-event-n c).Else-slot-ed).count-n.ensures, c.if-event-n.true)))
 
 pub returns : goal.returns
 returns c =
-    sym (to-positions (goal.at.returns c).Else-slot-ed ∙ each_past (count_in (bytes5 (goal.at.returns c).Else-slot-ed)) (wrong_position (history_of (edition_of (bytes5 (goal.at.returns c).Else-slot-ed)) (bytes5 (goal.at.returns c).Else-slot-ed))) WrongPosition Passed c.wrong_position-event.result (event (goal.at.returns c).After-wrong_position-event) (omega (arith, (counted-at (goal.at.returns c).Else-slot-ed).count.ensures, c.if-event-n.false)))
+    sym (to-positions (goal.at.returns c).Else-slot-ed ∙ each_past (count_in (bytes5 (goal.at.returns c).Else-slot-ed)) (wrong_position (history_of (edition_of (bytes5 (goal.at.returns c).Else-slot-ed)) (bytes5 (goal.at.returns c).Else-slot-ed))) WrongPosition Passed c.wrong_position-event.result (event (goal.at.returns c).After-wrong_position-event) (omega (arith, (counted-at (goal.at.returns c).Else-slot-ed).count-n.ensures, c.if-event-n.false)))

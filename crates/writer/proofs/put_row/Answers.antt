@@ -16,7 +16,7 @@ pub loop-i-preserved : goal.loop-i-preserved
 loop-i-preserved c =
     let l = c.loop-i in
     let a = c.args in
-    (omega arith, c.put_u64.auto.0 ∙ l.invariant.1, row_stored a.row.now a.s.now l.s c.put_u64.new.s a.at l.i l.invariant.2 c.put_u64.ensures)
+    (omega arith, c.put_u64.auto.s ∙ l.invariant.1, row_stored a.row.now a.s.now l.s c.put_u64.new.s a.at l.i l.invariant.2 c.put_u64.ensures)
 
 pub returns : goal.returns
 returns c =

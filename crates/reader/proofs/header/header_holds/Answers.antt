@@ -1,6 +1,6 @@
 -- `reader::header::header_holds` meets its contract: the code asks what `header_right` asks, in its order. Assumes nothing.
 use mathlib.Core.Path.{◌≡◌, ap, ◌∙◌}
-use mathlib.Core.Bool.{true}
+use mathlib.Core.Bool.{true, not}
 use Prim.Native.Nat.{◌≤◌}
 use native.Mathlib.Omega.{arith}
 use borrow.Author.Rules.{rules}
@@ -18,7 +18,7 @@ abbrev start : Else-not-has_letters → Start
 start c = (goal.at.Else-not-has_letters c).Start
 
 letters_yes : (c : Else-not-has_letters) (L : Layout) → (start c).args.ed ≡ numbers_of L → same (take 4 (start c).args.s.now) L.letters ≡ true
-letters_yes c L q = told_true (c.has_letters.ensures ∙ ap (λ (e : Edition). same (take 4 (start c).args.s.now) e.letters) q) c.if-not-has_letters.false
+letters_yes c L q = told_true (c.has_letters.ensures ∙ ap (λ (e : Edition). same (take 4 (start c).args.s.now) e.letters) q) (ap not c.if-not-has_letters.false)
 
 few : (c : Else-ed-count) (L : Layout) → (start (goal.at.Else-ed-count c).Else-not-has_letters).args.ed ≡ numbers_of L → count_in (start (goal.at.Else-ed-count c).Else-not-has_letters).args.s.now ≤ L.events
 few c L q = omega (arith, c.count.ensures, ap (λ (e : Edition). e.events) q, c.if-ed-count.false)
@@ -27,12 +27,12 @@ pub returns-then-not-has_letters : goal.returns-then-not-has_letters
 unfolding header_right
 returns-then-not-has_letters c = λ L q.
     let a = c.args in
-    rw (told_false (c.has_letters.ensures ∙ ap (λ (e : Edition). same (take 4 a.s.now) e.letters) q) c.if-not-has_letters.true)
+    rw (told_false (c.has_letters.ensures ∙ ap (λ (e : Edition). same (take 4 a.s.now) e.letters) q) (ap not c.if-not-has_letters.true))
 
 pub returns-then-ed-count : goal.returns-then-ed-count
 unfolding header_right
 returns-then-ed-count c = λ L q.
-    rw (letters_yes (goal.at.returns-then-ed-count c).Else-not-has_letters L q, lt-leb (count_in (start (goal.at.returns-then-ed-count c).Else-not-has_letters).args.s.now) L.events (omega (arith, c.count.ensures, ap (λ ((goal.at.returns-then-ed-count c).Else-not-has_letters : Edition). c.events) q, c.if-ed-count.true)))
+    rw (letters_yes (goal.at.returns-then-ed-count c).Else-not-has_letters L q, lt-leb (count_in (start (goal.at.returns-then-ed-count c).Else-not-has_letters).args.s.now) L.events (omega (arith, c.count.ensures, ap (λ (d : Edition). d.events) q, c.if-ed-count.true)))
 
 pub returns-then-sites-lt1 : goal.returns-then-sites-lt1
 unfolding header_right
@@ -61,4 +61,4 @@ returns c = λ L q.
       le-leb 1 (sites_in s) (omega (arith, c.sites-sites.ensures, c.if-sites-lt1.false)),
       le-leb (sites_in s) 8 (omega (arith, c.sites-sites.ensures, c.if-sites-gt8.false)),
     )
-    (c.terms_hold.ensures L (ap (λ (c.before.before.before.before.before.before.before : Edition). c.terms) q))
+    (c.terms_hold.ensures L (ap (λ (d : Edition). d.terms) q))

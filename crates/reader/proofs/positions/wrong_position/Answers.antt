@@ -32,14 +32,14 @@ unfolding history_of
 read c = c.u16_at-p.ensures ∙ ap (λ (x : ℕ). little 2 c.args.s.now (x + 10)) c.loop-e.invariant.3
 
 -- a position below n has its bit in the row
-held : (c : After-u16_at-p) → c.u16_at-p.result < (start (goal.at.After-u16_at-p c).At-loop-e).args.n → c.u16_at-p.result / 64 < length c.loop-e.true
+held : (c : After-u16_at-p) → c.u16_at-p.result < (start (goal.at.After-u16_at-p c).At-loop-e).args.n → c.u16_at-p.result / 64 < length c.loop-e.taken
 held c h = let a = start (goal.at.After-u16_at-p c).At-loop-e in omega (arith, h, sizes a, a.requires.n_bound, c.loop-e.invariant.1)
 
 pub loop-e-init : goal.loop-e-init
 loop-e-init c = (searched_start _ _, refl, taken_none (history_of (edition_of c.args.s.now) c.args.s.now) row_words _ refl, slot-first (edition_of c.args.s.now) (sound_of c.args.s.now))
 
 pub overflow_add-at : goal.overflow_add-at
-overflow_add-at c = omega (arith, (start (goal.at.overflow_add-at c).At-loop-e).good, sizes (start (goal.at.overflow_add-at c).At-loop-e), room c)
+overflow_add-at c = omega (arith, sizes (start (goal.at.overflow_add-at c).At-loop-e), room c)
 
 pub u16_at-p-requires : goal.u16_at-p-requires
 u16_at-p-requires c = omega (arith, sizes (start (goal.at.u16_at-p-requires c).At-loop-e), room c)
@@ -48,7 +48,7 @@ pub returns-then-n-p : goal.returns-then-n-p
 unfolding history_of
 returns-then-n-p c =
     let h = history_of (edition_of c.args.s.now) c.args.s.now in
-    searched_hit c.loop-e.invariant.0 c.loop-e-test.true (position_large h c.loop-e.e c.u16_at-p.result c.loop-e.true c.loop-e.invariant.2 (read (goal.at.returns-then-n-p c).After-u16_at-p) (omega arith))
+    searched_hit c.loop-e.invariant.0 c.loop-e-test.true (position_large h c.loop-e.e c.u16_at-p.result c.loop-e.taken c.loop-e.invariant.2 (read (goal.at.returns-then-n-p c).After-u16_at-p) (omega arith))
 
 pub test-requires : goal.test-requires
 test-requires c = held (goal.at.test-requires c).After-u16_at-p (omega arith)
@@ -56,7 +56,7 @@ test-requires c = held (goal.at.test-requires c).After-u16_at-p (omega arith)
 pub returns-then-test : goal.returns-then-test
 returns-then-test c =
     let h = history_of (edition_of c.args.s.now) c.args.s.now in
-    searched_hit c.loop-e.invariant.0 c.loop-e-test.true (position-taken h c.loop-e.e c.u16_at-p.result c.loop-e.true c.loop-e.invariant.2 (read (goal.at.returns-then-test c).After-u16_at-p) (sym c.test.ensures ∙ c.if-test.true))
+    searched_hit c.loop-e.invariant.0 c.loop-e-test.true (position-taken h c.loop-e.e c.u16_at-p.result c.loop-e.taken c.loop-e.invariant.2 (read (goal.at.returns-then-test c).After-u16_at-p) (sym c.test.ensures ∙ c.if-test.true))
 
 pub set-requires : goal.set-requires
 set-requires c = held (goal.at.set-requires c).After-u16_at-p (omega arith)
@@ -64,16 +64,16 @@ set-requires c = held (goal.at.set-requires c).After-u16_at-p (omega arith)
 pub next_slot-at-requires : goal.next_slot-at-requires
 next_slot-at-requires c =
     let a = start (goal.at.next_slot-at-requires c).At-loop-e in
-    omega (arith, a.well_formed, sizes a, room (goal.at.next_slot-at-requires c).In-loop-e)
+    omega (arith, sizes a, room (goal.at.next_slot-at-requires c).In-loop-e)
 
 pub loop-e-preserved : goal.loop-e-preserved
 unfolding history_of
 loop-e-preserved c =
     let h = history_of (edition_of c.args.s.now) c.args.s.now in (
-      searched_more c.loop-e.invariant.0 c.loop-e-test.true (position_free h c.loop-e.e c.u16_at-p.result c.loop-e.true c.loop-e.invariant.2 (read (goal.at.loop-e-preserved c).After-u16_at-p) (omega arith) (sym c.test.ensures ∙ c.if-test.false)),
+      searched_more c.loop-e.invariant.0 c.loop-e-test.true (position_free h c.loop-e.e c.u16_at-p.result c.loop-e.taken c.loop-e.invariant.2 (read (goal.at.loop-e-preserved c).After-u16_at-p) (omega arith) (sym c.test.ensures ∙ c.if-test.false)),
       search rules,
-      taken_more h c.loop-e.e c.u16_at-p.result c.loop-e.true c.loop-e.invariant.2 (read (goal.at.loop-e-preserved c).After-u16_at-p) c.set.new.row c.set.ensures (held (goal.at.loop-e-preserved c).After-u16_at-p (omega arith)),
-      next_of (start (goal.at.loop-e-preserved c).At-loop-e).args.s.now (start (goal.at.loop-e-preserved c).At-loop-e).args.ed (start (goal.at.loop-e-preserved c).At-loop-e).requires.0.1 c.loop-e.e c.loop-e.at _ c.loop-e.invariant.3 c.next_slot-at.ensures,
+      taken_more h c.loop-e.e c.u16_at-p.result c.loop-e.taken c.loop-e.invariant.2 (read (goal.at.loop-e-preserved c).After-u16_at-p) c.set.new.row c.set.ensures (held (goal.at.loop-e-preserved c).After-u16_at-p (omega arith)),
+      next_of c.args.s.now c.args.ed c.requires.n_value.1 c.loop-e.e c.loop-e.at _ c.loop-e.invariant.3 c.next_slot-at.ensures,
     )
 
 pub returns : goal.returns

@@ -23,7 +23,7 @@ loop-i-preserved c =
     let r : ℕ = length a.row.now - a.k in
     let within : l.i < a.k + r = omega (arith, c.requires.0, c.loop-i-test.true) in
     let word : c.if-i-k.word ≡ get_or (loaded a.row.now a.s.now a.at a.k) l.i 0 =
-    elim c.if-i-k.branch [ then-i-k w ↦ w.2 ∙ w.1.ensures ∙ sym (row_word a.k r l.i a.s.now a.at w.0.true) | else-i-k w ↦ w.1 ∙ sym (row-rest a.k r l.i a.s.now a.at (omega (arith, w.0.false)) within) ] in
+    elim c.if-i-k.branch [ then-i-k w ↦ w.word-is ∙ w.u64_at-word.ensures ∙ sym (row_word a.k r l.i a.s.now a.at w.if-i-k.true) | else-i-k w ↦ w.word-is ∙ sym (row-rest a.k r l.i a.s.now a.at (omega (arith, w.if-i-k.false)) within) ] in
     (omega (arith, c.loop-i-test.true), search rules, stored_more _ a.row.now l.row l.i c.if-i-k.word l.invariant.2 (omega (arith, c.loop-i-test.true)) word)
 
 pub returns : goal.returns

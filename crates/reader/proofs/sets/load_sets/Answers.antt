@@ -1,4 +1,5 @@
-use mathlib.Core.Path.{◌≡◌, refl, sym, ◌∙◌}
+use mathlib.Core.Bool.{not}
+use mathlib.Core.Path.{◌≡◌, refl, sym, ◌∙◌, ap}
 use mathlib.Core.List.{List, ◌++◌}
 use Prim.Native.Nat.{ℕ, ◌+◌, ◌*◌, ◌-◌, ◌≤◌, ◌<◌, min}
 use native.Mathlib.Nat.{add-sub_cancel_left}
@@ -71,7 +72,7 @@ pub loop-e-init : goal.loop-e-init
 loop-e-init c = (searched_start _ _, refl, set_rows-none _ _ _, slot-first (edition_of c.args.s.now) (sound_of c.args.s.now))
 
 pub overflow_add-slot : goal.overflow_add-slot
-overflow_add-slot c = omega (arith, (start (goal.at.overflow_add-slot c).At-loop-e).good, placed (goal.at.overflow_add-slot c).In-loop-e)
+overflow_add-slot c = omega (arith, placed (goal.at.overflow_add-slot c).In-loop-e)
 
 pub load_row-requires : goal.load_row-requires
 load_row-requires c =
@@ -84,19 +85,19 @@ pub returns-then-not-is_subset : goal.returns-then-not-is_subset
 returns-then-not-is_subset c =
     let d = loaded (goal.at.returns-then-not-is_subset c).After-is_subset in
     let l = at-loop d in
-    let f = l.before.before in
+    let f = l in
     let a = (entry d).args in
     let e = l.loop-e.e in
     let m : min a.n (e + 1) ≡ e + 1 = omega arith in record {
       value = searched_hit l.loop-e.invariant.0 d.loop-e-test.true
           (loaded_outside (edition_of a.s.now) a.s.now (sound_of a.s.now).narrow (λ b. ((entry d).type_inv.s b).fits) (e + 1) _ (table d) (put d) a.n e
-          f.fill-below.last.0 f.fill-below.ensures.0 (omega arith)
-          (rw add-sub_cancel_left at (told_false c.is_subset.ensures c.if-not-is_subset.true)));
+          f.fill_below.new.row f.fill_below.ensures.row (omega arith)
+          (rw add-sub_cancel_left at (told_false c.is_subset.ensures (ap not c.if-not-is_subset.true))));
       table_after = rw (add-sub_cancel_left, m) (put d);
     }
 
 pub overflow_add-slot-in-loop-e : goal.overflow_add-slot-in-loop-e
-overflow_add-slot-in-loop-e c = omega (arith, (start (goal.at.overflow_add-slot-in-loop-e c).At-loop-e).good, placed (goal.at.overflow_add-slot-in-loop-e c).In-loop-e)
+overflow_add-slot-in-loop-e c = omega (arith, placed (goal.at.overflow_add-slot-in-loop-e c).In-loop-e)
 
 pub test-requires : goal.test-requires
 test-requires c = omega (arith, placed (goal.at.test-requires c).In-loop-e)
@@ -116,19 +117,19 @@ returns-then-test c =
 pub next_slot-slot-requires : goal.next_slot-slot-requires
 next_slot-slot-requires c =
     let a = start (goal.at.next_slot-slot-requires c).At-loop-e in
-    omega (arith, a.well_formed, sizes a, placed (goal.at.next_slot-slot-requires c).In-loop-e)
+    omega (arith, sizes a, placed (goal.at.next_slot-slot-requires c).In-loop-e)
 
 pub loop-e-preserved : goal.loop-e-preserved
 loop-e-preserved c =
     let d = loaded (goal.at.loop-e-preserved c).After-is_subset in
     let l = at-loop d in
-    let f = l.before.before in
+    let f = l in
     let a = (entry d).args in
     let e = l.loop-e.e in (
       searched_more l.loop-e.invariant.0 d.loop-e-test.true
           (loaded_right (edition_of a.s.now) a.s.now (sound_of a.s.now).narrow (λ b. ((entry d).type_inv.s b).fits) (e + 1) _ (table d) (put d) a.n e
-          f.fill-below.last.0 f.fill-below.ensures.0 (omega arith)
-          (rw add-sub_cancel_left at (told_true c.is_subset.ensures c.if-not-is_subset.false)) (omega (arith, sizes (start l), placed (goal.at.After-load_row d).In-loop-e))
+          f.fill_below.new.row f.fill_below.ensures.row (omega arith)
+          (rw add-sub_cancel_left at (told_true c.is_subset.ensures (ap not c.if-not-is_subset.false))) (omega (arith, sizes (start l), placed (goal.at.After-load_row d).In-loop-e))
           (rw l.loop-e.invariant.3 at (sym c.test.ensures ∙ c.if-test.false))),
       omega (arith, c.table-1.given),
       rw add-sub_cancel_left (put d),

@@ -13,14 +13,14 @@ sizes : (c : Start) → Numbers (edition_of c.args.s.now) c.args.ed
 sizes c = numbers_of_lem c.args.s.now c.args.ed c.requires.ed_value
 
 pub overflow_add-at : goal.overflow_add-at
-overflow_add-at c = omega (arith, c.well_formed, sizes (goal.at.overflow_add-at c).Start, c.requires.at_in_bounds)
+overflow_add-at c = omega (arith, sizes (goal.at.overflow_add-at c).Start, c.requires.at_in_bounds)
 
 pub returns-then-at-ed-ne0 : goal.returns-then-at-ed-ne0
 returns-then-at-ed-ne0 c = λ e q.
     sym (tail_none (edition_of c.args.s.now) (sound_of c.args.s.now) c.args.s.now e c.args.at q (λ z. c.if-at-ed-ne0.true (omega (arith, (sizes (goal.at.returns-then-at-ed-ne0 c).Start).rest, z))))
 
 pub overflow_add-at-2 : goal.overflow_add-at-2
-overflow_add-at-2 c = omega (arith, c.well_formed, sizes (goal.at.overflow_add-at-2 c).Start, c.requires.at_in_bounds)
+overflow_add-at-2 c = omega (arith, sizes (goal.at.overflow_add-at-2 c).Start, c.requires.at_in_bounds)
 
 pub overflow_sub-ed : goal.overflow_sub-ed
 overflow_sub-ed c = omega (arith, sizes (goal.at.overflow_sub-ed c).Start)

@@ -39,7 +39,7 @@ most c = mul-le-mul_right {m = c.args.ed.slots} {n = 15} (length c.args.s.now / 
 
 pub overflow_mul-slots : goal.overflow_mul-slots
 overflow_mul-slots c =
-    omega (arith, c.well_formed, most (goal.at.overflow_mul-slots c).Start)
+    omega (arith, most (goal.at.overflow_mul-slots c).Start)
 
 pub loop-e-init : goal.loop-e-init
 loop-e-init c = let s = c.args.s.now in (searched_start _ _, slot-first (edition_of s) (sound_of s))
@@ -53,23 +53,23 @@ slot_holds-requires c = let a = start (goal.at.slot_holds-requires c).At-loop-e 
 
 pub returns-then-not-slot_holds : goal.returns-then-not-slot_holds
 returns-then-not-slot_holds c =
-    searched_hit c.loop-e.invariant.0 (below (goal.at.returns-then-not-slot_holds c).In-loop-e) (rw c.slot_holds.ensures at c.if-not-slot_holds.true)
+    searched_hit c.loop-e.invariant.0 (below (goal.at.returns-then-not-slot_holds c).In-loop-e) (rw c.slot_holds.ensures at (ap not c.if-not-slot_holds.true))
 
 pub next_slot-at-requires : goal.next_slot-at-requires
 next_slot-at-requires c =
     let a = start (goal.at.next_slot-at-requires c).At-loop-e in
     let s = a.args.s.now in
-    omega (arith, a.well_formed, c.loop-e.invariant.1, block (goal.at.next_slot-at-requires c).In-loop-e, sizes a, slot_end (edition_of s) (sound_of s) c.loop-e.e)
+    omega (arith, c.loop-e.invariant.1, block (goal.at.next_slot-at-requires c).In-loop-e, sizes a, slot_end (edition_of s) (sound_of s) c.loop-e.e)
 
 pub overflow_step-e : goal.overflow_step-e
 overflow_step-e c =
     let a = start (goal.at.overflow_step-e c).At-loop-e in
-    omega (arith, a.well_formed, c.loop-e-test.true, most a)
+    omega (arith, c.loop-e-test.true, most a)
 
 pub loop-e-preserved : goal.loop-e-preserved
 loop-e-preserved c =
     let a = start (goal.at.loop-e-preserved c).At-loop-e in
-    (searched_more c.loop-e.invariant.0 (below (goal.at.loop-e-preserved c).In-loop-e) (rw c.slot_holds.ensures at c.if-not-slot_holds.false), next_of a.args.s.now a.args.ed a.requires.n_value.1 c.loop-e.e c.loop-e.at _ c.loop-e.invariant.1 c.next_slot-at.ensures)
+    (searched_more c.loop-e.invariant.0 (below (goal.at.loop-e-preserved c).In-loop-e) (rw c.slot_holds.ensures at (ap not c.if-not-slot_holds.false)), next_of a.args.s.now a.args.ed a.requires.n_value.1 c.loop-e.e c.loop-e.at _ c.loop-e.invariant.1 c.next_slot-at.ensures)
 
 pub returns : goal.returns
 returns c =

@@ -40,19 +40,19 @@ loop-e-init c =
     (search rules, refl, slot_words-none _ _ _ _ _, slot-first (edition_of s) (sound_of s))
 
 pub overflow_mul-at : goal.overflow_mul-at
-overflow_mul-at c = omega (arith, room c, (start (goal.at.overflow_mul-at c).At-loop-e).good)
+overflow_mul-at c = omega (arith, room c)
 
 pub overflow_add-end : goal.overflow_add-end
-overflow_add-end c = omega (arith, room c, (start (goal.at.overflow_add-end c).At-loop-e).good)
+overflow_add-end c = omega (arith, room c)
 
 pub offset_bounds-out-at : goal.offset_bounds-out-at
-offset_bounds-out-at c = omega (arith, room c, (start (goal.at.offset_bounds-out-at c).At-loop-e).good)
+offset_bounds-out-at c = omega (arith, room c)
 
 pub slice_bounds-load-end : goal.slice_bounds-load-end
-slice_bounds-load-end c = omega (arith, room c, (start (goal.at.slice_bounds-load-end c).At-loop-e).good)
+slice_bounds-load-end c = omega (arith, room c)
 
 pub overflow_add-slot : goal.overflow_add-slot
-overflow_add-slot c = omega (arith, within (goal.at.overflow_add-slot c).In-loop-e, (start (goal.at.overflow_add-slot c).At-loop-e).good)
+overflow_add-slot c = omega (arith, within (goal.at.overflow_add-slot c).In-loop-e)
 
 pub load-requires : goal.load-requires
 load-requires c =
@@ -63,7 +63,7 @@ load-requires c =
 
 pub next_slot-slot-requires : goal.next_slot-slot-requires
 next_slot-slot-requires c =
-    omega (arith, within (goal.at.next_slot-slot-requires c).In-loop-e, (start (goal.at.next_slot-slot-requires c).At-loop-e).good, sizes (goal.at.next_slot-slot-requires c).At-loop-e)
+    omega (arith, within (goal.at.next_slot-slot-requires c).In-loop-e, sizes (goal.at.next_slot-slot-requires c).At-loop-e)
 
 pub loop-e-preserved : goal.loop-e-preserved
 loop-e-preserved c =

@@ -7,7 +7,6 @@ use lib.Seq.{length-take-le}
 use Rattle.record.specs.Layout.{object_count}
 use Rattle.events.specs.Given.{group_rows}
 use Rattle.tables.proofs.GroupLaws.{empty_front, groups_of}
-use borrow.Author.Rules.{rules}
 use Rattle.tables.proofs.groups.fill.Goals.{Start}
 use Rattle.tables.proofs.groups.fill.Goals as goal
 

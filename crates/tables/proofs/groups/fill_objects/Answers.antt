@@ -1,11 +1,11 @@
-use Prim.Native.Nat.{◌+◌, ◌-◌, ◌*◌, ◌^◌, ◌<◌, ◌≤◌}
+use Prim.Native.Nat.{◌+◌, ◌*◌, ◌^◌, ◌<◌, ◌≤◌}
 use mathlib.Core.Path.{◌≡◌, refl, ap, ◌∙◌}
 use native.Mathlib.Omega.{arith}
 use lib.ListN.{length, length-replicate}
 use Rattle.record.specs.Layout.{object_count}
 use Rattle.record.specs.Words.{object_in}
 use Rattle.rows.proofs.TableLaws.{row_room}
-use Rattle.tables.proofs.GroupLaws.{KeyRows, keys_none, keys_more, keys_all}
+use Rattle.tables.proofs.GroupLaws.{keys_none, keys_more, keys_all}
 use borrow.Author.Rules.{rules}
 use Rattle.tables.proofs.groups.fill_objects.Goals.{After-object-o, At-loop-e, Start}
 use Rattle.tables.proofs.groups.fill_objects.Goals as goal
@@ -50,7 +50,7 @@ pub loop-e-preserved : goal.loop-e-preserved
 loop-e-preserved c =
     let l = c.loop-e in
     let t = c.set in
-    (omega arith, c.g-1.given ∙ l.invariant.1, keys_more c.args.w (object_in c.args.l.now) l.e l.g c.object-o.result t.new.row l.invariant.2 (inside (goal.at.loop-e-preserved c).After-object-o) (omega (arith, full (goal.at.loop-e-preserved c).Start, sized (goal.at.loop-e-preserved c).At-loop-e)) c.object-o.ensures (small (goal.at.loop-e-preserved c).After-object-o) t.ensures)
+    (omega arith, omega (arith, l.invariant.1), keys_more c.args.w (object_in c.args.l.now) l.e l.g c.object-o.result t.new.row l.invariant.2 (inside (goal.at.loop-e-preserved c).After-object-o) (omega (arith, full (goal.at.loop-e-preserved c).Start, sized (goal.at.loop-e-preserved c).At-loop-e)) c.object-o.ensures (small (goal.at.loop-e-preserved c).After-object-o) t.ensures)
 
 pub shape_of-g : goal.shape_of-g
 shape_of-g c = sized (goal.at.shape_of-g c).At-loop-e

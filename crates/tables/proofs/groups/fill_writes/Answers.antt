@@ -1,9 +1,7 @@
-use Prim.Native.Nat.{◌-◌, ◌*◌, ◌≤◌}
-use mathlib.Core.Path.{◌≡◌, refl, ◌∙◌}
-use mathlib.Core.Logic.{⊎_elim, inl, inr}
+use mathlib.Core.Path.{refl, ◌∙◌}
+use mathlib.Core.Logic.{inl, inr}
 use native.Mathlib.Omega.{arith}
 use lib.ListN.{length}
-use Rattle.rows.specs.Row.{Row}
 use Rattle.record.specs.Words.{is_write_in}
 use Rattle.tables.proofs.GroupLaws.{tested_none, tested_more, tested_all}
 use borrow.Author.Rules.{rules}
@@ -20,12 +18,10 @@ loop-e-preserved c =
     let l = c.loop-e in
     let t = c.is_write in
     let m = tested_more (is_write_in c.args.l.now) l.e l.row c.if-is_write.row t.result l.invariant.3 (omega arith) t.ensures
-    (elim c.if-is_write.branch [ then-is_write w ↦ inl (w.0.true, w.5 ∙ w.2.ensures) | else-is_write w ↦ inr (w.0.false, w.1) ]) in
+    (elim c.if-is_write.branch [ then-is_write w ↦ inl (w.if-is_write.true, w.row-is ∙ w.set.ensures) | else-is_write w ↦ inr (w.if-is_write.false, w.row-is) ]) in
     (omega arith, omega (arith, l.invariant.1, m.0), m.0 ∙ l.invariant.2, m.1)
 
-pub returns : goal.returns
-returns c =
-    let l = c.loop-e in record {
-      row = tested_all (is_write_in c.args.l.now) l.e c.args.n l.row (omega arith) l.invariant.3;
-      row_len_unchanged = same_length c;
-    }
+pub returns-clause-row : goal.returns-clause-row
+returns-clause-row c =
+    let l = c.loop-e in
+    tested_all (is_write_in c.args.l.now) l.e c.args.n l.row (omega arith) l.invariant.3

@@ -1,13 +1,9 @@
 -- `tables::groups::fill_writes` meets its contract: the row has the writes among the events passed. Assumes nothing.
 use Prim.Native.Nat.{◌-◌, ◌*◌, ◌≤◌}
-use mathlib.Core.Path.{◌≡◌, refl, ◌∙◌}
-use mathlib.Core.Logic.{⊎_elim, inl, inr}
-use native.Mathlib.Omega.{arith}
+use mathlib.Core.Path.{◌≡◌}
 use lib.ListN.{length}
 use Rattle.rows.specs.Row.{Row}
 use Rattle.record.specs.Words.{is_write_in}
-use Rattle.tables.proofs.GroupLaws.{tested_none, tested_more, tested_all}
-use borrow.Author.Rules.{rules}
 use Rattle.tables.proofs.groups.fill_writes.Given as goal
 
 abbrev pub invariant-loop-e : goal.invariant-loop-e

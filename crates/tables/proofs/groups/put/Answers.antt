@@ -5,7 +5,6 @@ use lib.ListN.{take, length-take}
 use lib.Seq.{length-take-le}
 use Rattle.rows.proofs.SliceLaws.{length_slice}
 use Rattle.tables.proofs.LentLaws.{row-given}
-use borrow.Author.Rules.{rules}
 use Rattle.tables.proofs.groups.put.Goals as goal
 
 pub slice_bounds-copy-end-2 : goal.slice_bounds-copy-end-2

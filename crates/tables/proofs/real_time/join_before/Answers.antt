@@ -1,13 +1,11 @@
 use mathlib.Core.Path.{refl}
-use Prim.Native.Nat.{◌-◌}
 use native.Mathlib.Omega.{arith}
-use borrow.Author.Rules.{rules}
 use borrow.Author.Tests.{not-true}
-use lib.ListN.{length, get_or}
+use lib.ListN.{get_or}
 use Rattle.rows.specs.Row.{Row}
 use Rattle.rows.proofs.RowLaws.{row_same, row-insert, length-insert}
 use Rattle.tables.specs.Sweep.{taken}
-use Rattle.tables.proofs.TakenLaws.{Taking, taking_more}
+use Rattle.tables.proofs.TakenLaws.{taking_more}
 use Rattle.tables.proofs.real_time.join_before.Goals.{At-loop-next, Start}
 use Rattle.tables.proofs.real_time.join_before.Goals as goal
 

@@ -1,14 +1,8 @@
 -- `tables::real_time::join_before` meets its contract: the first `next` returns are in the row, all before t. Assumes nothing.
-use mathlib.Core.Path.{refl}
 use Prim.Native.Nat.{◌-◌}
-use native.Mathlib.Omega.{arith}
-use borrow.Author.Rules.{rules}
-use borrow.Author.Tests.{not-true}
-use lib.ListN.{length, get_or}
+use lib.ListN.{length}
 use Rattle.rows.specs.Row.{Row}
-use Rattle.rows.proofs.RowLaws.{row_same, row-insert, length-insert}
-use Rattle.tables.specs.Sweep.{taken}
-use Rattle.tables.proofs.TakenLaws.{Taking, taking_more}
+use Rattle.tables.proofs.TakenLaws.{Taking}
 use Rattle.tables.proofs.real_time.join_before.Given as goal
 
 abbrev pub invariant-loop-next : goal.invariant-loop-next

@@ -1,11 +1,10 @@
 use mathlib.Core.Path.{ap, ◌∙◌}
 use Prim.Native.Nat.{ℕ, ◌-◌, ◌<◌}
 use native.Mathlib.Omega.{arith}
-use borrow.Author.Rules.{rules}
 use lib.ListN.{length, get_or}
 use Rattle.rows.proofs.TableLaws.{row_room}
 use Rattle.tables.proofs.TakenLaws.{marks_early}
-use Rattle.tables.proofs.RealTimeLaws.{Joining, joining_none, joining_more, joining_all}
+use Rattle.tables.proofs.RealTimeLaws.{joining_none, joining_more, joining_all}
 use Rattle.tables.proofs.real_time.join_far.Goals.{After-join_before-k, At-loop-i, In-loop-i, Start}
 use Rattle.tables.proofs.real_time.join_far.Goals as goal
 

@@ -1,12 +1,7 @@
 -- `tables::real_time::join_far` meets its contract: the rows of the first i starts are joined. Assumes nothing.
-use mathlib.Core.Path.{ap, ◌∙◌}
-use Prim.Native.Nat.{ℕ, ◌-◌, ◌<◌}
-use native.Mathlib.Omega.{arith}
-use borrow.Author.Rules.{rules}
-use lib.ListN.{length, get_or}
-use Rattle.rows.proofs.TableLaws.{row_room}
-use Rattle.tables.proofs.TakenLaws.{marks_early}
-use Rattle.tables.proofs.RealTimeLaws.{Joining, joining_none, joining_more, joining_all}
+use Prim.Native.Nat.{◌-◌}
+use lib.ListN.{length}
+use Rattle.tables.proofs.RealTimeLaws.{Joining}
 use Rattle.tables.proofs.real_time.join_far.Given as goal
 
 abbrev pub invariant-loop-i : goal.invariant-loop-i

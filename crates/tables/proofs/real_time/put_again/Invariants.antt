@@ -1,12 +1,8 @@
 -- `tables::real_time::put_again` meets its contract: the first i words are those behind them, and the rest as they were. Assumes nothing.
-use mathlib.Core.Path.{◌≡◌, refl, sym, ap, ap₂, ◌∙◌}
-use mathlib.Core.List.{List, ◌++◌}
-use Prim.Native.Nat.{ℕ, ◌+◌, ◌-◌, ◌≤◌}
-use native.Mathlib.Omega.{arith}
-use borrow.Author.Rules.{rules}
-use lib.ListN.{length, drop, take, get_or, length-drop, length-set}
-use lib.Seq.{length-take-le, get_or-append-add, get_or-drop}
-use Rattle.rows.proofs.FrontLaws.{front-more, take_more}
+use mathlib.Core.Path.{◌≡◌}
+use mathlib.Core.List.{◌++◌}
+use Prim.Native.Nat.{◌-◌, ◌≤◌}
+use lib.ListN.{length, drop, take}
 use Rattle.tables.proofs.real_time.put_again.Given as goal
 
 abbrev pub invariant-loop-i : goal.invariant-loop-i
