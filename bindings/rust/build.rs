@@ -2,6 +2,7 @@
 //! is missing or older than its sources. `RIZHAKKON_LIB` names another folder to take them from, as they are.
 
 use std::env;
+use std::fs;
 use std::path::{Path, PathBuf};
 use std::process::Command;
 
@@ -37,14 +38,22 @@ fn own(root: &Path) -> PathBuf {
 /// The repository's folder of archives, filled anew where something is missing or older than its sources. No judge of
 /// other sources is linked: where they cannot be built, this ends with the reason.
 fn built(root: &Path) -> PathBuf {
-    for source in ["crates", "crates.txt", "tools/library"] {
-        println!("cargo:rerun-if-changed={}", root.join(source).display());
+    let named = ["crates.txt", "tools/library", "tools/outdated"].map(|name| root.join(name));
+    for source in named.into_iter().chain(sources(&root.join("crates"))) {
+        println!("cargo:rerun-if-changed={}", source.display());
     }
     let mut command = Command::new("bash");
     let run = command.arg("tools/library").current_dir(root).output().expect("bash runs");
     let said = String::from_utf8_lossy(&run.stdout);
     assert!(run.status.success(), "bash tools/library failed:\n{said}{}", String::from_utf8_lossy(&run.stderr));
     root.join("target/staticlib")
+}
+
+/// The crates' folders of sources. Beside them lies what rt keeps, which is none.
+fn sources(crates: &Path) -> Vec<PathBuf> {
+    let crates = fs::read_dir(crates).expect("the crates are there").flatten();
+    let parts = crates.flat_map(|each| ["src", "specs", "proofs"].map(|part| each.path().join(part)));
+    parts.filter(|part| part.is_dir()).collect()
 }
 
 /// Unbundled, so that the archive is read once, by the final link.
