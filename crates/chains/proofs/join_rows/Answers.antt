@@ -1,11 +1,9 @@
 use mathlib.Core.Path.{refl, sym, ◌∙◌}
-use Prim.Native.Nat.{◌*◌, ◌-◌}
 use native.Mathlib.Omega.{arith}
-use Rattle.rows.specs.Row.{count_row}
 use Rattle.rows.proofs.ReachLaws.{graph_room}
 use Rattle.rows.proofs.FreshLaws.{Fresh, fresh, fresh_falls}
-use Rattle.chains.proofs.JoiningLaws.{Joining, joining_begin, joining_turn, joined_next, joined_done}
-use Rattle.chains.proofs.join_rows.Goals.{After-lowest_difference-m, After-set, After-union_at-arg-1, At-loop-n, Else-past-m, Start}
+use Rattle.chains.proofs.JoiningLaws.{joining_begin, joining_turn, joined_next, joined_done}
+use Rattle.chains.proofs.join_rows.Goals.{After-lowest_difference-m, At-loop-n, Else-past-m, Start}
 use Rattle.chains.proofs.join_rows.Goals as goal
 
 -- the places on the way, by name
@@ -14,12 +12,6 @@ start c = (goal.at.At-loop-n c).Start
 
 abbrev at-loop : After-lowest_difference-m → At-loop-n
 at-loop c = (goal.at.After-lowest_difference-m c).At-loop-n
-
-abbrev after-set : After-union_at-arg-1 → After-set
-after-set c = (goal.at.After-union_at-arg-1 c).After-set
-
-abbrev turning : After-union_at-arg-1 → Else-past-m
-turning c = (goal.at.After-union_at-arg-1 c).Else-past-m
 
 -- the event of this turn
 turn : (c : Else-past-m) → let l = at-loop (goal.at.Else-past-m c).After-lowest_difference-m in Fresh (start l).args.n (start l).args.near.now l.loop-n.done c.lowest_difference-m.result
@@ -62,25 +54,15 @@ pub set-requires : goal.set-requires
 set-requires c = omega (arith, c.if-past-m.false, (at-loop (goal.at.set-requires c).After-lowest_difference-m).loop-n.invariant.deep)
 
 pub overflow_mul-m : goal.overflow_mul-m
-overflow_mul-m c =
-    let e = turning c in
-    let s = start (at-loop (goal.at.Else-past-m e).After-lowest_difference-m) in
-    omega (arith, graph_room e.lowest_difference-m.result s.requires.graph (turn e).below, s.well_formed)
+overflow_mul-m c = omega (arith, graph_room c.lowest_difference-m.result c.requires.graph (turn (goal.at.overflow_mul-m c).Else-past-m).below, c.well_formed)
 
 pub union_at-requires : goal.union_at-requires
-union_at-requires c =
-    let e = turning c in
-    let l = at-loop (goal.at.Else-past-m e).After-lowest_difference-m in
-    omega (arith, graph_room e.lowest_difference-m.result (start l).requires.graph (turn e).below, l.loop-n.invariant.wide)
+union_at-requires c = omega (arith, graph_room c.lowest_difference-m.result c.requires.graph (turn (goal.at.union_at-requires c).Else-past-m).below, c.loop-n.invariant.wide)
 
 pub loop-n-smaller : goal.loop-n-smaller
 loop-n-smaller c =
-    let e = turning (goal.at.loop-n-smaller c).After-union_at-arg-1 in
-    let l = at-loop (goal.at.Else-past-m e).After-lowest_difference-m in
-    fresh_falls (turn e) (start l).requires.near_len.0 l.loop-n.invariant.deep (λ k. (c.type_inv.done k).fits) (after-set (goal.at.loop-n-smaller c).After-union_at-arg-1).set.ensures
+    fresh_falls (turn (goal.at.loop-n-smaller c).Else-past-m) c.requires.near_len.0 c.loop-n.invariant.deep (λ k. (c.type_inv.done k).fits) c.set.ensures
 
 pub loop-n-preserved : goal.loop-n-preserved
 loop-n-preserved c =
-    let e = turning (goal.at.loop-n-preserved c).After-union_at-arg-1 in
-    let l = at-loop (goal.at.Else-past-m e).After-lowest_difference-m in
-    joining_turn l.loop-n.invariant (start l).requires.near_len.0 (turn e) c.union_at.ensures (after-set (goal.at.loop-n-preserved c).After-union_at-arg-1).set.ensures
+    joining_turn c.loop-n.invariant c.requires.near_len.0 (turn (goal.at.loop-n-preserved c).Else-past-m) c.union_at.ensures c.set.ensures

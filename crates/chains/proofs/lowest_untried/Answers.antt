@@ -1,15 +1,13 @@
 use mathlib.Core.Path.{◌≡◌, refl, sym, ◌∙◌}
-use Prim.Native.Nat.{◌+◌, ◌*◌, ◌-◌, ◌≤◌}
+use Prim.Native.Nat.{◌+◌, ◌*◌, ◌≤◌}
 use native.Mathlib.Omega.{arith}
-use borrow.Author.Rules.{rules}
 use lib.ListN.{length}
-use Rattle.rows.specs.Row.{count_row}
 use Rattle.rows.specs.Relation.{related}
 use Rattle.rows.proofs.SliceLaws.{slice_row, length_slice}
 use Rattle.rows.proofs.ReachLaws.{graph_room}
 use Rattle.rows.proofs.FreshLaws.{Fresh, fresh, fresh_falls}
-use Rattle.chains.proofs.TryingLaws.{Trying, trying_begin, tried_all, tried_hit, trying_more}
-use Rattle.chains.proofs.lowest_untried.Goals.{After-if, After-lowest_difference-m, After-slice_known-in-loop-n-1, After-test, At-loop-n, Else-past-m, Start}
+use Rattle.chains.proofs.TryingLaws.{trying_begin, tried_all, tried_hit, trying_more}
+use Rattle.chains.proofs.lowest_untried.Goals.{After-lowest_difference-m, After-test, At-loop-n, Else-past-m, Start}
 use Rattle.chains.proofs.lowest_untried.Goals as goal
 
 -- the places on the way, by name
@@ -21,9 +19,6 @@ at-loop c = (goal.at.After-lowest_difference-m c).At-loop-n
 
 abbrev entry : Else-past-m → Start
 entry c = (goal.at.Else-past-m c).Start
-
-abbrev tested : After-slice_known-in-loop-n-1 → After-if
-tested c = (goal.at.After-slice_known-in-loop-n-1 c).After-if
 
 -- the event of this turn
 turn : (c : Else-past-m) → let l = at-loop (goal.at.Else-past-m c).After-lowest_difference-m in Fresh (start l).args.n (start l).args.near.now l.loop-n.tried c.lowest_difference-m.result
@@ -94,11 +89,8 @@ set-requires c =
 
 pub loop-n-smaller : goal.loop-n-smaller
 loop-n-smaller c =
-    let e = (tested c).before.before.before in
-    fresh_falls (turn e) refl (at-loop e.before).loop-n.invariant.deep (λ k. (c.type_inv.tried k).fits) c.set.ensures
+    fresh_falls (turn (goal.at.loop-n-smaller c).Else-past-m) refl c.loop-n.invariant.deep (λ k. (c.type_inv.tried k).fits) c.set.ensures
 
 pub loop-n-preserved : goal.loop-n-preserved
 loop-n-preserved c =
-    let z = tested c in
-    let e = z.before.before.before in
-    trying_more (at-loop e.before).loop-n.invariant (turn e) (sym (stepped (goal.at.After-if z).After-test) ∙ z.if-test.false) c.set.ensures
+    trying_more c.loop-n.invariant (turn (goal.at.loop-n-preserved c).Else-past-m) (sym (stepped (goal.at.loop-n-preserved c).After-test) ∙ c.if-test.false) c.set.ensures

@@ -2,7 +2,6 @@ use mathlib.Core.Path.{◌≡◌, refl, sym, ◌∙◌}
 use mathlib.Core.List.{List}
 use Prim.Native.Nat.{ℕ, ◌+◌, ◌*◌, ◌-◌, ◌≤◌, ◌<◌}
 use native.Mathlib.Omega.{arith}
-use borrow.Author.Rules.{rules}
 use lib.ListN.{length, set, take, replicate, length-set, length-replicate}
 use Rattle.rows.specs.Relation.{related}
 use Rattle.rows.specs.Shortest.{distance}
@@ -79,7 +78,11 @@ slice_bounds-fill_near-end-3 c =
 
 pub fill_near-last-requires : goal.fill_near-last-requires
 fill_near-last-requires c =
-    rw (cut (goal.at.fill_near-last-requires c).Start) ((c.requires.graph.0, refl), ((c.requires.a_lt_n.0, c.requires.a_lt_n.1, c.requires.graph.2), c.requires.b_value))
+    rw (cut (goal.at.fill_near-last-requires c).Start) (record {
+      graph = (c.requires.graph.0, refl);
+      a_lt_n = (c.requires.a_lt_n.0, c.requires.a_lt_n.1, c.requires.graph.2);
+      b_value = c.requires.b_value;
+    })
 
 pub loop-i-init : goal.loop-i-init
 loop-i-init c =
@@ -144,4 +147,8 @@ shape_of-out c =
 
 pub returns : goal.returns
 returns c =
-    writing_end c.loop-i.invariant (found (filled (goal.at.returns c).At-loop-i)) (room (goal.at.returns c).At-loop-i) (omega (arith, c.loop-i-test.false))
+    let l = (goal.at.returns c).At-loop-i in
+    let e = writing_end c.loop-i.invariant (found (filled l)) (room l) (omega (arith, c.loop-i-test.false)) in record {
+      value = e.0;
+      out_after = e.1;
+    }

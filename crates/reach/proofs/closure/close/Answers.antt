@@ -4,20 +4,16 @@ use mathlib.Core.List.{List}
 use Prim.Native.Nat.{ℕ, ◌*◌}
 use native.Mathlib.Omega.{arith}
 use borrow.Author.Rules.{rules}
-use borrow.Author.Tests.{not-false}
 use lib.ListN.{length, take, replicate}
 use Rattle.rows.proofs.TableLaws.{length_cut}
 use Rattle.reach.proofs.ClosedLaws.{between_closure}
 use Rattle.reach.proofs.FilledLaws.{part-long, part-rows, part_filled}
-use Rattle.reach.proofs.closure.close.Goals.{After-close_settled, After-path-2-1, Start}
+use Rattle.reach.proofs.closure.close.Goals.{After-close_settled, Start}
 use Rattle.reach.proofs.closure.close.Goals as goal
 
 -- the places on the way, by name
 abbrev start : After-close_settled → Start
 start c = (goal.at.After-close_settled c).Start
-
-abbrev tried : After-path-2-1 → After-close_settled
-tried c = (goal.at.After-path-2-1 c).After-close_settled
 
 -- the words that are rows
 abbrev part : Start → List ℕ
@@ -47,24 +43,27 @@ slice_bounds-close_settled-end-2 c = sym (cut (goal.at.slice_bounds-close_settle
 
 pub close_settled-requires : goal.close_settled-requires
 close_settled-requires c =
-    rw (cut (goal.at.close_settled-requires c).Start) (part-rows c.requires.0, (refl, refl, omega (arith, c.requires.0.wide, c.requires.1), omega (arith, c.requires.0.wide, c.requires.1)))
+    rw (cut (goal.at.close_settled-requires c).Start) (record {
+      rows = part-rows c.requires.0;
+      settled_len = (refl, refl, omega (arith, c.requires.0.wide, c.requires.1), omega (arith, c.requires.0.wide, c.requires.1));
+    })
 
 pub close_by_rounds-requires : goal.close_by_rounds-requires
 close_by_rounds-requires c =
-    let e = tried (goal.at.close_by_rounds-requires c).After-path-2-1 in
+    let e = (goal.at.close_by_rounds-requires c).After-close_settled in
     let s = start e in
     rw (width e) (omega (arith, (part-rows s.requires.0).size, e.close_settled.ensures.table_len_unchanged), s.requires.0.wide)
 
 pub returns-then-not-close_settled : goal.returns-then-not-close_settled
 returns-then-not-close_settled c =
-    let e = tried (goal.at.returns-then-not-close_settled c).After-path-2-1 in
+    let e = (goal.at.returns-then-not-close_settled c).After-close_settled in
     let s = start e in
     part_filled s.requires.0 c.close_by_rounds.new.table (c.close_by_rounds.ensures.table_len_unchanged ∙ e.close_settled.ensures.table_len_unchanged)
     (between_closure s.args.w (part s) e.close_settled.new.table c.close_by_rounds.new.table (rw (cut s) at e.close_settled.ensures.between) (rw (width e) at c.close_by_rounds.ensures.closure))
 
 pub returns-else-not-close_settled : goal.returns-else-not-close_settled
 returns-else-not-close_settled c =
-    let e = tried (goal.at.returns-else-not-close_settled c).After-path-2-1 in
+    let e = (goal.at.returns-else-not-close_settled c).After-close_settled in
     let s = start e in
     part_filled s.requires.0 e.close_settled.new.table e.close_settled.ensures.table_len_unchanged
-    (rw (cut s) at (e.close_settled.ensures.closure (not-false e.close_settled.result c.if-not-close_settled.false)))
+    (rw (cut s) at (e.close_settled.ensures.closure c.if-not-close_settled.false))

@@ -1,12 +1,11 @@
-use borrow.Author.Rules.{rules}
-use Prim.Native.Nat.{◌+◌, ◌-◌, ◌*◌, ◌≤◌}
+use Prim.Native.Nat.{◌+◌, ◌*◌, ◌≤◌}
 use mathlib.Core.Path.{◌≡◌, refl, ap, ◌∙◌}
 use native.Mathlib.Nat.{add-sub_cancel_left}
 use native.Mathlib.Omega.{arith}
 use lib.ListN.{length}
 use Rattle.rows.specs.Row.{row_at}
 use Rattle.rows.proofs.TableLaws.{row_room, row_copied, length-row}
-use Rattle.reach.proofs.ClosureLaws.{Rounds, rounds_none, rounds_more, rounds_all}
+use Rattle.reach.proofs.ClosureLaws.{rounds_none, rounds_more, rounds_all}
 use Rattle.reach.proofs.closure.close_by_rounds.Goals.{After-copy, In-loop-k}
 use Rattle.reach.proofs.closure.close_by_rounds.Goals as goal
 

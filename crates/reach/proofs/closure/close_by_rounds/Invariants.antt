@@ -1,13 +1,8 @@
 -- `reach::closure::close_by_rounds` meets its contract: after k rounds the table has the steps over events below k. Assumes nothing.
-use borrow.Author.Rules.{rules}
-use Prim.Native.Nat.{◌+◌, ◌-◌, ◌*◌, ◌≤◌}
-use mathlib.Core.Path.{◌≡◌, refl, ap, ◌∙◌}
-use native.Mathlib.Nat.{add-sub_cancel_left}
-use native.Mathlib.Omega.{arith}
+use Prim.Native.Nat.{◌-◌, ◌≤◌}
+use mathlib.Core.Path.{◌≡◌}
 use lib.ListN.{length}
-use Rattle.rows.specs.Row.{row_at}
-use Rattle.rows.proofs.TableLaws.{row_room, row_copied, length-row}
-use Rattle.reach.proofs.ClosureLaws.{Rounds, rounds_none, rounds_more, rounds_all}
+use Rattle.reach.proofs.ClosureLaws.{Rounds}
 use Rattle.reach.proofs.closure.close_by_rounds.Given as goal
 
 abbrev pub invariant-loop-k : goal.invariant-loop-k

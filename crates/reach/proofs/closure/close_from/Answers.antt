@@ -1,16 +1,15 @@
 use mathlib.Core.Path.{◌≡◌, sym, ap, ◌∙◌}
 use mathlib.Core.Bool.{true, false≢true}
-use mathlib.Core.Logic.{⊎_elim}
-use Prim.Native.Nat.{ℕ, ◌-◌, ◌≤◌}
+use Prim.Native.Nat.{ℕ, ◌-◌}
 use native.Mathlib.Omega.{arith}
 use borrow.Author.Rules.{rules}
 use lib.ListN.{length, length-set}
 use Rattle.rows.specs.Row.{has}
 use Rattle.reach.specs.Walks.{Closed}
 use Rattle.rows.proofs.ReachLaws.{room-kept}
-use Rattle.reach.proofs.WalkLaws.{Walk, walk_start, walk_on, walk_back}
+use Rattle.reach.proofs.WalkLaws.{walk_start, walk_on, walk_back}
 use Rattle.reach.proofs.ClosedLaws.{closed_again, closed-then}
-use Rattle.reach.proofs.closure.close_from.Goals.{After-settle_row-x, After-slice_known-in-loop-4-1, At-loop, Start, else-x-n, then-x-n}
+use Rattle.reach.proofs.closure.close_from.Goals.{After-settle_row-x, At-loop, Start, else-x-n+else-depth-eq0, then-x-n+else-depth-n}
 use Rattle.reach.proofs.closure.close_from.Goals as goal
 
 -- the places on the way, by name
@@ -19,9 +18,6 @@ start c = (goal.at.At-loop c).Start
 
 abbrev at-loop : After-settle_row-x → At-loop
 at-loop c = (goal.at.After-settle_row-x c).At-loop
-
-abbrev asked : After-slice_known-in-loop-4-1 → After-settle_row-x
-asked c = (goal.at.After-slice_known-in-loop-4-1 c).After-settle_row-x
 
 -- the rows of settled events are closed, and none that was settled is not any more
 closed : (c : After-settle_row-x) → let s = (start (at-loop c)).args in Closed s.n (length s.row.now) s.table.now c.settle_row-x.new.table c.settle_row-x.new.settled
@@ -40,11 +36,16 @@ pub settle_row-x-requires : goal.settle_row-x-requires
 settle_row-x-requires c =
     let s = start (goal.at.settle_row-x-requires c).At-loop in
     let i = c.loop.invariant in
-    rw i.4 (room-kept c.loop.table s.requires.rows i.1, ((i.2 ∙ s.requires.settled_len.0, i.3 ∙ s.requires.settled_len.1), (i.6.here, closed_again i.7)))
+    rw i.4 (record {
+      rows = room-kept c.loop.table s.requires.rows i.1;
+      settled_len = (i.2 ∙ s.requires.settled_len.0, i.3 ∙ s.requires.settled_len.1);
+      b_lt_n = i.6.here;
+      closed = closed_again i.7;
+    })
 
 pub returns-then-depth-n : goal.returns-then-depth-n
 returns-then-depth-n c =
-    let r = asked (goal.at.returns-then-depth-n c).After-slice_known-in-loop-4-1 in record {
+    let r = (goal.at.returns-then-depth-n c).After-settle_row-x in record {
       closed_2 = closed r;
       by_index = kept r;
       b_after = λ t. absurd (false≢true t);
@@ -52,22 +53,22 @@ returns-then-depth-n c =
 
 pub returns-then-depth-eq0 : goal.returns-then-depth-eq0
 returns-then-depth-eq0 c =
-    let r = asked (goal.at.returns-then-depth-eq0 c).After-slice_known-in-loop-4-1 in record {
+    let r = (goal.at.returns-then-depth-eq0 c).After-settle_row-x in record {
       closed_2 = closed r;
       by_index = kept r;
       b_after = λ t. sym c.test.ensures ∙ t;
     }
 
 pub overflow_cast-e : goal.overflow_cast-e
-overflow_cast-e c = omega (arith, c.type_inv.path ((at-loop (asked (goal.at.overflow_cast-e c).After-slice_known-in-loop-4-1)).loop.depth - 1))
+overflow_cast-e c = omega (arith, c.type_inv.path ((at-loop (goal.at.overflow_cast-e c).After-settle_row-x).loop.depth - 1))
 
 pub loop-preserved : goal.loop-preserved
 loop-preserved c =
-    let r = asked (goal.at.loop-preserved c).After-slice_known-in-loop-4-1 in
+    let r = (goal.at.loop-preserved c).After-settle_row-x in
     let l = (at-loop r).loop in
     let i = l.invariant in
     let long = (start (at-loop r)).requires.settled_len.2 in
-    elim c.if-x-n.branch [ then-x-n w ↦ (search rules, search rules, search rules, search rules, search rules, ap length w.2 ∙ length-set l.path l.depth l.e ∙ i.5, walk_on i.6 r.settle_row-x.result w.0.true w.1.false (omega (arith, i.5, long)) w.2 w.3 w.4, closed r, kept r) | else-x-n w ↦ (search rules, search rules, search rules, search rules, search rules, rw w.3 i.5, walk_back i.6 w.1.false w.3 w.4 w.5, closed r, kept r) ]
+    elim c.if-x-n.branch [ then-x-n+else-depth-n w ↦ (search rules, search rules, search rules, search rules, search rules, ap length w.path-is ∙ length-set l.path l.depth l.e ∙ i.5, walk_on i.6 r.settle_row-x.result w.if-x-n.true w.if-depth-n.false (omega (arith, i.5, long)) w.path-is w.e-is w.depth-is, closed r, kept r) | else-x-n+else-depth-eq0 w ↦ (search rules, search rules, search rules, search rules, search rules, rw w.path-is i.5, walk_back i.6 w.if-depth-eq0.false w.path-is w.e-is w.depth-is, closed r, kept r) ]
 
 pub returns : goal.returns
 returns c =

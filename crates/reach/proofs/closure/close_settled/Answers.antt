@@ -1,16 +1,14 @@
 use mathlib.Core.Path.{◌≡◌, refl, ap, ◌∙◌}
 use mathlib.Core.Bool.{true, false≢true}
-use Prim.Native.Nat.{ℕ, ◌-◌, ◌<◌, ◌≤◌}
 use native.Mathlib.Omega.{arith}
 use borrow.Author.Count.{below_more}
 use borrow.Author.Rules.{rules}
-use borrow.Author.Tests.{not-false}
 use lib.ListN.{length, length-replicate}
 use Rattle.rows.specs.Row.{has}
 use Rattle.reach.specs.Walks.{Closed}
 use Rattle.rows.proofs.ReachLaws.{room-kept}
 use Rattle.reach.proofs.ClosedLaws.{closed_none, closed_between, closed_again, closed-then, closed_all}
-use Rattle.reach.proofs.closure.close_settled.Goals.{After-clear, After-close_from, After-slice_known-in-loop-b-5-1, At-loop-b, Start}
+use Rattle.reach.proofs.closure.close_settled.Goals.{After-clear, After-close_from, At-loop-b, Start}
 use Rattle.reach.proofs.closure.close_settled.Goals as goal
 
 -- the places on the way, by name
@@ -22,9 +20,6 @@ cleared c = (goal.at.At-loop-b c).After-clear
 
 abbrev at-loop : After-close_from → At-loop-b
 at-loop c = (goal.at.After-close_from c).At-loop-b
-
-abbrev passed : After-slice_known-in-loop-b-5-1 → After-close_from
-passed c = (goal.at.After-slice_known-in-loop-b-5-1 c).After-close_from
 
 -- `settled` keeps its width
 width : (c : At-loop-b) → length c.loop-b.settled ≡ length (start (cleared c)).args.row.now
@@ -50,11 +45,16 @@ pub close_from-requires : goal.close_from-requires
 close_from-requires c =
     let s = start (cleared (goal.at.close_from-requires c).At-loop-b) in
     let i = c.loop-b.invariant in
-    rw i.4 (room-kept c.loop-b.table s.requires.rows i.1, ((width (goal.at.close_from-requires c).At-loop-b, i.3 ∙ s.requires.settled_len.1, omega (arith, i.5, s.requires.settled_len.2), s.requires.settled_len.3), (search rules, closed_again i.6)))
+    rw i.4 (record {
+      rows = room-kept c.loop-b.table s.requires.rows i.1;
+      settled_len = (width (goal.at.close_from-requires c).At-loop-b, i.3 ∙ s.requires.settled_len.1, omega (arith, i.5, s.requires.settled_len.2), s.requires.settled_len.3);
+      b_lt_n = search rules;
+      closed = closed_again i.6;
+    })
 
 pub returns-then-not-close_from : goal.returns-then-not-close_from
 returns-then-not-close_from c =
-    let e = passed (goal.at.returns-then-not-close_from c).After-slice_known-in-loop-b-5-1 in record {
+    let e = (goal.at.returns-then-not-close_from c).After-close_from in record {
       closure = λ q. absurd (false≢true q);
       between = closed_between (closed e);
       table_len_unchanged = search rules;
@@ -62,9 +62,9 @@ returns-then-not-close_from c =
 
 pub loop-b-preserved : goal.loop-b-preserved
 loop-b-preserved c =
-    let e = passed (goal.at.loop-b-preserved c).After-slice_known-in-loop-b-5-1 in
+    let e = (goal.at.loop-b-preserved c).After-close_from in
     let l = (at-loop e).loop-b in
-    let p = e.close_from.ensures.1 in (
+    let p = e.close_from.ensures in (
       search rules,
       search rules,
       kept e ∙ l.invariant.2,
@@ -72,7 +72,7 @@ loop-b-preserved c =
       search rules,
       search rules,
       closed e,
-      below_more (λ x. has e.close_from.new.settled x ≡ true) l.b (λ x h. p.0 x (l.invariant.7 x h)) (p.1 (not-false e.close_from.result c.if-not-close_from.false)),
+      below_more (λ x. has e.close_from.new.settled x ≡ true) l.b (λ x h. p.by_index x (l.invariant.7 x h)) (p.b_after c.if-not-close_from.false),
     )
 
 pub returns : goal.returns

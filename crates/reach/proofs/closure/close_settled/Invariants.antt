@@ -1,20 +1,14 @@
 -- `reach::closure::close_settled` meets its contract: the rows of settled events are closed, and all events passed are settled. Assumes nothing.
-use mathlib.Core.Path.{◌≡◌, refl, ap, ◌∙◌}
-use mathlib.Core.Bool.{true, false≢true}
+use mathlib.Core.Path.{◌≡◌}
+use mathlib.Core.Bool.{true}
 use Prim.Native.Nat.{ℕ, ◌-◌, ◌<◌, ◌≤◌}
-use native.Mathlib.Omega.{arith}
-use borrow.Author.Count.{below_more}
-use borrow.Author.Rules.{rules}
-use borrow.Author.Tests.{not-false}
-use lib.ListN.{length, length-replicate}
+use lib.ListN.{length}
 use Rattle.rows.specs.Row.{has}
 use Rattle.reach.specs.Walks.{Closed}
-use Rattle.rows.proofs.ReachLaws.{room-kept}
-use Rattle.reach.proofs.ClosedLaws.{closed_none, closed_between, closed_again, closed-then, closed_all}
 use Rattle.reach.proofs.closure.close_settled.Given as goal
 
 abbrev pub invariant-loop-b : goal.invariant-loop-b
-invariant-loop-b l =     (l.b ≤ l.n) × (length l.table ≡ length l.initial.table) × (length l.settled ≡ length l.initial.settled) × (length l.rest ≡ length l.initial.rest) × (length l.row ≡ length l.initial.row) × (length l.path ≡ length l.initial.path)
+invariant-loop-b l = (l.b ≤ l.n) × (length l.table ≡ length l.initial.table) × (length l.settled ≡ length l.initial.settled) × (length l.rest ≡ length l.initial.rest) × (length l.row ≡ length l.initial.row) × (length l.path ≡ length l.initial.path)
     × Closed l.n (length l.initial.row) l.initial.table l.table l.settled × ((x : ℕ) → x < l.b → has l.settled x ≡ true)
 
 abbrev pub decreases-loop-b : goal.decreases-loop-b

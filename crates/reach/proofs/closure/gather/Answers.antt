@@ -1,13 +1,12 @@
 use mathlib.Core.Path.{◌≡◌, refl, sym, ◌∙◌}
 use mathlib.Core.Bool.{true}
-use Prim.Native.Nat.{◌*◌, ◌<◌}
+use Prim.Native.Nat.{◌<◌}
 use native.Mathlib.Omega.{arith}
 use borrow.Author.Rules.{rules}
 use lib.ListN.{length}
 use Rattle.rows.specs.Row.{has}
-use Rattle.rows.specs.Count.{how_many}
 use Rattle.rows.proofs.ReachLaws.{room_row}
-use Rattle.reach.proofs.GatherLaws.{Gathering, gather_begin, gather_turn, gather_less, gather_end}
+use Rattle.reach.proofs.GatherLaws.{gather_begin, gather_turn, gather_less, gather_end}
 use Rattle.reach.proofs.closure.gather.Goals.{After-end_of-a, After-take_row, At-loop-n, Else-past-a, Start}
 use Rattle.reach.proofs.closure.gather.Goals as goal
 
@@ -62,7 +61,10 @@ take_row-requires c =
     let l = at-loop (goal.at.take_row-requires c).After-end_of-a in
     let s = start l in
     let k : c.end_of-a.result < s.args.n = s.requires.nested.below c.end_of-a.result (l.loop-n.invariant.inside c.end_of-a.result (member (goal.at.take_row-requires c).Else-past-a)) in
-    rw l.loop-n.invariant.wide (room_row c.end_of-a.result s.requires.rows k, (l.loop-n.invariant.deep, omega (arith, s.requires.rows.wide)))
+    rw l.loop-n.invariant.wide (record {
+      row_in_bounds = room_row c.end_of-a.result s.requires.rows k;
+      rest_len = (l.loop-n.invariant.deep, omega (arith, s.requires.rows.wide));
+    })
 
 pub loop-n-smaller : goal.loop-n-smaller
 loop-n-smaller c =

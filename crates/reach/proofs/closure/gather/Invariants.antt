@@ -1,14 +1,9 @@
 -- `reach::closure::gather` meets its contract: `row` has the rows of the members that are out of `rest`, which has fewer with each turn. Assumes nothing.
-use mathlib.Core.Path.{◌≡◌, refl, sym, ◌∙◌}
-use mathlib.Core.Bool.{true}
-use Prim.Native.Nat.{◌*◌, ◌<◌}
-use native.Mathlib.Omega.{arith}
-use borrow.Author.Rules.{rules}
+use Prim.Native.Nat.{◌*◌}
 use lib.ListN.{length}
 use Rattle.rows.specs.Row.{has}
 use Rattle.rows.specs.Count.{how_many}
-use Rattle.rows.proofs.ReachLaws.{room_row}
-use Rattle.reach.proofs.GatherLaws.{Gathering, gather_begin, gather_turn, gather_less, gather_end}
+use Rattle.reach.proofs.GatherLaws.{Gathering}
 use Rattle.reach.proofs.closure.gather.Given as goal
 
 abbrev pub invariant-loop-n : goal.invariant-loop-n

@@ -4,7 +4,6 @@ use mathlib.Core.Bool.{true}
 use Prim.Native.Nat.{ℕ, ◌+◌, ◌*◌, ◌≤◌, ◌<◌}
 use native.Mathlib.Nat.{add-sub_cancel_left}
 use native.Mathlib.Omega.{arith}
-use borrow.Author.Rules.{rules}
 use lib.Dec.{eqb}
 use lib.ListN.{length}
 use Rattle.rows.specs.Row.{has, row_at}
@@ -13,15 +12,15 @@ use Rattle.rows.proofs.RowLaws.{only_below, has-insert}
 use Rattle.rows.proofs.TableLaws.{row_within}
 use Rattle.rows.proofs.ReachLaws.{room_row}
 use Rattle.reach.proofs.ClosedLaws.{closed-nested, closed-more}
-use Rattle.reach.proofs.closure.settle_row.Goals.{After-if, After-lowest_difference-x, After-test, Else-x-past, Start}
+use Rattle.reach.proofs.closure.settle_row.Goals.{After-if, After-test, Else-x-past, Start}
 use Rattle.reach.proofs.closure.settle_row.Goals as goal
 
 -- the places on the way, by name
 abbrev start : After-test → Start
 start c = (goal.at.After-test c).Start
 
-abbrev asked : After-lowest_difference-x → After-if
-asked c = (goal.at.After-lowest_difference-x c).After-if
+abbrev entry : Else-x-past → Start
+entry c = (goal.at.Else-x-past c).Start
 
 -- row b lies within the table
 room : (c : After-if) → (start (goal.at.After-if c).After-test).args.b * length (start (goal.at.After-if c).After-test).args.row.now + length (start (goal.at.After-if c).After-test).args.row.now ≤ length (start (goal.at.After-if c).After-test).args.table.now
@@ -30,9 +29,9 @@ room c =
     room_row s.args.b s.requires.rows s.requires.b_lt_n
 
 -- and has settled events only
-inside : (c : Else-x-past) → let s = (start (asked (goal.at.Else-x-past c).After-lowest_difference-x).before).args in (x : ℕ) → has (row_at s.table.now (length s.row.now) s.b) x ≡ true → has s.settled.now x ≡ true
+inside : (c : Else-x-past) → let s = (entry c).args in (x : ℕ) → has (row_at s.table.now (length s.row.now) s.b) x ≡ true → has s.settled.now x ≡ true
 inside c x t =
-    let s = (start (asked (goal.at.Else-x-past c).After-lowest_difference-x).before).args in
+    let s = (entry c).args in
     let row = row_at s.table.now (length s.row.now) s.b in
     only_below row s.settled.now (64 * length row) c.lowest_difference-x.result (rw add-sub_cancel_left at c.lowest_difference-x.ensures) x
     (omega (arith, c.if-x-past.false, row_within s.table.now (length s.row.now) s.b x t)) t
@@ -42,7 +41,7 @@ overflow_mul-past c = omega (arith, c.requires.rows.fits)
 
 pub returns-then-test : goal.returns-then-test
 returns-then-test c = record {
-      closed_2 = (start (goal.at.returns-then-test c).After-test).requires.1.1.1;
+      closed_2 = c.requires.closed;
       by_index = λ x e. e;
     }
 
@@ -60,26 +59,24 @@ slice_bounds-lowest_difference-end c = omega (arith, room c, (start (goal.at.sli
 
 pub returns-then-x-past : goal.returns-then-x-past
 returns-then-x-past c = record {
-      closed_2 = (start (asked (goal.at.returns-then-x-past c).After-lowest_difference-x).before).requires.1.1.1;
+      closed_2 = c.requires.closed;
       by_index = λ x e. e;
     }
 
 pub close_row-requires : goal.close_row-requires
 close_row-requires c =
-    let s = start (asked (goal.at.close_row-requires c).After-lowest_difference-x).before in record {
-      rows = s.requires.rows;
-      rest_len = s.requires.settled_len.1;
-      b_lt_n = s.requires.b_lt_n;
-      nested = closed-nested s.requires.closed s.args.b (inside (goal.at.close_row-requires c).Else-x-past);
+    record {
+      rows = c.requires.rows;
+      rest_len = c.requires.settled_len.1;
+      b_lt_n = c.requires.b_lt_n;
+      nested = closed-nested c.requires.closed c.args.b (inside (goal.at.close_row-requires c).Else-x-past);
     }
 
 pub returns : goal.returns
 returns c =
-    let e = asked (goal.at.returns c).After-lowest_difference-x in
-    let s = start (goal.at.After-if e).After-test in
-    let l = s.args.settled.now in
-    let b = s.args.b in
-    let k : b < 64 * length l = omega (arith, s.requires.rows.wide, s.requires.settled_len.0, s.requires.b_lt_n) in record {
-      closed_2 = closed-more s.requires.closed b (inside (goal.at.returns c).Else-x-past) c.close_row.new.table c.close_row.ensures (sym e.test.ensures ∙ e.if-test.false) c.set.ensures s.requires.b_lt_n (omega arith);
+    let l = c.args.settled.now in
+    let b = c.args.b in
+    let k : b < 64 * length l = omega (arith, c.requires.rows.wide, c.requires.settled_len.0, c.requires.b_lt_n) in record {
+      closed_2 = closed-more c.requires.closed b (inside (goal.at.returns c).Else-x-past) c.close_row.new.table c.close_row.ensures (sym c.test.ensures ∙ c.if-test.false) c.set.ensures c.requires.b_lt_n (omega arith);
       by_index = λ x m. rw c.set.ensures (has-insert l b x (omega arith) ∙ or_right (eqb b x) (has l x) m);
     }

@@ -1,12 +1,10 @@
 use Rattle.rows.proofs.TableLaws.{row_room, length-row}
-use borrow.Author.Rules.{rules}
-use Prim.Native.Nat.{◌+◌, ◌-◌, ◌*◌, ◌≤◌}
+use Prim.Native.Nat.{◌+◌, ◌*◌, ◌≤◌}
 use mathlib.Core.Path.{sym, ◌∙◌}
-use mathlib.Core.Logic.{⊎_elim}
 use native.Mathlib.Nat.{add-sub_cancel_left}
 use native.Mathlib.Omega.{arith}
 use lib.ListN.{length}
-use Rattle.reach.proofs.ClosureLaws.{Taken, taken_none, taken_in, taken_skip}
+use Rattle.reach.proofs.ClosureLaws.{taken_none, taken_in, taken_skip}
 use Rattle.reach.proofs.closure.take_in.Goals.{In-loop-b, else-test, then-test}
 use Rattle.reach.proofs.closure.take_in.Goals as goal
 

@@ -1,7 +1,6 @@
 -- `reach::closure::take_row` meets its contract. Assumes nothing.
 use mathlib.Core.Path.{refl}
 use native.Mathlib.Omega.{arith}
-use borrow.Author.Rules.{rules}
 use lib.ListN.{length}
 use Rattle.rows.proofs.TableLaws.{length-row}
 use Rattle.reach.proofs.GatherLaws.{row-taken, rest-taken}

@@ -1,19 +1,16 @@
 use mathlib.Core.Path.{◌≡◌, refl, sym, ap, ◌∙◌}
 use mathlib.Core.Bool.{true, false≢true}
-use mathlib.Core.Logic.{⊎_elim}
-use Prim.Native.Nat.{ℕ, ◌+◌, ◌*◌, ◌-◌, ◌<◌, ◌≤◌}
+use Prim.Native.Nat.{ℕ, ◌+◌, ◌*◌, ◌<◌, ◌≤◌}
 use native.Mathlib.Nat.{add-sub_cancel_left}
 use native.Mathlib.Omega.{arith}
 use borrow.Author.Count.{below_more}
 use borrow.Author.Rules.{rules}
-use borrow.Author.Tests.{not-false}
 use lib.ListN.{length, length-replicate}
 use Rattle.rows.specs.Row.{has, row_at}
-use Rattle.reach.specs.Walks.{Settled}
 use Rattle.rows.proofs.RowLaws.{subset_has, length-insert}
 use Rattle.rows.proofs.ReachLaws.{graph_room}
 use Rattle.reach.proofs.SettledLaws.{settled_none, settled_more, all_more}
-use Rattle.reach.proofs.rings.is_plainly_ringless.Goals.{After-is_subset, After-settle_from, At-loop-b, In-loop-b, Start, else-is_subset, then-is_subset}
+use Rattle.reach.proofs.rings.is_plainly_ringless.Goals.{After-is_subset, At-loop-b, In-loop-b, Start, else-is_subset+else-not-settle_from, then-is_subset}
 use Rattle.reach.proofs.rings.is_plainly_ringless.Goals as goal
 
 -- the places on the way, by name
@@ -23,18 +20,9 @@ start c = (goal.at.At-loop-b c).Start
 abbrev at-loop : After-is_subset → At-loop-b
 at-loop c = (goal.at.After-is_subset c).At-loop-b
 
-abbrev walked : After-settle_from → At-loop-b
-walked c = (goal.at.After-settle_from c).At-loop-b
-
 -- the row keeps its width
 width : (c : At-loop-b) → length c.loop-b.settled ≡ length (start c).args.settled.now
 width c = c.loop-b.invariant.1 ∙ ap length c.clear.ensures ∙ length-replicate (length (start c).args.settled.now) 0
-
-kept-settled : (c : After-settle_from) → length c.settle_from.new.settled ≡ length (walked c).clear.new.row
-kept-settled c = search rules
-
-kept-path : (c : After-settle_from) → length c.settle_from.new.path ≡ length (start (walked c)).args.path.now
-kept-path c = search rules
 
 -- row b lies within the table
 room : (c : In-loop-b) → c.loop-b.b * length (start (goal.at.In-loop-b c).At-loop-b).args.settled.now + length (start (goal.at.In-loop-b c).At-loop-b).args.settled.now ≤ length (start (goal.at.In-loop-b c).At-loop-b).args.table.now
@@ -54,16 +42,16 @@ loop-b-init c =
     (search rules, refl, search rules, rw c.clear.ensures (settled_none a.table.now a.n (length a.settled.now)), λ x h. absurd (omega arith))
 
 pub overflow_mul-at : goal.overflow_mul-at
-overflow_mul-at c = omega (arith, room c, (start (goal.at.overflow_mul-at c).At-loop-b).good)
+overflow_mul-at c = omega (arith, room c, (start (goal.at.overflow_mul-at c).At-loop-b).well_formed)
 
 pub overflow_add-end : goal.overflow_add-end
-overflow_add-end c = omega (arith, room c, (start (goal.at.overflow_add-end c).At-loop-b).good)
+overflow_add-end c = omega (arith, room c, (start (goal.at.overflow_add-end c).At-loop-b).well_formed)
 
 pub offset_bounds-table-at : goal.offset_bounds-table-at
-offset_bounds-table-at c = omega (arith, room c, (start (goal.at.offset_bounds-table-at c).At-loop-b).good)
+offset_bounds-table-at c = omega (arith, room c, (start (goal.at.offset_bounds-table-at c).At-loop-b).well_formed)
 
 pub slice_bounds-is_subset-end : goal.slice_bounds-is_subset-end
-slice_bounds-is_subset-end c = omega (arith, room c, (start (goal.at.slice_bounds-is_subset-end c).At-loop-b).good)
+slice_bounds-is_subset-end c = omega (arith, room c, (start (goal.at.slice_bounds-is_subset-end c).At-loop-b).well_formed)
 
 pub settle_from-requires : goal.settle_from-requires
 settle_from-requires c =
@@ -84,21 +72,20 @@ loop-b-preserved c =
     let l = at-loop (goal.at.loop-b-preserved c).After-is_subset in
     let i = l.loop-b.invariant in
     let k : l.loop-b.b < 64 * length l.loop-b.settled = omega (arith, width l, (start l).requires.graph.wide) in
-    elim c.if-is_subset.branch [ then-is_subset w ↦ 
-    let e = w.5 ∙ w.2.ensures in (
+    elim c.if-is_subset.branch [ then-is_subset w ↦
+    let e = w.settled-is ∙ w.set.ensures in (
       search rules,
       ap length e ∙ length-insert l.loop-b.settled l.loop-b.b ∙ i.1,
-      rw w.6 i.2,
-      settled_more i.3 l.loop-b.b (row_inside (goal.at.loop-b-preserved c).After-is_subset w.0.true) e c.loop-b-test.true (omega arith),
+      rw w.path-is i.2,
+      settled_more i.3 l.loop-b.b (row_inside (goal.at.loop-b-preserved c).After-is_subset w.if-is_subset.true) e c.loop-b-test.true (omega arith),
       all_more l.loop-b.settled l.loop-b.b e (omega arith) i.4,
-    ) | else-is_subset w ↦ 
-    let f : After-settle_from = record { before = record { before = record { before = record { before = c.before; if1 = w.0 }; settle-from-arg = w.1 }; settle-from-arg2 = w.2 }; settle-from = w.3 } in
-    let p = f.settle-from.ensures.1 in (
+    ) | else-is_subset+else-not-settle_from w ↦
+    let p = w.settle_from.ensures in (
       search rules,
-      rw w.9 (kept-settled f),
-      rw w.10 (kept-path f),
-      rw w.9 f.settle-from.ensures.0,
-      rw w.9 (below_more (λ x. has f.settle-from.last.1.1.1.0 x ≡ true) l.loop-b.b (λ x h. p.0 x (i.4 x h)) (p.1 (not-false f.settle-from.result w.8.false))),
+      search rules,
+      search rules,
+      rw w.settled-is p.settled_2,
+      rw w.settled-is (below_more (λ x. has w.settle_from.new.settled x ≡ true) l.loop-b.b (λ x h. p.by_index x (i.4 x h)) (p.b_after w.if-not-settle_from.false)),
     ) ]
 
 pub returns : goal.returns

@@ -7,15 +7,12 @@ use lib.ListN.{length, take, replicate}
 use Rattle.rows.specs.Relation.{reaches, related}
 use Rattle.rows.proofs.LowestLaws.{lowest-none}
 use Rattle.rows.proofs.TableLaws.{length_cut}
-use Rattle.reach.proofs.rings.lowest_on_ring.Goals.{After-is_plainly_ringless, After-path-2-1, Start}
+use Rattle.reach.proofs.rings.lowest_on_ring.Goals.{After-is_plainly_ringless, Start}
 use Rattle.reach.proofs.rings.lowest_on_ring.Goals as goal
 
 -- the places on the way, by name
 abbrev start : After-is_plainly_ringless → Start
 start c = (goal.at.After-is_plainly_ringless c).Start
-
-abbrev asked : After-path-2-1 → After-is_plainly_ringless
-asked c = (goal.at.After-path-2-1 c).After-is_plainly_ringless
 
 -- scratch rows are cut to the width
 cut : (s : Start) → length (take {A = ℕ} s.args.w (replicate 8 0)) ≡ s.args.w
@@ -38,20 +35,20 @@ is_plainly_ringless-requires c = record {
 
 pub returns-then-is_plainly_ringless : goal.returns-then-is_plainly_ringless
 returns-then-is_plainly_ringless c =
-    let e = asked (goal.at.returns-then-is_plainly_ringless c).After-path-2-1 in
+    let e = (goal.at.returns-then-is_plainly_ringless c).After-is_plainly_ringless in
     let s = (start e).args in
     let p = e.is_plainly_ringless.ensures in
-    sym (lowest-none s.n (λ a. reaches s.n (related s.table.now s.w) a a) (λ a h. rw (width e) at (p.0.ringless a (p.1 c.if-is_plainly_ringless.true a h))))
+    sym (lowest-none s.n (λ a. reaches s.n (related s.table.now s.w) a a) (λ a h. rw (width e) at (p.settled.ringless a (p.a_after c.if-is_plainly_ringless.true a h))))
 
 pub slice_bounds-lowest_unsettled-end : goal.slice_bounds-lowest_unsettled-end
-slice_bounds-lowest_unsettled-end c = sym (cut (start (asked (goal.at.slice_bounds-lowest_unsettled-end c).After-path-2-1)))
+slice_bounds-lowest_unsettled-end c = sym (cut (start (goal.at.slice_bounds-lowest_unsettled-end c).After-is_plainly_ringless))
 
 pub slice_bounds-lowest_unsettled-end-2 : goal.slice_bounds-lowest_unsettled-end-2
-slice_bounds-lowest_unsettled-end-2 c = sym (cut (start (asked (goal.at.slice_bounds-lowest_unsettled-end-2 c).After-path-2-1)))
+slice_bounds-lowest_unsettled-end-2 c = sym (cut (start (goal.at.slice_bounds-lowest_unsettled-end-2 c).After-is_plainly_ringless))
 
 pub lowest_unsettled-requires : goal.lowest_unsettled-requires
 lowest_unsettled-requires c =
-    let e = asked (goal.at.lowest_unsettled-requires c).After-path-2-1 in
+    let e = (goal.at.lowest_unsettled-requires c).After-is_plainly_ringless in
     let s = start e in record {
       graph = rw (width e) s.requires.0;
       settled = e.is_plainly_ringless.ensures.settled;
@@ -60,5 +57,5 @@ lowest_unsettled-requires c =
 
 pub returns : goal.returns
 returns c =
-    let e = asked (goal.at.returns c).After-path-2-1 in
+    let e = (goal.at.returns c).After-is_plainly_ringless in
     rw (width e) at c.lowest_unsettled.ensures

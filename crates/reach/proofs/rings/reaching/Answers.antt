@@ -1,31 +1,23 @@
 use mathlib.Core.Path.{◌≡◌, sym, ap, ◌∙◌, subst}
-use Prim.Native.Nat.{◌*◌, ◌-◌}
 use native.Mathlib.Omega.{arith}
-use borrow.Author.Rules.{rules}
 use lib.ListN.{length, replicate, length-replicate}
-use Rattle.rows.specs.Row.{count_row, Row}
+use Rattle.rows.specs.Row.{Row}
 use Rattle.rows.specs.Relation.{reaches, related, Graph}
 use Rattle.rows.proofs.ReachLaws.{graph_room}
 use Rattle.rows.proofs.FreshLaws.{Fresh}
-use Rattle.reach.proofs.ClosingLaws.{Closing, closing_begin, closing-next, closing_turn, closing_end, closing_falls}
-use Rattle.reach.proofs.rings.reaching.Goals.{After-clear, After-lowest_difference-a, After-set, After-slice_known-4-1, After-slice_known-in-loop-n-2-1, At-loop-n, Else-top-a, Start}
+use Rattle.reach.proofs.ClosingLaws.{closing_begin, closing-next, closing_turn, closing_end, closing_falls}
+use Rattle.reach.proofs.rings.reaching.Goals.{After-clear, After-lowest_difference-a, At-loop-n, Else-top-a, Start}
 use Rattle.reach.proofs.rings.reaching.Goals as goal
 
 -- the places on the way, by name
 abbrev start : After-clear → Start
 start c = (goal.at.After-clear c).Start
 
-abbrev cleared : After-slice_known-4-1 → After-clear
-cleared c = (goal.at.After-slice_known-4-1 c).After-clear
-
 abbrev entered : At-loop-n → After-clear
 entered c = (goal.at.At-loop-n c).After-clear
 
 abbrev at-loop : After-lowest_difference-a → At-loop-n
 at-loop c = (goal.at.After-lowest_difference-a c).At-loop-n
-
-abbrev after-set : After-slice_known-in-loop-n-2-1 → After-set
-after-set c = (goal.at.After-slice_known-in-loop-n-2-1 c).After-set
 
 -- a cleared row is as wide as it was
 width : (c : After-clear) → length c.clear.new.row ≡ length (start c).args.found.now
@@ -39,21 +31,21 @@ next : (c : Else-top-a) → Fresh (start (entered (at-loop (goal.at.Else-top-a c
 next c = closing-next (at-loop (goal.at.Else-top-a c).After-lowest_difference-a).loop-n.invariant c.lowest_difference-a.ensures (omega arith)
 
 pub overflow_mul-top : goal.overflow_mul-top
-overflow_mul-top c = omega (arith, (graph (cleared c)).fits)
+overflow_mul-top c = omega (arith, (graph (goal.at.overflow_mul-top c).After-clear).fits)
 
 pub overflow_mul-b : goal.overflow_mul-b
 overflow_mul-b c =
-    let z = cleared (goal.at.overflow_mul-b c).After-slice_known-4-1 in
+    let z = (goal.at.overflow_mul-b c).After-clear in
     omega (arith, graph_room (start z).args.b (graph z) (start z).requires.b_lt_n, (start z).well_formed)
 
 pub union_at-requires : goal.union_at-requires
 union_at-requires c =
-    let z = cleared (goal.at.union_at-requires c).After-slice_known-4-1 in
+    let z = (goal.at.union_at-requires c).After-clear in
     graph_room (start z).args.b (graph z) (start z).requires.b_lt_n
 
 pub loop-n-init : goal.loop-n-init
 loop-n-init c =
-    let z = cleared (goal.at.loop-n-init c).After-slice_known-4-1 in
+    let z = (goal.at.loop-n-init c).After-clear in
     let s = start z in
     closing_begin (graph z) s.requires.b_lt_n (z.clear.ensures ∙ ap (λ k. replicate k 0) (sym (width z))) c.union_at.ensures
     (c.clear-2.ensures ∙ ap (λ k. replicate k 0) (s.requires.done_len ∙ sym (width z)))
@@ -94,11 +86,8 @@ union_at-requires-in-loop-n c =
 
 pub loop-n-smaller : goal.loop-n-smaller
 loop-n-smaller c =
-    let e = (after-set c).before.before in
-    closing_falls (at-loop e.before).loop-n.invariant (next e) (λ k. (c.type_inv.done k).fits) (after-set c).set.ensures
+    closing_falls c.loop-n.invariant (next (goal.at.loop-n-smaller c).Else-top-a) (λ k. (c.type_inv.done k).fits) c.set.ensures
 
 pub loop-n-preserved : goal.loop-n-preserved
 loop-n-preserved c =
-    let e = (after-set c).before.before in
-    let l = at-loop e.before in
-    closing_turn l.loop-n.invariant (graph (entered l)) (next e) c.union_at-in-loop-n.ensures (after-set c).set.ensures
+    closing_turn c.loop-n.invariant (graph (goal.at.loop-n-preserved c).After-clear) (next (goal.at.loop-n-preserved c).Else-top-a) c.union_at-in-loop-n.ensures c.set.ensures
