@@ -6,7 +6,6 @@ use Rattle.calls.specs.Lent.{Lent, lent}
 use Rattle.rehearsal.specs.Runs.{Fresh, Ran}
 use Rattle.rehearsal.proofs.RunLaws.{fresh_slices, opened-fresh}
 use Rattle.rehearsal.proofs.RehearsalLaws.{Accepted, accepted, ran_recordable, accepted_rehearses}
-use borrow.Author.Rules.{rules}
 use Rattle.rehearsal.proofs.accepted.Goals.{After-open_cells, After-run, Start}
 use Rattle.rehearsal.proofs.accepted.Goals as goal
 
@@ -20,7 +19,7 @@ begun c = opened-fresh (terms_of c.args.openings.now) c.open_cells.new.cells c.o
 
 -- the slices after the script
 abbrev slices : After-run → Lent
-slices c = let l = c.run.new.1.1.1 in lent l.0 l.1.0 l.1.1.0 l.1.1.1.0 l.1.1.1.1.0
+slices c = let l = c.run.new in lent l.known l.sees l.cells l.events l.counts
 
 ran : (c : After-run) → let g = c.args in Ran g.sites (terms_of g.openings.now) g.script.now g.answers.now c.run.new.out (slices c)
 ran c = c.run.ensures (terms_of c.args.openings.now) (begun (goal.at.After-run c).After-open_cells)

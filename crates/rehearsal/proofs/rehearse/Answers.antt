@@ -1,6 +1,5 @@
 -- `rehearsal::rehearse` meets its contract: the questions refuse it, and then nothing has changed, or it is accepted. Assumes nothing.
 use mathlib.Core.Path.{◌≡◌, refl, sym, ◌∙◌}
-use borrow.Author.Rules.{rules}
 use native.Mathlib.Nat.{le_refl}
 use Rattle.record.specs.Layout.{work_words}
 use Rattle.store.specs.Rehearsal.{rehearsal_refusal, record_of}

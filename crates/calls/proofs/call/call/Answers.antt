@@ -8,7 +8,6 @@ use Rattle.calls.specs.Lent.{Lent, lent, store_in}
 use Rattle.calls.proofs.RefuseLaws.{some-kind}
 use Rattle.calls.proofs.FitLaws.{stands_fit, few}
 use Rattle.calls.proofs.CalledLaws.{called_refused, put_makable, get_makable, delivery_copyable, called_put, called_get, called_came, called_closes}
-use borrow.Author.Rules.{rules}
 use Rattle.calls.proofs.call.call.Goals.{After-refused-number, Else-c-eq3, Start}
 use Rattle.calls.proofs.call.call.Goals as goal
 

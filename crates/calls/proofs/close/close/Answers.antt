@@ -1,19 +1,16 @@
-use mathlib.Core.Logic.{inl, inr}
 use mathlib.Core.Path.{◌≡◌, sym, ◌∙◌}
 use mathlib.Core.Bool.{true, false}
-use Prim.Native.Nat.{◌-◌, ◌≤◌, ◌<◌}
+use Prim.Native.Nat.{◌<◌}
 use native.Mathlib.Omega.{arith}
-use borrow.Author.Tests.{not-true, not-false}
-use Rattle.rows.specs.Lowest.{lowest}
 use Rattle.rows.specs.Row.{has, row_at}
-use Rattle.record.specs.Layout.{most_events, row_words}
+use Rattle.record.specs.Layout.{row_words}
 use Rattle.record.specs.Terms.{Terms}
-use Rattle.calls.specs.Lent.{Lent, lent, store_in, lacked_by_some}
+use Rattle.calls.specs.Lent.{Lent, lent, store_in}
 use Rattle.calls.specs.Done.{Copyable}
 use Rattle.calls.proofs.KeptLaws.{known-row}
 use Rattle.calls.proofs.FitLaws.{Fit, stands_fit}
-use Rattle.calls.proofs.CloseTurn.{ClosingIn, ClosingFrom, Copying, CopyingFrom, with_sites, closing-start, closing-most, closing-closes, copying_start, copying_pass, copying_copyable, copying_copy, copying_carried, copied_higher, copied_join, lacked_put}
-use Rattle.calls.proofs.close.close.Goals.{After-loop-lacked, After-test, At-loop-t, In-loop-lacked, In-loop-t, Start}
+use Rattle.calls.proofs.CloseTurn.{ClosingIn, Copying, with_sites, closing-start, closing-most, closing-closes, copying_start, copying_pass, copying_copyable, copying_copy, copying_carried, copied_higher, copied_join, lacked_put}
+use Rattle.calls.proofs.close.close.Goals.{After-loop-lacked, After-test, At-loop-t, In-loop-lacked, In-loop-t, Start, then-not-test, else-not-test}
 use Rattle.calls.proofs.close.close.Goals as goal
 
 -- a turn of the outer loop, and one of the inner
@@ -42,8 +39,8 @@ is_put c t h = lacked_put (entry c).args.n (entry c).requires.n_bound t (part c)
 site : (c : In-loop-t) → c.loop-t.t < 8
 site c = omega (arith, c.loop-t-test.true, (entry (up c)).requires.n_bound)
 
-copying : (c : At-loop-t) → let l = c.loop-t in let g = c.loop-lacked in Copying (entry (goal.at.At-loop-t c).In-loop-lacked).args.n (entry (goal.at.At-loop-t c).In-loop-lacked).requires.1.terms (part (goal.at.At-loop-t c).In-loop-lacked) g.lacked g.copies l.known l.cells l.counts l.copies l.t
-copying c = c.loop-t.invariant.1 (entry (goal.at.At-loop-t c).In-loop-lacked).requires.1.terms (here (goal.at.At-loop-t c).In-loop-lacked)
+copying : (c : At-loop-t) → let l = c.loop-t in let g = c.loop-lacked in Copying (entry (goal.at.At-loop-t c).In-loop-lacked).args.n (entry (goal.at.At-loop-t c).In-loop-lacked).requires.stand.terms (part (goal.at.At-loop-t c).In-loop-lacked) g.lacked g.copies l.known l.cells l.counts l.copies l.t
+copying c = c.loop-t.invariant.1 (entry (goal.at.At-loop-t c).In-loop-lacked).requires.stand.terms (here (goal.at.At-loop-t c).In-loop-lacked)
 
 copy : (c : In-loop-t) → let l = c.loop-t in has (row_at l.known row_words l.t) (up c).loop-lacked.lacked ≡ false → Copyable (with_sites (part (up c)) l.known l.cells l.counts) l.t (up c).loop-lacked.lacked
 copy c lacked =
@@ -54,8 +51,8 @@ copy c lacked =
     copying_copyable o.args.n o.requires.n_bound o.requires.stand.terms (part i) (here i) l.known l.cells l.counts l.copies g.lacked g.copies i.loop-lacked-test.true (is_put i o.requires.stand.terms (here i)) l.t (copying (goal.at.In-loop-t c).At-loop-t) c.loop-t-test.true lacked
 
 -- whether the site knows it
-told : (c : After-test) → c.test.result ≡ has (row_at c.loop-t.known row_words c.loop-t.t) (up (goal.at.After-test c).In-loop-t).before.loop.lacked
-told c = c.test.ensures ∙ known-row c.loop-t.known c.loop-t.t (up (goal.at.After-test c).In-loop-t).before.loop.lacked (up (goal.at.After-test c).In-loop-t).loop-test.true
+told : (c : After-test) → c.test.result ≡ has (row_at c.loop-t.known row_words c.loop-t.t) (up (goal.at.After-test c).In-loop-t).loop-lacked.lacked
+told c = c.test.ensures ∙ known-row c.loop-t.known c.loop-t.t (up (goal.at.After-test c).In-loop-t).loop-lacked.lacked (up (goal.at.After-test c).In-loop-t).loop-lacked-test.true
 
 -- all copies so far
 joined : (c : At-loop-t) → (t : Terms) → Fit (entry (goal.at.At-loop-t c).In-loop-lacked).args.n t (from (entry (goal.at.At-loop-t c).In-loop-lacked)) → ClosingIn (entry (goal.at.At-loop-t c).In-loop-lacked).args.n t (from (entry (goal.at.At-loop-t c).In-loop-lacked)) c.loop-t.known c.loop-t.cells c.loop-t.counts c.loop-t.copies
@@ -92,7 +89,7 @@ pub test-requires : goal.test-requires
 test-requires c = omega (arith, site c, (up c).loop-lacked-test.true, (copying (goal.at.test-requires c).At-loop-t).here.fit.sized.known)
 
 pub deliver-requires : goal.deliver-requires
-deliver-requires c = copy (goal.at.deliver-requires c).In-loop-t (sym (told (goal.at.deliver-requires c).After-test) ∙ not-true _ c.if-not-test.true)
+deliver-requires c = copy (goal.at.deliver-requires c).In-loop-t (sym (told (goal.at.deliver-requires c).After-test) ∙ c.if-not-test.true)
 
 pub overflow_add-copies : goal.overflow_add-copies
 overflow_add-copies c =
@@ -110,16 +107,16 @@ pub loop-t-preserved : goal.loop-t-preserved
 loop-t-preserved c =
     let o = entry (up (goal.at.loop-t-preserved c).In-loop-t) in
     let l = c.loop-t in
-    let g = (up (goal.at.loop-t-preserved c).In-loop-t).before.loop in (
+    let g = (up (goal.at.loop-t-preserved c).In-loop-t).loop-lacked in (
       omega (arith, c.loop-t-test.true),
       λ t h.
           elim c.if-not-test.branch [
-            | inl w ↦
-                copying_carried w.11 w.12 w.13 w.14
-                (copying_copy o.args.n o.requires.n_bound t (part (up (goal.at.loop-t-preserved c).In-loop-t)) h l.known l.cells l.counts l.copies g.lacked g.copies (up (goal.at.loop-t-preserved c).In-loop-t).loop-test.true (is_put (up (goal.at.loop-t-preserved c).In-loop-t) t h) l.t (l.invariant.1 t h) c.loop-t-test.true (sym (told (goal.at.loop-t-preserved c).After-test) ∙ not-true _ w.0.true) _ _ _ w.4.ensures)
-            | inr w ↦
-                copying_carried w.1 w.2 w.3 w.4
-                (copying_pass o.args.n o.requires.n_bound t (part (up (goal.at.loop-t-preserved c).In-loop-t)) h l.known l.cells l.counts l.copies g.lacked g.copies (up (goal.at.loop-t-preserved c).In-loop-t).loop-test.true (is_put (up (goal.at.loop-t-preserved c).In-loop-t) t h) l.t (l.invariant.1 t h) c.loop-t-test.true (sym (told (goal.at.loop-t-preserved c).After-test) ∙ not-false _ w.0.false))
+            | then-not-test w ↦
+                copying_carried w.known-is w.cells-is w.counts-is w.copies-is
+                (copying_copy o.args.n o.requires.n_bound t (part (up (goal.at.loop-t-preserved c).In-loop-t)) h l.known l.cells l.counts l.copies g.lacked g.copies (up (goal.at.loop-t-preserved c).In-loop-t).loop-lacked-test.true (is_put (up (goal.at.loop-t-preserved c).In-loop-t) t h) l.t (l.invariant.1 t h) c.loop-t-test.true (sym (told (goal.at.loop-t-preserved c).After-test) ∙ w.if-not-test.true) _ _ _ w.deliver.ensures)
+            | else-not-test w ↦
+                copying_carried w.known-is w.cells-is w.counts-is w.copies-is
+                (copying_pass o.args.n o.requires.n_bound t (part (up (goal.at.loop-t-preserved c).In-loop-t)) h l.known l.cells l.counts l.copies g.lacked g.copies (up (goal.at.loop-t-preserved c).In-loop-t).loop-lacked-test.true (is_put (up (goal.at.loop-t-preserved c).In-loop-t) t h) l.t (l.invariant.1 t h) c.loop-t-test.true (sym (told (goal.at.loop-t-preserved c).After-test) ∙ w.if-not-test.false))
           ],
     )
 

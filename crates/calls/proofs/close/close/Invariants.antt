@@ -1,19 +1,10 @@
 -- `calls::close::close` meets its contract: the loops deliver the lowest put that some site lacks to all that lack it. Assumes nothing.
-use mathlib.Core.Logic.{inl, inr}
-use mathlib.Core.Path.{◌≡◌, sym, ◌∙◌}
-use mathlib.Core.Bool.{true, false}
-use Prim.Native.Nat.{◌-◌, ◌≤◌, ◌<◌}
-use native.Mathlib.Omega.{arith}
-use borrow.Author.Tests.{not-true, not-false}
+use mathlib.Core.Path.{◌≡◌}
+use Prim.Native.Nat.{◌-◌, ◌≤◌}
 use Rattle.rows.specs.Lowest.{lowest}
-use Rattle.rows.specs.Row.{has, row_at}
-use Rattle.record.specs.Layout.{most_events, row_words}
-use Rattle.record.specs.Terms.{Terms}
-use Rattle.calls.specs.Lent.{Lent, lent, store_in, lacked_by_some}
-use Rattle.calls.specs.Done.{Copyable}
-use Rattle.calls.proofs.KeptLaws.{known-row}
-use Rattle.calls.proofs.FitLaws.{Fit, stands_fit}
-use Rattle.calls.proofs.CloseTurn.{ClosingIn, ClosingFrom, Copying, CopyingFrom, with_sites, closing-start, closing-most, closing-closes, copying_start, copying_pass, copying_copyable, copying_copy, copying_carried, copied_higher, copied_join, lacked_put}
+use Rattle.record.specs.Layout.{most_events}
+use Rattle.calls.specs.Lent.{lent, lacked_by_some}
+use Rattle.calls.proofs.CloseTurn.{ClosingFrom, CopyingFrom}
 use Rattle.calls.proofs.close.close.Given as goal
 
 abbrev pub invariant-loop-t : goal.invariant-loop-t

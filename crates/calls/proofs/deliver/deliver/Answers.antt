@@ -5,7 +5,6 @@ use native.Mathlib.Omega.{arith}
 use lib.ListN.{length, length-set}
 use Rattle.calls.specs.Lent.{lent}
 use Rattle.calls.proofs.CameLaws.{came}
-use borrow.Author.Rules.{rules}
 use Rattle.calls.proofs.deliver.deliver.Goals as goal
 
 pub raised-b-requires : goal.raised-b-requires

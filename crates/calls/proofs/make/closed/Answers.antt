@@ -1,5 +1,4 @@
 -- `calls::make::closed` meets its contract: no event, and a value that is present. Assumes nothing.
-use borrow.Author.Rules.{rules}
 use Rattle.record.specs.Encode.{little_bytes}
 use Rattle.calls.proofs.make.closed.Goals as goal
 

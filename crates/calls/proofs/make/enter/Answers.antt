@@ -1,6 +1,5 @@
 -- `calls::make::enter` meets its contract: a word, and a row in each of three slices. Assumes nothing.
 use mathlib.Core.Path.{refl}
-use borrow.Author.Rules.{rules}
 use Rattle.calls.proofs.make.enter.Goals as goal
 
 pub returns : goal.returns

@@ -9,7 +9,6 @@ use mir.Val.{bool_byte}
 use Rattle.calls.specs.Lent.{lent}
 use Rattle.calls.proofs.WordLaws.{shown_low}
 use Rattle.calls.proofs.MadeLaws.{got_made}
-use borrow.Author.Rules.{rules}
 use Rattle.calls.proofs.make.get.Goals.{After-value-value}
 use Rattle.calls.proofs.make.get.Goals as goal
 

@@ -6,17 +6,12 @@ use lib.ListN.{length, get_or, length-set}
 use Rattle.calls.specs.declared.Kept.{Kept}
 use Rattle.calls.specs.Lent.{clocks_at, lent}
 use Rattle.calls.proofs.MadeLaws.{put-made}
-use borrow.Author.Rules.{rules}
-use Rattle.calls.proofs.make.put.Goals.{After-site_at-a, After-struct_known-3-1}
+use Rattle.calls.proofs.make.put.Goals.{After-site_at-a}
 use Rattle.calls.proofs.make.put.Goals as goal
 
 -- the site's clock
 clocked : (c : After-site_at-a) → let g = c.args in c.site_at-a.result.clock ≡ get_or g.cells.now (clocks_at + g.c.site) 0
 clocked c = ap (λ (a : Kept). a.clock) c.site_at-a.ensures
-
--- its value has 32 bits
-small : (c : After-struct_known-3-1) → c.args.c.value < 2 ^ 32
-small c = omega arith
 
 pub word-word-requires : goal.word-word-requires
 word-word-requires c =
@@ -62,7 +57,8 @@ pub returns : goal.returns
 returns c =
     let g = c.args in
     let at = clocked (goal.at.returns c).After-site_at-a in
+    let small : g.c.value < 2 ^ 32 = omega arith in
     rw c.keep.ensures.cells_after
-    (put-made (lent g.known.now g.sees.now g.cells.now g.events.now g.counts.now) g.c.site g.c.object c.requires c.word-word.result _ (omega (arith, small (goal.at.returns c).After-struct_known-3-1)) (rw at at c.word-word.ensures)
-    _ _ _ _ c.enter.ensures g.c.value refl (small (goal.at.returns c).After-struct_known-3-1) _ _ c.site_at-a.result c.raised-b.result c.site_at-a.ensures c.set.ensures c.raised-b.ensures c.keep.ensures.row_changed
+    (put-made (lent g.known.now g.sees.now g.cells.now g.events.now g.counts.now) g.c.site g.c.object c.requires c.word-word.result _ (omega arith) (rw at at c.word-word.ensures)
+    _ _ _ _ c.enter.ensures g.c.value refl small _ _ c.site_at-a.result c.raised-b.result c.site_at-a.ensures c.set.ensures c.raised-b.ensures c.keep.ensures.row_changed
     c.answer.result c.answer.ensures)

@@ -1,13 +1,12 @@
 -- `calls::refuse::delivery_refused` meets its contract: each return is the first question that got a no. Assumes nothing.
 use mathlib.Core.Path.{◌≡◌, ap, ◌∙◌}
 use native.Mathlib.Omega.{arith}
-use borrow.Author.Tests.{lt-ltb, le-ltb, not-true, not-false}
+use borrow.Author.Tests.{lt-ltb, le-ltb}
 use Rattle.rows.specs.Row.{has, row_at}
 use Rattle.record.specs.Layout.{row_words}
 use Rattle.calls.specs.declared.Kept.{Kept}
 use Rattle.calls.specs.Lent.{puts_in}
 use Rattle.calls.proofs.KeptLaws.{known-row}
-use borrow.Author.Rules.{rules}
 use Rattle.calls.proofs.refuse.delivery_refused.Goals.{After-site_at-site, After-test, After-test-2}
 use Rattle.calls.proofs.refuse.delivery_refused.Goals as goal
 
@@ -30,16 +29,16 @@ returns-then-cells-w c = rw (lt-ltb _ _ c.if-n-s.false, le-ltb _ _ c.if-cells-w.
 
 pub returns-then-not-test : goal.returns-then-not-test
 returns-then-not-test c =
-    rw (lt-ltb _ _ c.if-n-s.false, lt-ltb _ _ c.if-cells-w.false, ← (is_put (goal.at.returns-then-not-test c).After-test), not-true c.test.result c.if-not-test.true)
+    rw (lt-ltb _ _ c.if-n-s.false, lt-ltb _ _ c.if-cells-w.false, ← (is_put (goal.at.returns-then-not-test c).After-test), c.if-not-test.true)
 
 pub returns-then-test : goal.returns-then-test
 returns-then-test c =
-    rw (lt-ltb _ _ c.if-n-s.false, lt-ltb _ _ c.if-cells-w.false, ← (is_put (goal.at.returns-then-test c).After-test), not-false c.test.result c.if-not-test.false, ← (knows (goal.at.returns-then-test c).After-test-2), c.if-test.true)
+    rw (lt-ltb _ _ c.if-n-s.false, lt-ltb _ _ c.if-cells-w.false, ← (is_put (goal.at.returns-then-test c).After-test), c.if-not-test.false, ← (knows (goal.at.returns-then-test c).After-test-2), c.if-test.true)
 
 pub returns-then-not-reaches : goal.returns-then-not-reaches
 returns-then-not-reaches c =
-    rw (lt-ltb _ _ c.if-n-s.false, lt-ltb _ _ c.if-cells-w.false, ← (is_put (goal.at.returns-then-not-reaches c).After-test), not-false c.test.result c.if-not-test.false, ← (knows (goal.at.returns-then-not-reaches c).After-test-2), c.if-test.false, ← (holds (goal.at.returns-then-not-reaches c).After-site_at-site), ← c.eight-needs.ensures, ← c.reaches.ensures, not-true c.reaches.result c.if-not-reaches.true)
+    rw (lt-ltb _ _ c.if-n-s.false, lt-ltb _ _ c.if-cells-w.false, ← (is_put (goal.at.returns-then-not-reaches c).After-test), c.if-not-test.false, ← (knows (goal.at.returns-then-not-reaches c).After-test-2), c.if-test.false, ← (holds (goal.at.returns-then-not-reaches c).After-site_at-site), ← c.eight-needs.ensures, ← c.reaches.ensures, c.if-not-reaches.true)
 
 pub returns : goal.returns
 returns c =
-    rw (lt-ltb _ _ c.if-n-s.false, lt-ltb _ _ c.if-cells-w.false, ← (is_put (goal.at.returns c).After-test), not-false c.test.result c.if-not-test.false, ← (knows (goal.at.returns c).After-test-2), c.if-test.false, ← (holds (goal.at.returns c).After-site_at-site), ← c.eight-needs.ensures, ← c.reaches.ensures, not-false c.reaches.result c.if-not-reaches.false)
+    rw (lt-ltb _ _ c.if-n-s.false, lt-ltb _ _ c.if-cells-w.false, ← (is_put (goal.at.returns c).After-test), c.if-not-test.false, ← (knows (goal.at.returns c).After-test-2), c.if-test.false, ← (holds (goal.at.returns c).After-site_at-site), ← c.eight-needs.ensures, ← c.reaches.ensures, c.if-not-reaches.false)

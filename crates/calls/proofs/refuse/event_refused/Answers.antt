@@ -1,5 +1,4 @@
 -- `calls::refuse::event_refused` meets its contract: each return is the first question that got a no. Assumes nothing.
-use borrow.Author.Rules.{rules}
 use borrow.Author.Tests.{lt-ltb, le-ltb, le-leb, lt-leb}
 use Rattle.calls.proofs.refuse.event_refused.Goals as goal
 

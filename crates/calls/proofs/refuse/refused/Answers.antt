@@ -1,7 +1,6 @@
 -- `calls::refuse::refused` meets its contract: by the kind of call. Assumes nothing.
 use Rattle.calls.specs.Lent.{lent, store_in}
 use Rattle.calls.proofs.RefuseLaws.{malformed_asked, delivery_asked, close_asked, event_asked}
-use borrow.Author.Rules.{rules}
 use Rattle.calls.proofs.refuse.refused.Goals as goal
 
 pub returns-then-c-eq0 : goal.returns-then-c-eq0

@@ -1,7 +1,6 @@
 -- `calls::script::asked_at` meets its contract: each return is one case of the fields of the word. Assumes nothing.
 use native.Mathlib.Omega.{arith}
 use Rattle.calls.proofs.CallLaws.{asked_put, asked_no_put, asked_get, asked_no_get, asked_deliver, asked_late, asked_gap, asked_close, asked_none}
-use borrow.Author.Rules.{rules}
 use Rattle.calls.proofs.script.asked_at.Goals as goal
 
 pub returns-then-x-eq0 : goal.returns-then-x-eq0

@@ -1,11 +1,10 @@
 use borrow.Author.Rules.{rules}
-use mathlib.Core.Path.{◌≡◌, refl, sym, ◌∙◌}
-use Prim.Native.Nat.{◌-◌, ◌≤◌}
+use mathlib.Core.Path.{refl, sym, ◌∙◌}
 use native.Mathlib.Omega.{arith}
-use lib.ListN.{length, get_or}
+use lib.ListN.{get_or}
 use Rattle.rows.specs.Row.{row_at}
 use Rattle.rows.proofs.TableLaws.{length-row, get_d_row}
-use Rattle.rows.proofs.StoredLaws.{Stored, stored_none, stored_more, stored_all}
+use Rattle.rows.proofs.StoredLaws.{stored_none, stored_more, stored_all}
 use Rattle.calls.proofs.sites.eight.Goals as goal
 
 pub overflow_mul-at : goal.overflow_mul-at

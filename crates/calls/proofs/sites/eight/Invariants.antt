@@ -1,12 +1,9 @@
 -- `calls::sites::eight` meets its contract: the loop has copied the numbers passed. Assumes nothing.
-use borrow.Author.Rules.{rules}
-use mathlib.Core.Path.{◌≡◌, refl, sym, ◌∙◌}
+use mathlib.Core.Path.{◌≡◌}
 use Prim.Native.Nat.{◌-◌, ◌≤◌}
-use native.Mathlib.Omega.{arith}
 use lib.ListN.{length, get_or}
 use Rattle.rows.specs.Row.{row_at}
-use Rattle.rows.proofs.TableLaws.{length-row, get_d_row}
-use Rattle.rows.proofs.StoredLaws.{Stored, stored_none, stored_more, stored_all}
+use Rattle.rows.proofs.StoredLaws.{Stored}
 use Rattle.calls.proofs.sites.eight.Given as goal
 
 abbrev pub invariant-loop-j : goal.invariant-loop-j

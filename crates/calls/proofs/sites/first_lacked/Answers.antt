@@ -1,10 +1,9 @@
 use mathlib.Core.Path.{◌≡◌}
-use Prim.Native.Nat.{◌-◌, ◌≤◌}
 use native.Mathlib.Omega.{arith}
 use Rattle.rows.proofs.TableLaws.{length-row}
 use Rattle.record.specs.Layout.{row_words}
 use Rattle.calls.specs.Lent.{puts_in}
-use Rattle.calls.proofs.LackedLaws.{KnownByAll, all_none, all_more, all_lowest}
+use Rattle.calls.proofs.LackedLaws.{all_none, all_more, all_lowest}
 use Rattle.calls.proofs.sites.first_lacked.Goals as goal
 
 pub overflow_mul-from : goal.overflow_mul-from

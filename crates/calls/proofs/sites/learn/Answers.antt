@@ -1,7 +1,6 @@
 -- `calls::sites::learn` meets its contract: a row is joined, and a bit of it is set. Assumes nothing.
 use native.Mathlib.Omega.{arith}
 use Rattle.calls.proofs.KeptLaws.{learn_row}
-use borrow.Author.Rules.{rules}
 use Rattle.calls.proofs.sites.learn.Goals as goal
 
 pub returns : goal.returns

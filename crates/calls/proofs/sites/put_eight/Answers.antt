@@ -1,9 +1,9 @@
 use borrow.Author.Rules.{rules}
-use mathlib.Core.Path.{◌≡◌, refl, ap, ◌∙◌}
-use Prim.Native.Nat.{◌*◌, ◌-◌, ◌≤◌}
+use mathlib.Core.Path.{refl, ap, ◌∙◌}
+use Prim.Native.Nat.{◌*◌}
 use native.Mathlib.Omega.{arith}
 use lib.ListN.{length, take}
-use lib.Seq.{sets, length-sets}
+use lib.Seq.{length-sets}
 use Rattle.calls.proofs.SetsLaws.{sets_more, sets_all, sets-row}
 use Rattle.calls.proofs.sites.put_eight.Goals as goal
 
@@ -29,7 +29,7 @@ pub bounds-counts-at : goal.bounds-counts-at
 bounds-counts-at c =
     let l = c.loop-j in
     let g = c.args in
-    omega (arith, ap length l.invariant.1.1, length-sets g.counts.now (g.i * 8) (take l.j g.t3))
+    omega (arith, ap length l.invariant.1.1, length-sets g.counts.now (g.i * 8) (take l.j g.row))
 
 pub overflow_step-j : goal.overflow_step-j
 overflow_step-j c = omega arith
@@ -41,16 +41,16 @@ pub loop-j-preserved : goal.loop-j-preserved
 loop-j-preserved c =
     let l = c.loop-j in
     let g = c.args in
-    (omega arith, (l.invariant.1.0, rw l.invariant.1.1 (sets_more g.counts.now g.t3 (g.i * 8) l.j (omega arith))))
+    (omega arith, (l.invariant.1.0, rw l.invariant.1.1 (sets_more g.counts.now g.row (g.i * 8) l.j (omega arith))))
 
 pub shape_of-counts : goal.shape_of-counts
 shape_of-counts c =
     let l = c.loop-j in
     let g = c.args in
-    ap length l.invariant.1.1 ∙ length-sets g.counts.now (g.i * 8) (take l.j g.t3)
+    ap length l.invariant.1.1 ∙ length-sets g.counts.now (g.i * 8) (take l.j g.row)
 
 pub returns : goal.returns
 returns c =
     let l = c.loop-j in
     let g = c.args in
-    sets-row g.counts.now 8 g.i g.t3 l.counts l.invariant.1.0 c.requires (l.invariant.1.1 ∙ sets_all g.counts.now g.t3 (g.i * 8) l.j (omega arith))
+    sets-row g.counts.now 8 g.i g.row l.counts l.invariant.1.0 c.requires (l.invariant.1.1 ∙ sets_all g.counts.now g.row (g.i * 8) l.j (omega arith))

@@ -1,11 +1,8 @@
 -- `calls::sites::put_eight` meets its contract: the loop has stored the numbers passed. Assumes nothing.
-use borrow.Author.Rules.{rules}
-use mathlib.Core.Path.{◌≡◌, refl, ap, ◌∙◌}
-use Prim.Native.Nat.{◌*◌, ◌-◌, ◌≤◌}
-use native.Mathlib.Omega.{arith}
+use mathlib.Core.Path.{◌≡◌}
+use Prim.Native.Nat.{◌-◌, ◌≤◌}
 use lib.ListN.{length, take}
-use lib.Seq.{sets, length-sets}
-use Rattle.calls.proofs.SetsLaws.{sets_more, sets_all, sets-row}
+use lib.Seq.{sets}
 use Rattle.calls.proofs.sites.put_eight.Given as goal
 
 abbrev pub invariant-loop-j : goal.invariant-loop-j

@@ -1,8 +1,5 @@
-use mathlib.Core.Logic.{⊎_elim}
 use mathlib.Core.Path.{◌≡◌, refl, ◌∙◌}
-use Prim.Native.Nat.{ℕ, ◌≤◌, ◌-◌}
 use native.Mathlib.Omega.{arith}
-use lib.ListN.{get_or}
 use borrow.Author.Tests.{le-leb, lt-leb}
 use Rattle.store.specs.Rules.{reached}
 use Rattle.calls.proofs.KeptLaws.{reached-more, reached_less}
@@ -35,7 +32,7 @@ pub loop-i-preserved : goal.loop-i-preserved
 loop-i-preserved c =
     let l = c.loop-i in (
       omega arith,
-      elim c.if-counts-i.branch [ then-counts-i w ↦ w.1 ∙ reached_less l.i _ _ (lt-leb _ _ w.0.true) | else-counts-i w ↦ w.1 ∙ l.invariant.1 ∙ reached-more l.i _ _ (le-leb _ _ w.0.false) ],
+      elim c.if-counts-i.branch [ then-counts-i w ↦ w.all-is ∙ reached_less l.i _ _ (lt-leb _ _ w.if-counts-i.true) | else-counts-i w ↦ w.all-is ∙ l.invariant.1 ∙ reached-more l.i _ _ (le-leb _ _ w.if-counts-i.false) ],
     )
 
 pub returns : goal.returns

@@ -1,12 +1,8 @@
 -- `calls::sites::reaches` meets its contract: the loop keeps whether the counts before i reach their needs. Assumes nothing.
-use mathlib.Core.Logic.{⊎_elim}
-use mathlib.Core.Path.{◌≡◌, refl, ◌∙◌}
+use mathlib.Core.Path.{◌≡◌}
 use Prim.Native.Nat.{ℕ, ◌≤◌, ◌-◌}
-use native.Mathlib.Omega.{arith}
 use lib.ListN.{get_or}
-use borrow.Author.Tests.{le-leb, lt-leb}
 use Rattle.store.specs.Rules.{reached}
-use Rattle.calls.proofs.KeptLaws.{reached-more, reached_less}
 use Rattle.calls.proofs.sites.reaches.Given as goal
 
 abbrev pub invariant-loop-i : goal.invariant-loop-i

@@ -3,7 +3,6 @@ use native.Mathlib.Omega.{arith}
 use Rattle.rows.proofs.SliceLaws.{row_put}
 use Rattle.record.specs.Layout.{row_words}
 use Rattle.calls.proofs.KeptLaws.{changed, know_row}
-use borrow.Author.Rules.{rules}
 use Rattle.calls.proofs.sites.see.Goals as goal
 
 pub returns : goal.returns

@@ -1,6 +1,5 @@
 -- `calls::sites::site_at` meets its contract: a clock, and a row of counts. Assumes nothing.
 use mathlib.Core.Path.{refl}
-use borrow.Author.Rules.{rules}
 use Rattle.calls.proofs.sites.site_at.Goals as goal
 
 pub returns : goal.returns

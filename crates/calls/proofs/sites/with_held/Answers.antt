@@ -1,8 +1,7 @@
 use borrow.Author.Rules.{rules}
 use mathlib.Core.Path.{◌≡◌}
-use Prim.Native.Nat.{◌-◌, ◌≤◌}
 use native.Mathlib.Omega.{arith}
-use Rattle.rows.proofs.StoredLaws.{Stored, stored_none, stored_more}
+use Rattle.rows.proofs.StoredLaws.{stored_none, stored_more}
 use Rattle.calls.proofs.KeptLaws.{raised, raised_at, raised_small, raised_all}
 use Rattle.calls.proofs.sites.with_held.Goals as goal
 

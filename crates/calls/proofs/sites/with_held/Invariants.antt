@@ -1,10 +1,7 @@
 -- `calls::sites::with_held` meets its contract: the loop has raised the counts passed, one of them by one. Assumes nothing.
-use borrow.Author.Rules.{rules}
-use mathlib.Core.Path.{◌≡◌}
 use Prim.Native.Nat.{◌-◌, ◌≤◌}
-use native.Mathlib.Omega.{arith}
-use Rattle.rows.proofs.StoredLaws.{Stored, stored_none, stored_more}
-use Rattle.calls.proofs.KeptLaws.{raised, raised_at, raised_small, raised_all}
+use Rattle.rows.proofs.StoredLaws.{Stored}
+use Rattle.calls.proofs.KeptLaws.{raised}
 use Rattle.calls.proofs.sites.with_held.Given as goal
 
 abbrev pub invariant-loop-i : goal.invariant-loop-i

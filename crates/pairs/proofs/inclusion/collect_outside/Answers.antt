@@ -1,8 +1,6 @@
-use borrow.Author.Rules.{rules}
 use mathlib.Core.Path.{◌≡◌, sym, ap, ◌∙◌}
-use mathlib.Core.Logic.{⊎_elim}
 use mathlib.Core.List.{List}
-use Prim.Native.Nat.{ℕ, ◌-◌, ◌+◌, ◌*◌, ◌≤◌}
+use Prim.Native.Nat.{ℕ, ◌+◌, ◌*◌, ◌≤◌}
 use native.Mathlib.Omega.{arith}
 use lib.ListN.{length}
 use Rattle.rows.specs.Lowest.{some}
@@ -29,7 +27,7 @@ room-r c = row_room (start c).args.n (width (start c)) c.loop-row.row (length (s
 
 pub loop-row-init : goal.loop-row-init
 loop-row-init c =
-    (omega arith, c.left-1.given, collected_none (width (goal.at.loop-row-init c).Start) c.args.q.now c.args.starts.now c.args.ends.now c.args.r.now (width (goal.at.loop-row-init c).Start) c.clear.new.row c.clear.ensures)
+    (omega arith, omega arith, collected_none (width (goal.at.loop-row-init c).Start) c.args.q.now c.args.starts.now c.args.ends.now c.args.r.now (width (goal.at.loop-row-init c).Start) c.clear.new.row c.clear.ensures)
 
 pub may_end-requires : goal.may_end-requires
 may_end-requires c =
@@ -65,14 +63,14 @@ loop-row-preserved c =
     let l = c.loop-row in
     elim c.if-may_end.branch [ then-may_end t ↦ (
       omega arith,
-      ap length t.7 ∙ t.5.given ∙ l.invariant.1,
-      λ a. ap (λ (m : List ℕ). has m a) t.7
-          ∙ collected_more (width (goal.at.loop-row-preserved c).Start) c.args.q.now c.args.starts.now c.args.ends.now c.args.r.now l.row l.false t.4.last.0 l.invariant.2 (sym c.may_end.ensures ∙ t.0.true) t.4.ensures.1 a,
+      ap length t.left-is ∙ t.join_outside.ensures.dst_len_unchanged ∙ l.invariant.1,
+      λ a. ap (λ (m : List ℕ). has m a) t.left-is
+          ∙ collected_more (width (goal.at.loop-row-preserved c).Start) c.args.q.now c.args.starts.now c.args.ends.now c.args.r.now l.row l.left t.join_outside.new.dst l.invariant.2 (sym c.may_end.ensures ∙ t.if-may_end.true) t.join_outside.ensures.by_index a,
     ) | else-may_end t ↦ (
       omega arith,
-      ap length t.1 ∙ l.invariant.1,
-      λ a. ap (λ (m : List ℕ). has m a) t.1
-          ∙ collected_skip (width (goal.at.loop-row-preserved c).Start) c.args.q.now c.args.starts.now c.args.ends.now c.args.r.now l.row l.false l.invariant.2 (sym c.may_end.ensures ∙ t.0.false) a,
+      ap length t.left-is ∙ l.invariant.1,
+      λ a. ap (λ (m : List ℕ). has m a) t.left-is
+          ∙ collected_skip (width (goal.at.loop-row-preserved c).Start) c.args.q.now c.args.starts.now c.args.ends.now c.args.r.now l.row l.left l.invariant.2 (sym c.may_end.ensures ∙ t.if-may_end.false) a,
     ) ]
 
 pub returns : goal.returns

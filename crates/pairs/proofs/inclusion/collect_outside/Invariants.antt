@@ -1,18 +1,11 @@
 -- `pairs::inclusion::collect_outside` meets its contract. The invariant: `left` has the events from which a pair is outside, to one of the events passed. It speaks of
 -- what the lists have, for the relations and sets that they hold are known only to the caller. Assumes nothing.
-use borrow.Author.Rules.{rules}
-use mathlib.Core.Path.{◌≡◌, sym, ap, ◌∙◌}
-use mathlib.Core.Logic.{⊎_elim}
-use mathlib.Core.List.{List}
-use Prim.Native.Nat.{ℕ, ◌-◌, ◌+◌, ◌*◌, ◌≤◌}
-use native.Mathlib.Omega.{arith}
+use mathlib.Core.Path.{◌≡◌}
+use Prim.Native.Nat.{ℕ, ◌-◌, ◌≤◌}
 use lib.ListN.{length}
 use Rattle.rows.specs.Lowest.{some}
 use Rattle.rows.specs.Row.{has}
-use Rattle.rows.proofs.TableLaws.{row_room}
-use Rattle.rows.proofs.SliceLaws.{length_slice}
 use Rattle.pairs.specs.Searches.{lacks}
-use Rattle.pairs.proofs.InclusionLaws.{collected_none, collected_more, collected_skip}
 use Rattle.pairs.proofs.inclusion.collect_outside.Given as goal
 
 abbrev pub invariant-loop-row : goal.invariant-loop-row

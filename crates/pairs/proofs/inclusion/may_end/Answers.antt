@@ -1,6 +1,5 @@
 -- `pairs::inclusion::may_end` meets its contract. Assumes nothing.
 use mathlib.Core.Path.{sym}
-use borrow.Author.Rules.{rules}
 use Rattle.pairs.proofs.inclusion.may_end.Goals as goal
 
 pub returns-then-whole : goal.returns-then-whole

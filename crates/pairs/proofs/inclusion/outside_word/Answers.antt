@@ -1,17 +1,10 @@
 use mathlib.Core.Path.{◌≡◌}
-use mathlib.Core.Logic.{⊎_elim}
-use mathlib.Core.Bool.{◌&&◌}
 use Prim.Native.Nat.{ℕ, ◌-◌, ◌+◌, ◌*◌, ◌/◌, ◌≤◌, ◌<◌, min}
 use native.Mathlib.Omega.{arith}
-use borrow.Author.Rules.{rules}
 use borrow.Author.Tests.{le-ltb}
-use lib.Dec.{ltb}
 use lib.ListN.{length}
-use Rattle.rows.specs.Row.{bit_of}
-use Rattle.rows.specs.Relation.{related}
 use Rattle.rows.proofs.Digits.{bit_of-zero}
 use Rattle.rows.proofs.TableLaws.{row_room}
-use Rattle.consistency.specs.Predicates.{outside}
 use Rattle.pairs.proofs.InclusionLaws.{word_more, word_cut}
 use Rattle.pairs.proofs.inclusion.outside_word.Goals.{In-loop-j, Joined-rows-gt64, Start, else-rows-gt64, then-rows-gt64}
 use Rattle.pairs.proofs.inclusion.outside_word.Goals as goal
@@ -22,7 +15,7 @@ count c = elim c.if-rows-gt64.branch [ then-rows-gt64 e ↦ omega arith | else-r
 
 module _ (c : In-loop-j) where
   abbrev start : Start
-  start = c
+  start = (goal.at.In-loop-j c).Start
 
   abbrev row : ℕ
   row = start.args.k * 64 + c.loop-j.j
@@ -32,10 +25,10 @@ module _ (c : In-loop-j) where
   place = row * start.args.w + start.args.a / 64
 
   low : c.loop-j.j < 64
-  low = omega (arith, count c, c.loop-j-test.true)
+  low = omega (arith, count (goal.at.In-loop-j c).Joined-rows-gt64, c.loop-j-test.true)
 
   next : row < start.args.n
-  next = omega (arith, count c, c.loop-j-test.true, start.requires.3)
+  next = omega (arith, count (goal.at.In-loop-j c).Joined-rows-gt64, c.loop-j-test.true, start.requires.3)
 
   in_table : (m : ℕ) → start.args.n * start.args.w ≤ m → place < m
   in_table m h = omega (arith, row_room start.args.n start.args.w row m next h, start.requires.2)
@@ -50,37 +43,38 @@ pub loop-j-init : goal.loop-j-init
 loop-j-init c = (omega arith, λ i. rw (bit_of-zero i, le-ltb i 0 (omega arith)))
 
 pub overflow_add-at : goal.overflow_add-at
-overflow_add-at c = omega (arith, next c)
+overflow_add-at c = omega (arith, next (goal.at.overflow_add-at c).In-loop-j)
 
 pub overflow_mul-at-in-loop-j : goal.overflow_mul-at-in-loop-j
-overflow_mul-at-in-loop-j c = omega (arith, in-q c)
+overflow_mul-at-in-loop-j c = omega (arith, in-q (goal.at.overflow_mul-at-in-loop-j c).In-loop-j)
 
 pub overflow_add-at-in-loop-j : goal.overflow_add-at-in-loop-j
-overflow_add-at-in-loop-j c = omega (arith, in-q c)
+overflow_add-at-in-loop-j c = omega (arith, in-q (goal.at.overflow_add-at-in-loop-j c).In-loop-j)
 
 pub offset_bounds-q-at : goal.offset_bounds-q-at
-offset_bounds-q-at c = omega (arith, in-q c)
+offset_bounds-q-at c = omega (arith, in-q (goal.at.offset_bounds-q-at c).In-loop-j)
 
 pub bounds-q-at : goal.bounds-q-at
-bounds-q-at c = in-q c.before
+bounds-q-at c = in-q (goal.at.bounds-q-at c).In-loop-j
 
 pub offset_bounds-r-at : goal.offset_bounds-r-at
-offset_bounds-r-at c = omega (arith, in-r c.before)
+offset_bounds-r-at c = omega (arith, in-r (goal.at.offset_bounds-r-at c).In-loop-j)
 
 pub bounds-r-at : goal.bounds-r-at
-bounds-r-at c = in-r c.before.before
+bounds-r-at c = in-r (goal.at.bounds-r-at c).In-loop-j
 
 pub overflow_shl-x : goal.overflow_shl-x
-overflow_shl-x c = low c.before.before
+overflow_shl-x c = low (goal.at.overflow_shl-x c).In-loop-j
 
 pub overflow_step-j : goal.overflow_step-j
-overflow_step-j c = omega (arith, low c.before.before)
+overflow_step-j c = omega (arith, low (goal.at.overflow_step-j c).In-loop-j)
 
 pub loop-j-preserved : goal.loop-j-preserved
 loop-j-preserved c =
-    let s = (start c.before.before).args in
+    let i = (goal.at.loop-j-preserved c).In-loop-j in
+    let s = c.args in
     let l = c.loop-j in
-    (omega (arith, c.loop-j-test.true), word_more s.w s.q.now s.r.now s.a (start c.before.before).requires.2 s.k l.j l.x l.invariant.1 (low c.before.before) (c.type_inv.r (place c.before.before)).fits)
+    (omega (arith, c.loop-j-test.true), word_more s.w s.q.now s.r.now s.a c.requires.2 s.k l.j l.x l.invariant.1 (low i) (c.type_inv.r (place i)).fits)
 
 pub returns : goal.returns
 returns c =

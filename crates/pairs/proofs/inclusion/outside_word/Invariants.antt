@@ -1,19 +1,11 @@
 -- `pairs::inclusion::outside_word` meets its contract. The invariant: x has the bits of the rows passed. Assumes nothing.
 use mathlib.Core.Path.{◌≡◌}
-use mathlib.Core.Logic.{⊎_elim}
 use mathlib.Core.Bool.{◌&&◌}
-use Prim.Native.Nat.{ℕ, ◌-◌, ◌+◌, ◌*◌, ◌/◌, ◌≤◌, ◌<◌, min}
-use native.Mathlib.Omega.{arith}
-use borrow.Author.Rules.{rules}
-use borrow.Author.Tests.{le-ltb}
+use Prim.Native.Nat.{ℕ, ◌-◌, ◌+◌, ◌*◌, ◌≤◌}
 use lib.Dec.{ltb}
-use lib.ListN.{length}
 use Rattle.rows.specs.Row.{bit_of}
 use Rattle.rows.specs.Relation.{related}
-use Rattle.rows.proofs.Digits.{bit_of-zero}
-use Rattle.rows.proofs.TableLaws.{row_room}
 use Rattle.consistency.specs.Predicates.{outside}
-use Rattle.pairs.proofs.InclusionLaws.{word_more, word_cut}
 use Rattle.pairs.proofs.inclusion.outside_word.Given as goal
 
 abbrev pub invariant-loop-j : goal.invariant-loop-j

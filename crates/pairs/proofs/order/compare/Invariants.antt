@@ -1,20 +1,15 @@
 -- `pairs::order::compare` meets its contract. The invariant: the two rows say of each event what the events passed say. Assumes nothing.
-use mathlib.Core.Path.{◌≡◌, refl, sym, ap, ◌∙◌}
-use mathlib.Core.List.{List}
-use Prim.Native.Nat.{ℕ, ◌-◌, ◌≤◌}
-use native.Mathlib.Omega.{arith}
-use borrow.Author.Rules.{rules}
-use lib.ListN.{length, replicate}
-use Rattle.rows.specs.Row.{Row}
+use mathlib.Core.Path.{◌≡◌}
+use Prim.Native.Nat.{◌-◌, ◌≤◌}
+use lib.ListN.{length}
 use Rattle.rows.specs.Relation.{Rel, Table}
 use Rattle.events.specs.Given.{fields_of}
 use Rattle.pairs.specs.Searches.{cut_to, Compared}
-use Rattle.pairs.proofs.CutLaws.{front, fronted, length_front, length_fronted, front-holds}
-use Rattle.pairs.proofs.DifferenceLaws.{compared_none, compared_more, compared_all}
 use Rattle.pairs.proofs.order.compare.Given as goal
 
 abbrev pub invariant-loop-b : goal.invariant-loop-b
-invariant-loop-b l =     (l.b ≤ l.n) × (length l.differing ≡ l.w) × (length l.visible ≡ l.w) × (length l.seen ≡ 8) × (length l.placed ≡ 8)
+invariant-loop-b l =
+    (l.b ≤ l.n) × (length l.differing ≡ l.w) × (length l.visible ≡ l.w) × (length l.seen ≡ 8) × (length l.placed ≡ 8)
     × ((q r : Rel) → Table l.n l.w q l.v → Table l.n l.w r l.ars → Compared l.n l.b (cut_to l.cut (fields_of l.l) q) (cut_to l.cut (fields_of l.l) r) l.differing l.visible)
 
 abbrev pub decreases-loop-b : goal.decreases-loop-b

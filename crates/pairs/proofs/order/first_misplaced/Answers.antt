@@ -1,10 +1,8 @@
 use mathlib.Core.Path.{◌≡◌, refl, sym, ap₂, ◌∙◌, subst}
 use mathlib.Core.Bool.{Bool, true, false, not, ◌&&◌, beq}
 use mathlib.Core.List.{List}
-use mathlib.Core.Logic.{⊎_elim}
-use Prim.Native.Nat.{ℕ, ◌-◌, ◌<◌, ◌≤◌}
+use Prim.Native.Nat.{ℕ, ◌<◌}
 use native.Mathlib.Omega.{arith}
-use borrow.Author.Rules.{rules}
 use borrow.Author.Count.{below_none, below_more}
 use lib.ListN.{length}
 use Rattle.rows.specs.Row.{has}
@@ -17,7 +15,7 @@ use Rattle.pairs.specs.Searches.{cut_to, misplaced, Compared}
 use Rattle.consistency.proofs.FirstPairLaws.{first-at, first-none}
 use Rattle.pairs.proofs.CutLaws.{new, fronted, length_front, length_fronted, has_fronted}
 use Rattle.pairs.proofs.DifferenceLaws.{compared_history, misfit-none, misfit_pair}
-use Rattle.pairs.proofs.order.first_misplaced.Goals.{After-compare, After-is_misfit, After-is_placed, Start}
+use Rattle.pairs.proofs.order.first_misplaced.Goals.{After-compare, After-is_misfit, After-is_placed, Start, else-is_misfit, then-is_misfit+else-loop-b-test}
 use Rattle.pairs.proofs.order.first_misplaced.Goals as goal
 
 abbrev history : Start → History
@@ -27,106 +25,106 @@ history s = history_from s.args.n s.args.w s.args.l.now s.args.v.now
 abbrev seen : Start → Rel
 seen s = cut_to s.args.cut (history s) (vis (history s))
 
--- the rows of both
--- what the arrays told of a
 abbrev placed : Start → Rel
 placed s = cut_to s.args.cut (history s) (ar (history s))
 
+-- the rows of both
 module _ (c : After-compare) where
   abbrev start : Start
-  start = c.before.before.before.before.before.before.before
+  start = (goal.at.After-compare c).Start
 
   abbrev differing : List ℕ
-  differing = c.compare.new.1.1.1.1.1.1.0
+  differing = c.compare.new.differing
 
   abbrev visible : List ℕ
-  visible = c.compare.new.1.1.1.1.1.1.1.0
+  visible = c.compare.new.visible
 
   compared : Compared start.args.n start.args.n (seen start) (placed start) differing visible
   compared =
       compared_history start.args.cut start.args.n start.args.w start.args.l.now start.args.v.now start.args.ars.now differing visible
       (subst (λ (k : ℕ). (q r : Rel) → Table start.args.n k q start.args.v.now → Table start.args.n k r start.args.ars.now → Compared start.args.n start.args.n (cut_to start.args.cut (fields_of start.args.l.now) q) (cut_to start.args.cut (fields_of start.args.l.now) r) differing visible)
-      (length_front new start.args.w start.requires.given.0.narrow) c.compare.ensures.1)
+      (length_front new start.args.w start.requires.given.0.narrow) c.compare.ensures.compared)
       start.requires.given.0 start.requires.table.0
 
   -- and the arrays that they are given back to
   size-differing : length (fronted new start.args.w differing) ≡ 8
-  size-differing = length_fronted new start.args.w start.requires.given.0.narrow differing c.compare.ensures.0.0
+  size-differing = length_fronted new start.args.w start.requires.given.0.narrow differing c.compare.ensures.differing_len_unchanged.0
 
   size-visible : length (fronted new start.args.w visible) ≡ 8
-  size-visible = length_fronted new start.args.w start.requires.given.0.narrow visible c.compare.ensures.0.1
+  size-visible = length_fronted new start.args.w start.requires.given.0.narrow visible c.compare.ensures.differing_len_unchanged.1
 
+-- what the arrays told of a
 module _ (c : After-is_misfit) where
   abbrev rows : After-compare
-  rows = c.before.before.before.before.before.before.before
+  rows = (goal.at.After-is_misfit c).After-compare
 
   abbrev here : Start
   here = start rows
 
   abbrev a : ℕ
-  a = c.before.before.before.before.search.a
+  a = c.search.a
 
   below : a < here.args.n
-  below = c.before.before.before.if1.false
+  below = c.if-n-a.false
 
-  asked : c.is-misfit.result ≡ has (differing rows) a && not (is_pending_in here.args.l.now a && not (has (visible rows) a))
-  asked = c.is-misfit.ensures ∙ ap₂ (λ (s t : Bool). s && not (is_pending_in here.args.l.now a && not t))
-      (has_fronted new here.args.w here.requires.given.0.narrow (differing rows) rows.compare.ensures.0.0 a (omega (arith, below, here.requires.given.0.rows.wide)))
-      (has_fronted new here.args.w here.requires.given.0.narrow (visible rows) rows.compare.ensures.0.1 a (omega (arith, below, here.requires.given.0.rows.wide)))
+  asked : c.is_misfit.result ≡ has (differing rows) a && not (is_pending_in here.args.l.now a && not (has (visible rows) a))
+  asked = c.is_misfit.ensures ∙ ap₂ (λ (s t : Bool). s && not (is_pending_in here.args.l.now a && not t))
+      (has_fronted new here.args.w here.requires.given.0.narrow (differing rows) rows.compare.ensures.differing_len_unchanged.0 a (omega (arith, below, here.requires.given.0.rows.wide)))
+      (has_fronted new here.args.w here.requires.given.0.narrow (visible rows) rows.compare.ensures.differing_len_unchanged.1 a (omega (arith, below, here.requires.given.0.rows.wide)))
 
   -- an event that fits has no misplaced pair
-  untold : c.is-misfit.result ≡ false → (y : ℕ) → y < here.args.n → misplaced here.args.cut (history here) a y ≡ false
+  untold : c.is_misfit.result ≡ false → (y : ℕ) → y < here.args.n → misplaced here.args.cut (history here) a y ≡ false
   unfolding history_from
-  untold e = misfit-none (history here) (seen here) (placed here) (differing rows) (visible rows) (compared rows) a below c.is-misfit.result asked e
+  untold e = misfit-none (history here) (seen here) (placed here) (differing rows) (visible rows) (compared rows) a below c.is_misfit.result asked e
 
 -- what the two tests told of the pair (a, b)
-told : (c : After-is_placed) (u : Bool) → not (beq c.is_seen.result c.is_placed.result) ≡ u → misplaced (here c.before.before.before.before.before).args.cut (history (here (goal.at.After-is_placed c).Start)) (a (goal.at.After-is_placed c).Start) c.loop-b.b ≡ u
+told : (c : After-is_placed) (u : Bool) → not (beq c.is_seen.result c.is_placed.result) ≡ u → let m = (goal.at.After-is_placed c).After-is_misfit in misplaced (here m).args.cut (history (here m)) (a m) c.loop-b.b ≡ u
 unfolding history_from
 told c u e =
-    let s = here c in
+    let m = (goal.at.After-is_placed c).After-is_misfit in
+    let s = here m in
     let q = c.is_seen in
     let p = c.is_placed in
-    misfit_pair (history s) (seen s) (placed s) (differing (rows (goal.at.After-is_placed c).Start)) (visible (rows (goal.at.After-is_placed c).Start)) (compared (rows (goal.at.After-is_placed c).Start)) (a (goal.at.After-is_placed c).Start) (below (goal.at.After-is_placed c).Start) c.is_misfit.result (asked (goal.at.After-is_placed c).Start) c.if-is_misfit.true
+    misfit_pair (history s) (seen s) (placed s) (differing (rows m)) (visible (rows m)) (compared (rows m)) (a m) (below m) c.is_misfit.result (asked m) c.if-is_misfit.true
     c.loop-b.b q.result p.result u q.ensures p.ensures e
 
 pub compare-requires : goal.compare-requires
 compare-requires c =
-    rw (length_front new c.args.w c.requires.given.0.narrow) ((c.requires.given.0.heads, c.requires.given.0.rows.size, c.requires.table.1, c.requires.given.1), (refl, c.requires.given.0.narrow))
+    rw (length_front new c.args.w c.requires.given.0.narrow) (record {
+      n_in_bounds = (c.requires.given.0.heads, c.requires.given.0.rows.size, c.requires.table.1, c.requires.given.1);
+      differing_len = (refl, c.requires.given.0.narrow);
+    })
 
 pub search-init : goal.search-init
 search-init c = (omega arith, below_none _)
 
 pub slice_bounds-is_misfit-end : goal.slice_bounds-is_misfit-end
-slice_bounds-is_misfit-end c = sym (size-differing c.before.before.before.before.before)
+slice_bounds-is_misfit-end c = sym (size-differing (goal.at.slice_bounds-is_misfit-end c).After-compare)
 
 pub slice_bounds-is_misfit-end-in-search : goal.slice_bounds-is_misfit-end-in-search
-slice_bounds-is_misfit-end-in-search c = sym (size-visible c.before.before.before.before.before.before)
+slice_bounds-is_misfit-end-in-search c = sym (size-visible (goal.at.slice_bounds-is_misfit-end-in-search c).After-compare)
 
 pub is_misfit-requires : goal.is_misfit-requires
 is_misfit-requires c =
-    let s = start c.before.before.before.before.before.before in
-    let g = s.requires.given.0 in
+    let r = (goal.at.is_misfit-requires c).After-compare in
+    let g = c.requires.given.0 in
     let l = c.if-n-a.false in
-    (omega (arith, g.heads), omega (arith, g.rows.wide, g.narrow, size-differing c.before.before.before.before.before.before), omega (arith, g.rows.wide, g.narrow, size-visible c.before.before.before.before.before.before))
+    (omega (arith, g.heads), omega (arith, g.rows.wide, g.narrow, size-differing r), omega (arith, g.rows.wide, g.narrow, size-visible r))
 
 pub loop-b-init : goal.loop-b-init
 loop-b-init c = (omega arith, below_none _)
 
 pub is_seen-requires : goal.is_seen-requires
 is_seen-requires c = record {
-      given = (here c.before.before.before).requires.0.0;
-      a_lt_n = (below c.before.before.before, c.loop-b-test.true);
+      given = c.requires.given.0;
+      a_lt_n = (c.if-n-a.false, c.loop-b-test.true);
     }
 
 pub is_placed-requires : goal.is_placed-requires
 is_placed-requires c = record {
-      given = (here c.before.before.before.before).requires.0.0;
-      a_lt_n = (below c.before.before.before.before, c.loop-b-test.true);
+      given = c.requires.given.0;
+      a_lt_n = (c.if-n-a.false, c.loop-b-test.true);
     }
-
-pub overflow_step-b : goal.overflow_step-b
-overflow_step-b c =
-    omega (arith, (here c.before.before.before.before.before.before).fits.n, c.loop-b-test.true)
 
 pub loop-b-preserved : goal.loop-b-preserved
 loop-b-preserved c = (omega (arith, c.loop-b-test.true), below_more _ _ c.loop-b.invariant.1 (told (goal.at.loop-b-preserved c).After-is_placed false c.if-is_seen-is_placed.false))
@@ -134,25 +132,24 @@ loop-b-preserved c = (omega (arith, c.loop-b-test.true), below_more _ _ c.loop-b
 pub search-preserved : goal.search-preserved
 search-preserved c =
     (
-      omega (arith, below c.before),
-      below_more _ _ c.search.invariant.1 (⊎_elim          (λ t y i. t.1.invariant.1 y (omega (arith, t.2.false)))
-          (λ t y i. untold c.before t.left y i)
-          c.if-is_misfit.branch),
+      omega (arith, c.if-n-a.false),
+      below_more _ _ c.search.invariant.1 (elim c.if-is_misfit.branch [ then-is_misfit+else-loop-b-test t ↦ λ y i. t.loop-b.invariant.1 y (omega (arith, t.loop-b-test.false))
+          | else-is_misfit t ↦ λ y i. untold (goal.at.search-preserved c).After-is_misfit t.if-is_misfit.false y i ]),
     )
 
 pub returns-then-n-a : goal.returns-then-n-a
 returns-then-n-a c =
-    let s = start c.before.before.before.before in
+    let s = (goal.at.returns-then-n-a c).Start in
     sym (first-none s.args.n (misplaced s.args.cut (history s)) (λ x y i j. c.search.invariant.1 x (omega (arith, c.if-n-a.true)) y j))
 
 pub returns-then-is_seen-is_placed : goal.returns-then-is_seen-is_placed
 returns-then-is_seen-is_placed c =
-    let s = here c.before.before.before.before.before.before in
+    let s = (goal.at.returns-then-is_seen-is_placed c).Start in
     let l = c.loop-b in
-    sym (first-at s.args.n (misplaced s.args.cut (history s)) (a (goal.at.returns-then-is_seen-is_placed c).Start) l.b (record {
-      left = below (goal.at.returns-then-is_seen-is_placed c).Start;
+    sym (first-at s.args.n (misplaced s.args.cut (history s)) c.search.a l.b (record {
+      left = c.if-n-a.false;
       right = c.loop-b-test.true;
       holds = told (goal.at.returns-then-is_seen-is_placed c).After-is_placed true c.if-is_seen-is_placed.true;
-      least_a = λ x y (goal.at.returns-then-is_seen-is_placed c).After-is_placed j. c.search.invariant.1 x (goal.at.returns-then-is_seen-is_placed c).After-is_placed y j;
+      least_a = λ x y i j. c.search.invariant.1 x i y j;
       least_b = l.invariant.1;
     }))

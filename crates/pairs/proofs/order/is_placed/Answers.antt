@@ -1,7 +1,6 @@
 -- `pairs::order::is_placed` meets its contract, by the tests on the way. Assumes nothing.
 use mathlib.Core.Path.{◌≡◌, ◌∙◌}
 use mathlib.Core.Bool.{true}
-use borrow.Author.Rules.{rules}
 use Rattle.record.specs.History.{History}
 use Rattle.record.specs.Words.{history_from}
 use Rattle.consistency.specs.Relations.{ar}

@@ -1,15 +1,8 @@
-use mathlib.Core.Path.{◌≡◌, refl}
-use mathlib.Core.Bool.{Bool}
-use mathlib.Core.List.{List}
-use Prim.Native.Nat.{ℕ, ◌-◌, ◌≤◌}
+use mathlib.Core.Path.{refl}
 use native.Mathlib.Omega.{arith}
-use borrow.Author.Rules.{rules}
 use lib.Bits.{bit_or}
-use lib.ListN.{length}
-use Rattle.rows.specs.Row.{has}
 use Rattle.rows.proofs.RowLaws.{lacking}
-use Rattle.rows.proofs.JoinLaws.{Joining, joining_none, joining_more, joining_all}
-use Rattle.consistency.specs.Predicates.{differ}
+use Rattle.rows.proofs.JoinLaws.{joining_none, joining_more, joining_all}
 use Rattle.pairs.proofs.DifferenceLaws.{differ_word, differ_past}
 use Rattle.pairs.proofs.order.join_difference.Invariants.{one_has}
 use Rattle.pairs.proofs.order.join_difference.Goals as goal

@@ -1,18 +1,13 @@
 -- `pairs::order::join_difference` meets its contract. The invariant: the words passed have what one of the two rows has, and the others are as they were.
 -- Assumes nothing.
-use mathlib.Core.Path.{◌≡◌, refl}
+use mathlib.Core.Path.{◌≡◌}
 use mathlib.Core.Bool.{Bool}
 use mathlib.Core.List.{List}
 use Prim.Native.Nat.{ℕ, ◌-◌, ◌≤◌}
-use native.Mathlib.Omega.{arith}
-use borrow.Author.Rules.{rules}
-use lib.Bits.{bit_or}
 use lib.ListN.{length}
 use Rattle.rows.specs.Row.{has}
-use Rattle.rows.proofs.RowLaws.{lacking}
-use Rattle.rows.proofs.JoinLaws.{Joining, joining_none, joining_more, joining_all}
+use Rattle.rows.proofs.JoinLaws.{Joining}
 use Rattle.consistency.specs.Predicates.{differ}
-use Rattle.pairs.proofs.DifferenceLaws.{differ_word, differ_past}
 use Rattle.pairs.proofs.order.join_difference.Given as goal
 
 -- exactly one of a and b has x

@@ -2,7 +2,6 @@
 use mathlib.Core.Path.{refl}
 use Prim.Native.Nat.{ℕ, ◌+◌, ◌*◌, ◌≤◌}
 use native.Mathlib.Omega.{arith}
-use borrow.Author.Rules.{rules}
 use lib.ListN.{length}
 use Rattle.rows.proofs.TableLaws.{row_room}
 use Rattle.pairs.proofs.EventLaws.{group_room}
@@ -51,12 +50,13 @@ slice_bounds-intersect-end c = omega (arith, room-object (goal.at.slice_bounds-i
 
 pub returns-then-cut : goal.returns-then-cut
 returns-then-cut c =
-    let s = start (goal.at.returns-then-cut c).After-object in
     let k = c.copy in
     let m = c.intersect in
-    taken_cut s.args.cut s.args.l.now s.args.n (width s) s.args.g.now s.args.b s.args.out.now k.new.dst s.requires.1 s.requires.2 refl k.ensures
-    s.args.groups.now m.new.dst c.object.result c.if-cut.true s.requires.3 c.object.ensures m.ensures
+    let t = taken_cut c.args.cut c.args.l.now c.args.n (width (goal.at.returns-then-cut c).Start) c.args.g.now c.args.b c.args.out.now k.new.dst c.requires.1 c.requires.2 refl k.ensures
+        c.args.groups.now m.new.dst c.object.result c.if-cut.true c.requires.3 c.object.ensures m.ensures in
+    record { out_len_unchanged = t.0; row = t.1; }
 
 pub returns-else-cut : goal.returns-else-cut
 returns-else-cut c =
-    taken-whole c.args.cut c.args.l.now c.args.n (width (goal.at.returns-else-cut c).Start) c.args.g.now c.args.b c.args.out.now c.copy.new.dst c.requires.1 c.requires.2 refl c.copy.ensures c.if-cut.false
+    let t = taken-whole c.args.cut c.args.l.now c.args.n (width (goal.at.returns-else-cut c).Start) c.args.g.now c.args.b c.args.out.now c.copy.new.dst c.requires.1 c.requires.2 refl c.copy.ensures c.if-cut.false in
+    record { out_len_unchanged = t.0; row = t.1; }

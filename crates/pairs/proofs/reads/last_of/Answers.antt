@@ -1,7 +1,6 @@
-use mathlib.Core.Path.{◌≡◌, ◌∙◌}
-use Prim.Native.Nat.{◌+◌, ◌*◌, ◌-◌, ◌≤◌, ◌<◌}
+use mathlib.Core.Path.{◌≡◌}
+use Prim.Native.Nat.{◌+◌, ◌*◌, ◌≤◌, ◌<◌}
 use native.Mathlib.Omega.{arith}
-use borrow.Author.Rules.{rules}
 use lib.ListN.{length}
 use Rattle.rows.proofs.TableLaws.{row_room}
 use Rattle.record.specs.Words.{position_in}
@@ -46,7 +45,7 @@ slice_bounds-pick_difference-end c = omega (arith, room (goal.at.slice_bounds-pi
 
 pub pick_difference-next-requires : goal.pick_difference-next-requires
 pick_difference-next-requires c =
-    let e : length c.remove.new.row ≡ c.args.w = c.seen-1.given ∙ c.loop-n.invariant.wide in
+    let e : length c.remove.new.row ≡ c.args.w = omega arith in
     (omega (arith, c.requires.n_bound.1), omega (arith, length_slice c.args.ars.now c.args.w c.loop-n.x (room (goal.at.pick_difference-next-requires c).At-loop-n)))
 
 pub returns-then-n-next : goal.returns-then-n-next

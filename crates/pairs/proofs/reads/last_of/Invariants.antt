@@ -1,14 +1,8 @@
 -- `pairs::reads::last_of` meets its contract. The invariant: an event that is no longer in `seen` is not later than x. The measure is what is left of the
 -- positions. Assumes nothing.
-use mathlib.Core.Path.{◌≡◌, ◌∙◌}
-use Prim.Native.Nat.{◌+◌, ◌*◌, ◌-◌, ◌≤◌, ◌<◌}
-use native.Mathlib.Omega.{arith}
-use borrow.Author.Rules.{rules}
-use lib.ListN.{length}
-use Rattle.rows.proofs.TableLaws.{row_room}
+use Prim.Native.Nat.{◌-◌}
 use Rattle.record.specs.Words.{position_in}
-use Rattle.rows.proofs.SliceLaws.{length_slice}
-use Rattle.pairs.proofs.LatestLaws.{Following, following_start, latest_found, following_more}
+use Rattle.pairs.proofs.LatestLaws.{Following}
 use Rattle.pairs.proofs.reads.last_of.Given as goal
 
 abbrev pub invariant-loop-n : goal.invariant-loop-n

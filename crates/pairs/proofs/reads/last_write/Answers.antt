@@ -3,7 +3,6 @@ use mathlib.Core.Path.{◌≡◌, sym, ap, ◌∙◌, subst}
 use mathlib.Core.List.{List}
 use Prim.Native.Nat.{ℕ, ◌+◌, ◌*◌, ◌≤◌}
 use native.Mathlib.Omega.{arith}
-use borrow.Author.Rules.{rules}
 use lib.ListN.{length}
 use Rattle.rows.specs.Row.{has, Row}
 use Rattle.rows.proofs.RowLaws.{row_in}
@@ -75,21 +74,23 @@ pub slice_bounds-meet-end-3 : goal.slice_bounds-meet-end-3
 slice_bounds-meet-end-3 c = omega (arith, room-object (goal.at.slice_bounds-meet-end-3 c).After-object)
 
 pub slice_bounds-seen-end-2 : goal.slice_bounds-seen-end-2
-slice_bounds-seen-end-2 c = omega (arith, length_fronted new (start (goal.at.slice_bounds-seen-end-2 c).After-meet).args.w (start (goal.at.slice_bounds-seen-end-2 c).After-meet).requires.0.0.narrow c.meet.new.dst (same (goal.at.slice_bounds-seen-end-2 c).After-meet), (start (goal.at.slice_bounds-seen-end-2 c).After-meet).requires.0.0.narrow)
+slice_bounds-seen-end-2 c = omega (arith, length_fronted new c.args.w c.requires.given.0.narrow c.meet.new.dst (same (goal.at.slice_bounds-seen-end-2 c).After-meet), c.requires.given.0.narrow)
 
 pub last_of-requires : goal.last_of-requires
 last_of-requires c =
-    let s = start (goal.at.last_of-requires c).After-meet in record {
+    let m = (goal.at.last_of-requires c).After-meet in
+    let s = start m in record {
       placed = (s.requires.given.0.placed, s.requires.table.0, s.requires.table.1);
-      n_bound = (s.requires.given.0.rows.wide, s.requires.given.0.rows.fits, ap length (fronts (goal.at.last_of-requires c).After-meet) ∙ (seen (goal.at.last_of-requires c).After-meet).0, λ x e. (row_in s.args.n (candidate (history s) s.args.e) c.meet.new.dst (seen (goal.at.last_of-requires c).After-meet).1 x (sym (ap (λ (r : List ℕ). has r x) (fronts (goal.at.last_of-requires c).After-meet)) ∙ e)).0);
+      n_bound = (s.requires.given.0.rows.wide, s.requires.given.0.rows.fits, ap length (fronts m) ∙ (seen m).0, λ x e. (row_in s.args.n (candidate (history s) s.args.e) c.meet.new.dst (seen m).1 x (sym (ap (λ (r : List ℕ). has r x) (fronts m)) ∙ e)).0);
     }
 
 pub returns : goal.returns
 unfolding history_from
 returns c =
-    let s = start (goal.at.returns c).After-meet in
+    let m = (goal.at.returns c).After-meet in
+    let s = start m in
     let f = c.last_of in
-    let l = subst (λ (r : List ℕ). Latest (position_in s.args.l.now) r f.result) (fronts (goal.at.returns c).After-meet) f.ensures in record {
-      value = latest_write (history s) s.args.e c.meet.new.dst (seen (goal.at.returns c).After-meet).1 s.requires.given.0.placed.distinct f.result l;
-      found_below = latest_below (history s) s.args.e c.meet.new.dst (seen (goal.at.returns c).After-meet).1 f.result l;
+    let l = subst (λ (r : List ℕ). Latest (position_in s.args.l.now) r f.result) (fronts m) f.ensures in record {
+      value = latest_write (history s) s.args.e c.meet.new.dst (seen m).1 s.requires.given.0.placed.distinct f.result l;
+      found_below = latest_below (history s) s.args.e c.meet.new.dst (seen m).1 f.result l;
     }

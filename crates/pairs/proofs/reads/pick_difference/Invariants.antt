@@ -1,14 +1,9 @@
 -- `pairs::reads::pick_difference` meets its contract. The invariant: the words passed have no such member. Assumes nothing.
-use mathlib.Core.Path.{◌≡◌, refl}
+use mathlib.Core.Path.{◌≡◌}
 use mathlib.Core.Bool.{false}
-use Prim.Native.Nat.{ℕ, ◌*◌, ◌-◌, ◌^◌, ◌≤◌, ◌<◌}
-use native.Mathlib.Omega.{arith}
-use borrow.Author.Rules.{rules}
-use lib.Count.{leading_le}
+use Prim.Native.Nat.{ℕ, ◌*◌, ◌≤◌}
 use lib.ListN.{length}
 use Rattle.rows.specs.Row.{only_first}
-use Rattle.rows.proofs.RowLaws.{lacking, lacking_lt}
-use Rattle.pairs.proofs.LatestLaws.{leading_bit, pick_none, pick_more, pick_found, pick_past}
 use Rattle.pairs.proofs.reads.pick_difference.Given as goal
 
 abbrev pub invariant-loop-i : goal.invariant-loop-i

@@ -1,15 +1,9 @@
 -- `rehearsal::copies::outstanding` meets its contract: the loop has counted what the sites passed lack. Assumes nothing.
-use borrow.Author.Rules.{rules}
-use mathlib.Core.Path.{◌≡◌, sym, ap, ◌∙◌}
+use mathlib.Core.Path.{◌≡◌}
 use mathlib.Core.List.{List}
 use Prim.Native.Nat.{ℕ, ◌*◌, ◌-◌, ◌≤◌}
-use native.Mathlib.Numerals.{add-one}
-use native.Mathlib.Omega.{arith}
 use Rattle.rows.specs.Count.{sum, how_many}
 use Rattle.rows.specs.Row.{only_first, row_at}
-use Rattle.rows.proofs.CountLaws.{sum-none, sum_more, many_most}
-use Rattle.rows.proofs.SliceLaws.{slice_at, length_slice, slice_row}
-use Rattle.rows.proofs.TableLaws.{length-row}
 use Rattle.record.specs.Layout.{most_events, row_words}
 use Rattle.calls.specs.Lent.{puts_in}
 use Rattle.rehearsal.proofs.copies.outstanding.Given as goal

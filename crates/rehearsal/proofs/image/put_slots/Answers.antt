@@ -1,20 +1,18 @@
-use borrow.Author.Rules.{rules}
 use mathlib.Core.List.{List}
 use mathlib.Core.Path.{◌≡◌, refl, ap, ◌∙◌}
-use Prim.Native.Nat.{ℕ, ◌+◌, ◌*◌, ◌-◌, ◌≤◌, ◌<◌}
+use Prim.Native.Nat.{ℕ, ◌+◌, ◌*◌, ◌≤◌, ◌<◌}
 use native.Mathlib.Nat.{add-sub_cancel_left}
 use native.Mathlib.Omega.{arith}
 use lib.ListN.{length}
 use Rattle.rows.specs.Row.{row_at}
 use Rattle.rows.proofs.TableLaws.{length-row}
-use Rattle.record.specs.Layout.{store_layout, most_events, row_words, slot_at}
+use Rattle.record.specs.Layout.{store_layout, most_events, row_words}
 use Rattle.record.specs.Encode.{with_slots}
-use Rattle.record.specs.Terms.{Terms}
 use Rattle.record.proofs.SoundLayout.{store-sound, slot_step, Numbers, numbers}
 use Rattle.store.specs.Recorded.{recorded}
 use Rattle.calls.specs.Lent.{Lent, lent, count_in, store_in}
 use Rattle.calls.proofs.KeptLaws.{known-row}
-use Rattle.rehearsal.proofs.ImageLaws.{Slotted, slotted_none, slotted_more, events_worded}
+use Rattle.rehearsal.proofs.ImageLaws.{slotted_none, slotted_more, events_worded}
 use Rattle.rehearsal.proofs.image.put_slots.Goals.{At-loop-k, In-loop-k, Start}
 use Rattle.rehearsal.proofs.image.put_slots.Goals as goal
 
@@ -104,13 +102,13 @@ loop-k-preserved c =
     let wide : length row ≡ row_words = length-row g.sees.now row_words l.k (room (goal.at.loop-k-preserved c).In-loop-k) in (
       omega (arith, c.loop-k-test.true),
       (
-        c.put_slot.auto.0 ∙ l.invariant.1.0,
+        c.put_slot.auto.s ∙ l.invariant.1.0,
         (
           slot_step store_layout store-sound l.k l.at _ l.invariant.1.1.0 (c.next_slot-at.ensures store_layout a.requires.ed_value),
           λ t counts.
               let z : Lent = lent g.known.now g.sees.now g.cells.now g.events.now counts in
               slotted_more t z g.rec.now l.rec c.put_slot.new.s l.k c.loop-k-test.true (l.invariant.1.1.1 t counts) _ (c.positions-positions.ensures (store_in t z).event (events_worded t z) l.k)
-              c.test-put.result (c.test-put.ensures ∙ known-row g.known.now 8 l.k (few (goal.at.loop-k-preserved c).In-loop-k)) row refl wide c.slot-x.result c.slot-x.ensures c.put_slot.auto.0 l.at l.invariant.1.1.0 (rw add-sub_cancel_left (goal.at.loop-k-preserved c).In-loop-k c.put_slot.ensures),
+              c.test-put.result (c.test-put.ensures ∙ known-row g.known.now 8 l.k (few (goal.at.loop-k-preserved c).In-loop-k)) row refl wide c.slot-x.result c.slot-x.ensures c.put_slot.auto.s l.at l.invariant.1.1.0 (rw add-sub_cancel_left at c.put_slot.ensures),
         ),
       ),
     )

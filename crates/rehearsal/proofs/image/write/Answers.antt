@@ -1,5 +1,4 @@
 -- `rehearsal::image::write` meets its contract: zero bytes, block 0, the slots and the checks. Assumes nothing.
-use borrow.Author.Rules.{rules}
 use mathlib.Core.Path.{◌≡◌, refl, ap}
 use Prim.Native.Nat.{ℕ, ◌*◌, ◌≤◌}
 use native.Mathlib.Omega.{arith}
@@ -33,7 +32,7 @@ pub put_slots-requires : goal.put_slots-requires
 put_slots-requires c =
     let a = start (goal.at.put_slots-requires c).After-blocks-blocks in
     let fits : 512 * blocks_for store_layout (count_in a.args.cells.now) ≤ length c.terms.new.s =
-    omega (arith, room (goal.at.put_slots-requires c).After-blocks-blocks, many (goal.at.put_slots-requires c).After-blocks-blocks, c.terms.auto.0, c.header.auto.0, c.clear.auto.0) in record {
+    omega (arith, room (goal.at.put_slots-requires c).After-blocks-blocks, many (goal.at.put_slots-requires c).After-blocks-blocks, c.terms.auto.s, c.header.auto.s, c.clear.auto.s) in record {
       ed_value = refl;
       recordable = a.requires.recordable;
       cells_in_bounds = fits;

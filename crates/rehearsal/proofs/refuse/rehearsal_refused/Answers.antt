@@ -6,7 +6,7 @@ use Prim.Native.Nat.{ℕ}
 use native.Mathlib.Omega.{arith}
 use lib.Dec.{eqb}
 use lib.ListN.{length}
-use borrow.Author.Tests.{le-leb, lt-leb, eq-eqb, ne_eqb, not-true, not-false}
+use borrow.Author.Tests.{le-leb, lt-leb, eq-eqb, ne_eqb}
 use Rattle.record.specs.Terms.{openings_right}
 use Rattle.record.specs.Questions.{ask}
 use Rattle.store.specs.Rehearsal.{rehearsal_refusal}
@@ -85,8 +85,8 @@ hold-requires c = omega arith
 
 pub returns-then-not-hold : goal.returns-then-not-hold
 returns-then-not-hold c =
-    λ s t u e f g. rw (late (goal.at.returns-then-not-hold c).Else-answers-script s t u e f g, eq-eqb _ _ c.if-opened-ne132.false, sym c.hold.ensures ∙ not-true _ c.if-not-hold.true)
+    λ s t u e f g. rw (late (goal.at.returns-then-not-hold c).Else-answers-script s t u e f g, eq-eqb _ _ c.if-opened-ne132.false, sym c.hold.ensures ∙ c.if-not-hold.true)
 
 pub returns : goal.returns
 returns c =
-    λ s t u e f g. rw (late (goal.at.returns c).Else-answers-script s t u e f g, eq-eqb _ _ c.if-opened-ne132.false, sym c.hold.ensures ∙ not-false _ c.if-not-hold.false)
+    λ s t u e f g. rw (late (goal.at.returns c).Else-answers-script s t u e f g, eq-eqb _ _ c.if-opened-ne132.false, sym c.hold.ensures ∙ c.if-not-hold.false)

@@ -1,7 +1,5 @@
 use mathlib.Core.Path.{◌≡◌, subst, sym, ◌∙◌}
-use Prim.Native.Nat.{◌-◌, ◌≤◌}
 use native.Mathlib.Omega.{arith}
-use Rattle.calls.specs.Lent.{clocks_at}
 use Rattle.rehearsal.proofs.OpenedCells.{OpenedTo, opened-none, opened-first, opened_copy, opened_all, opened_again, opened_since}
 use Rattle.rehearsal.proofs.run.open_cells.Goals as goal
 

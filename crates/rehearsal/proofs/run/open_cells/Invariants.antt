@@ -1,9 +1,7 @@
 -- `rehearsal::run::open_cells` meets its contract: both loops have opened the cells passed. Assumes nothing.
-use mathlib.Core.Path.{◌≡◌, subst, sym, ◌∙◌}
 use Prim.Native.Nat.{◌-◌, ◌≤◌}
-use native.Mathlib.Omega.{arith}
 use Rattle.calls.specs.Lent.{clocks_at}
-use Rattle.rehearsal.proofs.OpenedCells.{OpenedTo, opened-none, opened-first, opened_copy, opened_all, opened_again, opened_since}
+use Rattle.rehearsal.proofs.OpenedCells.{OpenedTo}
 use Rattle.rehearsal.proofs.run.open_cells.Given as goal
 
 abbrev pub invariant-loop-o : goal.invariant-loop-o

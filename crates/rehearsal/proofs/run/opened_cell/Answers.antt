@@ -1,17 +1,15 @@
 -- `rehearsal::run::opened_cell` meets its contract: the object's bit is clear, or its value is the opening. Assumes nothing.
 use mathlib.Core.Path.{sym, ◌∙◌}
 use native.Mathlib.Omega.{arith}
-use borrow.Author.Tests.{not-true, not-false}
 use Rattle.rehearsal.proofs.OpenedCells.{cell-none, cell-some}
-use borrow.Author.Rules.{rules}
 use Rattle.rehearsal.proofs.run.opened_cell.Goals as goal
 
 pub returns-then-not-test : goal.returns-then-not-test
 returns-then-not-test c =
     let g = c.args in
-    cell-none g.openings.now g.o c.requires.1 (sym c.test.ensures ∙ not-true _ c.if-not-test.true)
+    cell-none g.openings.now g.o c.requires.1 (sym c.test.ensures ∙ c.if-not-test.true)
 
 pub returns : goal.returns
 returns c =
     let g = c.args in
-    cell-some g.openings.now g.o c.requires.1 (sym c.test.ensures ∙ not-false _ c.if-not-test.false) c.u32_at.result (omega arith) c.u32_at.ensures
+    cell-some g.openings.now g.o c.requires.1 (sym c.test.ensures ∙ c.if-not-test.false) c.u32_at.result (omega arith) c.u32_at.ensures

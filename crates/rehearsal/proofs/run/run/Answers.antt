@@ -1,11 +1,7 @@
 use mathlib.Core.Path.{sym, ◌∙◌}
-use Prim.Native.Nat.{◌/◌, ◌-◌, ◌≤◌}
 use native.Mathlib.Omega.{arith}
-use lib.ListN.{length}
-use Rattle.record.specs.Terms.{Terms}
 use Rattle.calls.specs.Lent.{lent}
 use Rattle.calls.specs.Mirror.{call_of}
-use Rattle.rehearsal.specs.Runs.{Fresh}
 use Rattle.rehearsal.proofs.RunLaws.{Turned, turned_none, standing, turned_more, turned_all}
 use Rattle.rehearsal.proofs.run.run.Goals.{At-loop-k}
 use Rattle.rehearsal.proofs.run.run.Goals as goal

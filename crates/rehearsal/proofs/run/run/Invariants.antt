@@ -1,13 +1,10 @@
 -- `rehearsal::run::run` meets its contract: after k calls the slices stand for the store of those calls, and their answers are written. Assumes nothing.
-use mathlib.Core.Path.{sym, ◌∙◌}
 use Prim.Native.Nat.{◌/◌, ◌-◌, ◌≤◌}
-use native.Mathlib.Omega.{arith}
 use lib.ListN.{length}
 use Rattle.record.specs.Terms.{Terms}
 use Rattle.calls.specs.Lent.{lent}
-use Rattle.calls.specs.Mirror.{call_of}
 use Rattle.rehearsal.specs.Runs.{Fresh}
-use Rattle.rehearsal.proofs.RunLaws.{Turned, turned_none, standing, turned_more, turned_all}
+use Rattle.rehearsal.proofs.RunLaws.{Turned}
 use Rattle.rehearsal.proofs.run.run.Given as goal
 
 abbrev pub invariant-loop-k : goal.invariant-loop-k

@@ -1,11 +1,8 @@
 -- `rehearsal::run::write` meets its contract: the loop has stored the bytes passed. Assumes nothing.
-use mathlib.Core.Path.{◌≡◌, refl, ap, ◌∙◌}
+use mathlib.Core.Path.{◌≡◌}
 use Prim.Native.Nat.{◌≤◌, ◌-◌}
-use native.Mathlib.Omega.{arith}
 use lib.ListN.{length, take}
-use lib.Seq.{sets, length-sets}
-use borrow.Author.Rules.{rules}
-use Rattle.calls.proofs.SetsLaws.{sets_more, sets_all}
+use lib.Seq.{sets}
 use Rattle.rehearsal.proofs.run.write.Given as goal
 
 abbrev pub invariant-loop-i : goal.invariant-loop-i

@@ -1,9 +1,7 @@
 -- `rehearsal::slots::slot` meets its contract: the value is 0 where none is present. Assumes nothing.
-use mathlib.Core.Logic.{⊎_elim}
 use mathlib.Core.Path.{◌≡◌, sym, ◌∙◌}
 use Rattle.calls.specs.Mirror.{word_shown}
 use Rattle.record.specs.Terms.{value_or0}
-use borrow.Author.Rules.{rules}
 use Rattle.rehearsal.proofs.slots.slot.Goals.{else-present, then-present}
 use Rattle.rehearsal.proofs.slots.slot.Goals as goal
 
@@ -12,5 +10,8 @@ returns c =
     let g = c.args in
     let present = c.present-present in
     let shown : c.if-present.value ≡ value_or0 (word_shown g.word) =
-    elim c.if-present.branch [ then-present w ↦ rw (sym present.ensures ∙ w.0.true) (w.2 ∙ w.1.ensures) | else-present w ↦ rw (sym present.ensures ∙ w.0.false) w.1 ] in
+    elim c.if-present.branch [
+      | then-present w ↦ rw (sym present.ensures ∙ w.if-present.true) (w.value-is ∙ w.value-value.ensures)
+      | else-present w ↦ rw (sym present.ensures ∙ w.if-present.false) w.value-is
+    ] in
     rw (shown, present.ensures, c.site.ensures, c.object.ensures)
