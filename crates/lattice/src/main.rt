@@ -32,8 +32,9 @@ fn name(m: usize) -> &'static str {
 }
 
 fn model(rt: &impl Print, m: usize) -> io::Result<()> {
+    lines::number(rt, m)?;
     let name = name(m);
-    print!(rt; "{m} {name}")
+    print!(rt; " {name}")
 }
 
 // The first broken predicate, as in a line of `verdict`.
