@@ -1,4 +1,6 @@
 // The reader for hosts, callable from C and Rust on slices: it goes to members' sites on its own.
+#![tactic(auto)]
+
 ghost use Rattle.std.specs.Prelude.{◌≡◌, length};
 ghost use Rattle.record.specs.Layout.{edition_of};
 ghost use Rattle.record.specs.Questions.{number_of, reading, packed_reading};

@@ -6,7 +6,6 @@ use native.Mathlib.Omega.{arith}
 use native.Mathlib.Decide.{dec_lt}
 use borrow.Author.Tests.{le-leb}
 use lib.Dec.{leb}
-use Rattle.rows.specs.Lowest.{lowest}
 use Rattle.rows.proofs.LowestLaws.{lowest_hit, lowest-none}
 use Rattle.rows.proofs.Tests.{and_both}
 use Rattle.record.specs.Listed.{member}

@@ -1,5 +1,7 @@
 // Which model covers which: a line for each ordered pair of different models. Where the second does not follow from the first, the line has a record that meets
 // the first and breaks the second: built by the writer, and judged. With an argument K, 1 to 8, record K itself.
+#![tactic(auto)]
+
 mod judged;
 mod records;
 mod table;
@@ -9,69 +11,57 @@ ghost use Rattle.lattice.specs.Answers.{Models};
 
 use consistency::Outcome;
 use judge::Judgment;
-use libc::{STDERR_FILENO, STDOUT_FILENO};
+use std::{env, io};
 
-fn write(text: &[u8]) {
-    io::write_all(STDOUT_FILENO, text);
-}
-
-fn name(m: usize) {
+fn name(m: usize) -> &'static str {
     match m {
-        1 => write(b"linearizable"),
-        2 => write(b"regular"),
-        3 => write(b"sequential"),
-        4 => write(b"causal"),
-        5 => write(b"real-time causal"),
-        6 => write(b"processor"),
-        7 => write(b"per-object sequential"),
-        8 => write(b"Pram"),
-        9 => write(b"monotonic reads"),
-        10 => write(b"read your writes"),
-        11 => write(b"monotonic writes"),
-        12 => write(b"writes follow reads"),
-        _ => write(b"slow memory"),
+        1 => "linearizable",
+        2 => "regular",
+        3 => "sequential",
+        4 => "causal",
+        5 => "real-time causal",
+        6 => "processor",
+        7 => "per-object sequential",
+        8 => "Pram",
+        9 => "monotonic reads",
+        10 => "read your writes",
+        11 => "monotonic writes",
+        12 => "writes follow reads",
+        _ => "slow memory",
     }
 }
 
-fn model(m: usize) {
-    lines::number(m);
-    write(b" ");
-    name(m);
+fn model(rt: &impl Print, m: usize) -> io::Result<()> {
+    lines::number(rt, m)?;
+    let name = name(m);
+    print!(rt; " {name}")
 }
 
 // The first broken predicate, as in a line of `verdict`.
-fn broken(answer: Judgment) {
-    if let Judgment::Judged(outcome) = answer {
-        if let Outcome::BrokenAt(p, a, b) = outcome {
-            lines::number(p);
-            write(b" broken ");
-            lines::number(a);
-            write(b" ");
-            lines::number(b);
-        }
+fn broken(rt: &impl Print, answer: Judgment) -> io::Result<()> {
+    if let Judgment::Judged(Outcome::BrokenAt(p, a, b)) = answer {
+        return print!(rt; "{p} broken {a} {b}");
     }
+    Ok(())
 }
 
-fn not_covered(i: usize, j: usize)
+fn not_covered(rt: &impl Print, i: usize, j: usize) -> io::Result<()>
     requires { Models i j }
 {
     let k = judged::record_for(i, j);
     if 8 < k {
-        write(b"NOT SHOWN: no record meets ");
-        model(i);
-        write(b" and breaks ");
-        model(j);
-        write(b"\n");
-        return;
+        print!(rt; "NOT SHOWN: no record meets ")?;
+        model(rt, i)?;
+        print!(rt; " and breaks ")?;
+        model(rt, j)?;
+        return println!(rt);
     }
-    model(i);
-    write(b" does not cover ");
-    model(j);
-    write(b": record ");
-    lines::number(k);
-    write(b", ");
-    broken(judged::of_record(k, j));
-    write(b"\n");
+    model(rt, i)?;
+    print!(rt; " does not cover ")?;
+    model(rt, j)?;
+    print!(rt; ": record {k}, ")?;
+    broken(rt, judged::of_record(k, j))?;
+    println!(rt)
 }
 
 // The first model that i gives and from which j follows, or 0.
@@ -86,20 +76,26 @@ fn between(given: [u64; 14], following: [u64; 14], i: usize, j: usize) -> usize
     0
 }
 
-fn covered(given: [u64; 14], following: [u64; 14], i: usize, j: usize)
+fn covered(
+    rt: &impl Print,
+    given: [u64; 14],
+    following: [u64; 14],
+    i: usize,
+    j: usize,
+) -> io::Result<()>
     requires { (i < 14) × (j < 14) }
 {
-    model(i);
-    write(b" covers ");
-    model(j);
+    model(rt, i)?;
+    print!(rt; " covers ")?;
+    model(rt, j)?;
     if !table::has(given, i, j) {
-        write(b", by ");
-        model(between(given, following, i, j));
+        print!(rt; ", by ")?;
+        model(rt, between(given, following, i, j))?;
     }
-    write(b"\n");
+    println!(rt)
 }
 
-fn pairs() {
+fn pairs(rt: &impl Print) -> io::Result<()> {
     let given = table::given();
     let following = table::following();
     for i in 1..14 {
@@ -108,52 +104,41 @@ fn pairs() {
                 continue;
             }
             if table::has(following, i, j) {
-                covered(given, following, i, j);
+                covered(rt, given, following, i, j)?;
             } else {
-                not_covered(i, j);
+                not_covered(rt, i, j)?;
             }
         }
     }
+    Ok(())
 }
 
-fn usage() {
-    io::write_all(
-        STDERR_FILENO,
-        b"lattice writes which model covers which; lattice K, with K from 1 to 8, writes record K\n",
-    );
+fn usage(rt: &impl Eprint) -> io::Result<()> {
+    eprintln!(rt;
+        "lattice writes which model covers which; lattice K, with K from 1 to 8, writes record K"
+    )
 }
 
 // The bytes of the record that an argument names.
-fn one_record(argument: &[u8]) {
-    if argument.len() != 1 {
-        usage();
-        return;
-    }
-    let digit = argument[0];
-    if digit < b'1' {
-        usage();
-        return;
-    }
-    if b'8' < digit {
-        usage();
-        return;
-    }
+fn one_record(rt: &(impl Print + Eprint), argument: &str) -> io::Result<()> {
+    let [digit @ b'1'..=b'8'] = argument.as_bytes() else {
+        return usage(rt);
+    };
     let mut rec = [0u8; records::LENGTH];
-    records::write((digit - b'0') as usize, &mut rec);
-    write(&rec);
+    records::write((*digit - b'0') as usize, &mut rec);
+    rt.write_all(&rec)
 }
 
-fn main() {
-    let count = os::arg_count();
-    if count < 2 {
-        pairs();
-        return;
+fn main(rt: HostRuntime) -> io::Result<()> {
+    let mut arguments = match env::args(&rt) {
+        Ok(arguments) => arguments.skip(1),
+        // An argument that is not text names no record.
+        Err(error) if error.kind() == io::ErrorKind::InvalidData => return usage(&rt),
+        Err(error) => return Err(error),
+    };
+    match (arguments.next(), arguments.next()) {
+        (None, _) => pairs(&rt),
+        (Some(argument), None) => one_record(&rt, argument.as_str()),
+        (Some(_), Some(_)) => usage(&rt),
     }
-    if 2 < count {
-        usage();
-        return;
-    }
-    let mut argument = io::buffer();
-    let length = os::arg(1, &mut argument);
-    one_record(&argument[..length]);
 }

@@ -1,20 +1,21 @@
-// The lines of text that the programs write to standard output.
-use libc::STDOUT_FILENO;
-use record::Reading;
+// What the programs share: the lines of text that they write to standard output, and how they read their input.
+#![tactic(auto)]
 
-pub fn number(n: usize) {
-    io::print_decimal(STDOUT_FILENO, n as u64);
+pub mod input;
+
+use record::Reading;
+use std::io;
+
+pub fn number(rt: &impl Print, n: usize) -> io::Result<()> {
+    print!(rt; "{n}")
 }
 
 // `passed`, or `refused` with the question's number and place.
-pub fn reading(r: Reading) {
-    if record::number(r) == 0 {
-        io::write_all(STDOUT_FILENO, b"passed\n");
-        return;
+pub fn reading(rt: &impl Print, r: Reading) -> io::Result<()> {
+    let number = record::number(r);
+    if number == 0 {
+        return println!(rt; "passed");
     }
-    io::write_all(STDOUT_FILENO, b"refused ");
-    number(record::number(r));
-    io::write_all(STDOUT_FILENO, b" ");
-    number(record::place(r));
-    io::write_all(STDOUT_FILENO, b"\n");
+    let place = record::place(r);
+    println!(rt; "refused {number} {place}")
 }

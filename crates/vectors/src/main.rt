@@ -1,7 +1,11 @@
 // Reads each file that an argument names, over work slices one word too short, just long enough, and six words longer, and
 // writes the reading and what the slice holds afterwards.
-use libc::STDOUT_FILENO;
+#![tactic(auto)]
+
+use lines::input;
 use record::layout;
+use std::rt::Files;
+use std::{env, fs, io};
 
 // What stands in a work slice before it is lent.
 fn noise(i: usize) -> u64 {
@@ -32,53 +36,51 @@ fn is_kept(work: &[u64], from: usize) -> bool {
     true
 }
 
-fn report(s: &[u8], work: &mut [u64]) {
+fn report(rt: &impl Print, s: &[u8], work: &mut [u64]) -> io::Result<()> {
     fill(work);
     let reading = reader::read(s, work);
-    io::write_all(STDOUT_FILENO, b"  ");
-    io::print_decimal(STDOUT_FILENO, work.len() as u64);
-    io::write_all(STDOUT_FILENO, b": ");
-    lines::reading(reading);
+    let words = work.len();
+    print!(rt; "  {words}: ")?;
+    lines::reading(rt, reading)?;
     let kept = is_kept(work, 0);
     let rest = is_kept(work, layout::WORK);
-    io::write_all(STDOUT_FILENO, b"    digest ");
-    io::print_hex(STDOUT_FILENO, digest(work), 16);
+    let digest = digest(work);
+    print!(rt; "    digest {digest:016x}")?;
     if kept {
-        io::write_all(STDOUT_FILENO, b", all kept\n");
+        println!(rt; ", all kept")
     } else if rest {
-        io::write_all(STDOUT_FILENO, b", words from ");
-        io::print_decimal(STDOUT_FILENO, layout::WORK as u64);
-        io::write_all(STDOUT_FILENO, b" on kept\n");
+        println!(rt; ", words from {} on kept", layout::WORK)
     } else {
-        io::write_all(STDOUT_FILENO, b", later words changed\n");
+        println!(rt; ", later words changed")
     }
 }
 
-fn vector(path: &[u8]) {
-    io::write_all(STDOUT_FILENO, path);
-    io::write_all(STDOUT_FILENO, b"\n");
-    let fd = os::open_read(path);
-    if fd < 0 {
-        os::fail(path);
-        return;
-    }
-    // Two blocks more than the longest record, so that a longer input is refused and not cut.
-    let mut input = [0u8; layout::LONGEST + 2 * 512];
-    let length = io::read_full(fd, &mut input);
-    libc::close(fd);
+// The reports on one input.
+fn reports(rt: &impl Print, s: &[u8]) -> io::Result<()> {
     let mut short = [0u64; layout::WORK - 1];
     let mut exact = [0u64; layout::WORK];
     let mut long = [0u64; layout::WORK + 6];
-    report(&input[..length], &mut short);
-    report(&input[..length], &mut exact);
-    report(&input[..length], &mut long);
+    report(rt, s, &mut short)?;
+    report(rt, s, &mut exact)?;
+    report(rt, s, &mut long)
 }
 
-fn main() {
-    let n = os::arg_count();
-    for i in 1..n {
-        let mut path = io::buffer();
-        let length = os::arg(i, &mut path);
-        vector(&path[..length]);
+// A file that does not open has a line on standard error in place of its reports.
+fn vector(rt: &(impl Files + Print + Eprint), path: &str) -> io::Result<()> {
+    println!(rt; "{path}")?;
+    let mut file = match fs::open(rt, path) {
+        Ok(file) => file,
+        Err(error) => return eprintln!(rt; "{path}: {error}"),
+    };
+    // Two blocks more than the longest record, so that a longer input is refused and not cut.
+    let mut input = [0u8; layout::LONGEST + 2 * 512];
+    let length = input::read_full(&mut file, &mut input)?;
+    reports(rt, &input[..length])
+}
+
+fn main(rt: HostRuntime) -> io::Result<()> {
+    for path in env::args(&rt)?.skip(1) {
+        vector(&rt, path.as_str())?;
     }
+    Ok(())
 }

@@ -1,39 +1,37 @@
 // Reads a record from standard input and writes a line for each predicate, its number and `met` or `broken` with the pair;
 // or the line of the question that refused the record.
-use libc::{STDIN_FILENO, STDOUT_FILENO};
+#![tactic(auto)]
+
+use lines::input;
 use record::layout;
+use std::io;
 
 // The line of one predicate, from its judgment's number.
-fn write_judgment(predicate: usize, judgment: u64) {
-    lines::number(predicate);
+fn write_judgment(rt: &impl Print, predicate: usize, judgment: u64) -> io::Result<()> {
     if judgment == 0 {
-        io::write_all(STDOUT_FILENO, b" met\n");
-        return;
+        return println!(rt; "{predicate} met");
     }
-    io::write_all(STDOUT_FILENO, b" broken ");
-    io::print_decimal(STDOUT_FILENO, judgment / packed::PLACES % packed::PLACES);
-    io::write_all(STDOUT_FILENO, b" ");
-    io::print_decimal(STDOUT_FILENO, judgment % packed::PLACES);
-    io::write_all(STDOUT_FILENO, b"\n");
+    let first = judgment / packed::PLACES % packed::PLACES;
+    let second = judgment % packed::PLACES;
+    println!(rt; "{predicate} broken {first} {second}")
 }
 
-fn write_judgments(judgments: [u64; 13]) {
+fn write_judgments(rt: &impl Print, judgments: [u64; 13]) -> io::Result<()> {
     for k in 0..13 {
-        write_judgment(k + 1, judgments[k]);
+        write_judgment(rt, k + 1, judgments[k])?;
     }
+    Ok(())
 }
 
-fn main() {
+fn main(rt: HostRuntime) -> io::Result<()> {
     // One byte more than the longest record, so that a longer input is refused and not cut.
     let mut input = [0u8; layout::LONGEST + 1];
-    let length = io::read_full(STDIN_FILENO, &mut input);
+    let length = input::read_full(&mut rt.reader(), &mut input)?;
     let mut work = [0u64; layout::WORK];
     let all = judge::judge_all(&input[..length], &mut work);
     let reading = all.reading;
     if record::number(reading) != 0 {
-        lines::reading(reading);
-        return;
+        return lines::reading(&rt, reading);
     }
-    let judgments = all.judgments;
-    write_judgments(judgments);
+    write_judgments(&rt, all.judgments)
 }
