@@ -1,5 +1,7 @@
 // The events of a shortest chain of steps in a table of rows, of which row b has the events from which a step leads to b. Inner functions are lent their
 // scratch rows, and rows are as wide as those.
+#![tactic(auto)]
+
 ghost use Rattle.std.specs.Prelude.{◌≡◌, true, ◌&&◌, ◌||◌, ◌++◌, ℕ, ◌+◌, ◌*◌, ◌<◌, ◌≤◌, length, drop};
 ghost use Rattle.rows.specs.Lowest.{lowest, some};
 ghost use Rattle.rows.specs.Row.{has, only_first, row_at};

@@ -1,4 +1,5 @@
 // Which records are consistent: the relations between events, the thirteen predicates and the thirteen models in specs/, and what follows from these in proofs/. The code has their types alone.
+#![tactic(auto)]
 
 // A predicate, in the paper's order.
 #[derive(Clone, Copy)]

@@ -1,4 +1,6 @@
 // The numbers that hosts are given for a break and for a refusal. What a call counts, it answers as it is.
+#![tactic(auto)]
+
 ghost use Rattle.std.specs.Prelude.{◌≡◌, ◌^◌, ◌<◌};
 ghost use Rattle.packed.specs.Packed.{packed_break, packed_refusal};
 

@@ -1,4 +1,6 @@
 // Events placed one by one in a table of rows, of which row b has the events that are before b. Rows are as wide as the one that is lent for what is placed.
+#![tactic(auto)]
+
 ghost use Rattle.std.specs.Prelude.{◌≡◌, true, ℕ, ◌<◌, ◌≤◌, length, get_or, drop};
 ghost use Rattle.rows.specs.Lowest.{lowest};
 ghost use Rattle.rows.specs.Row.{has};

@@ -1,4 +1,6 @@
 // The reader of grain position records: questions 1 and 3 to 10, and the words of its events.
+#![tactic(auto)]
+
 pub mod blocks;
 pub mod header;
 pub mod positions;

@@ -4,17 +4,16 @@ use mathlib.Core.Path.{◌≡◌, refl, sym, ap, ◌∙◌, subst}
 use mathlib.Core.Logic.{◌↔◌}
 use mathlib.Core.Bool.{true, false, not}
 use mathlib.Core.List.{List, ◌++◌}
-use Prim.Native.Nat.{ℕ, ◌+◌, ◌*◌, ◌-◌, ◌/◌, ◌<◌, ◌≤◌}
+use Prim.Native.Nat.{ℕ, ◌*◌, ◌-◌, ◌/◌, ◌<◌, ◌≤◌}
 use native.Mathlib.Nat.{mul-le-mul_right}
 use native.Mathlib.Omega.{arith}
-use borrow.Author.Tests.{eq-eqb, ne_eqb, ltb-true}
-use lib.Dec.{ltb, leb}
+use borrow.Author.Tests.{eq-eqb, ne_eqb}
+use lib.Dec.{leb}
 use lib.ListN.{length, length-append}
 use Rattle.packed.specs.Packed.{places, packed_refusal}
-use Rattle.rows.specs.Octets.{has_byte}
 use Rattle.rows.specs.Row.{row_at}
 use Rattle.rows.specs.Relation.{Rel, reaches, Steps, Graph, Table}
-use Rattle.rows.proofs.Tests.{tell, never, and_left}
+use Rattle.rows.proofs.Tests.{tell, never}
 use Rattle.rows.proofs.RowLaws.{row_of}
 use Rattle.rows.proofs.ReachLaws.{reaches-sound, reaches_complete, table_graph}
 use Rattle.record.specs.declared.Reading.{Reading}

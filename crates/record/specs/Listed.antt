@@ -1,7 +1,7 @@
 -- Tiny histories, written event by event.
 use Rattle.std.specs.Prelude.{Bool, true, false, ◌||◌, List, [], ◌∷◌, ℕ, eqb, length, get_or}
 use Rattle.record.specs.History.{History}
-use Rattle.record.specs.Terms.{Held, none, value, is_value, value_or0, bare}
+use Rattle.record.specs.Terms.{Held, none, is_value, value_or0, bare}
 
 pub data Kind : Type 0 where
   a_read : Kind

@@ -1,4 +1,6 @@
 // What grain position records are: their format and the questions asked of them in specs/, what follows from these in proofs/. The code has their types, and where things stand in a record.
+#![tactic(auto)]
+
 pub mod layout;
 pub mod openings;
 pub mod sums;

@@ -2,12 +2,11 @@
 use mathlib.Core.Path.{◌≡◌, refl, sym, ap, ap₂, ◌∙◌}
 use mathlib.Core.Bool.{false}
 use mathlib.Core.List.{List}
-use Prim.Native.Nat.{ℕ, zero, suc, ◌+◌, ◌*◌, ◌<◌}
-use native.Mathlib.Omega.{arith}
+use Prim.Native.Nat.{ℕ, ◌+◌, ◌*◌, ◌<◌}
 use lib.ListN.{replicate}
 use lib.Seq.{sets}
 use Rattle.rows.proofs.CountLaws.{many_same}
-use Rattle.record.specs.Layout.{Layout, slot_at}
+use Rattle.record.specs.Layout.{Layout}
 use Rattle.record.specs.Terms.{is_value, value_or0, Terms, bare}
 use Rattle.record.specs.History.{History, under}
 use Rattle.record.specs.Encode.{slot_bytes, blocks_for, header_bytes, with_terms, with_slots, sealed, unsealed, record_bytes}

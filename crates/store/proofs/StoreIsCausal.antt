@@ -11,7 +11,7 @@ use Rattle.rows.specs.Relation.{reaches, Steps, one, more}
 use Rattle.rows.proofs.Tests.{split, never, or_elim, and_both, and_left, and_right}
 use Rattle.rows.proofs.ReachLaws.{reaches-sound}
 use Rattle.record.specs.Layout.{store_layout}
-use Rattle.record.specs.Terms.{value, is_value, Terms}
+use Rattle.record.specs.Terms.{is_value, Terms}
 use Rattle.record.specs.History.{History, under, vis}
 use Rattle.record.proofs.OpeningLaws.{held_again, none-zero}
 use Rattle.record.specs.WellFormed.{WellFormedEvent, WellFormedTerms, WellFormed}

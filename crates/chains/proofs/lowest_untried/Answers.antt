@@ -41,9 +41,9 @@ loop-n-init c =
 
 pub lowest_difference-m-requires : goal.lowest_difference-m-requires
 lowest_difference-m-requires c = record {
-      a_bound = omega (arith, (start c).requires.graph.fits);
-      a_in_bounds = omega (arith, c.loop-n.invariant.deep);
-    }
+  a_bound = omega (arith, (start c).requires.graph.fits);
+  a_in_bounds = omega (arith, c.loop-n.invariant.deep);
+}
 
 pub shape_of-tried-then-past-m : goal.shape_of-tried-then-past-m
 shape_of-tried-then-past-m c =

@@ -1,40 +1,32 @@
 -- `explain::explain` meets its contract, one question after the other. Assumes nothing.
 use mathlib.Core.Path.{refl, sym, ◌∙◌}
 use mathlib.Core.List.{List}
-use Prim.Native.Nat.{ℕ, ◌≤◌}
+use Prim.Native.Nat.{ℕ}
 use lib.ListN.{length}
-use Rattle.record.specs.Layout.{edition_of, work_words}
+use Rattle.record.specs.Layout.{edition_of}
 use Rattle.record.specs.Words.{work_after}
 use Rattle.judge.proofs.JudgmentLaws.{granted}
 use Rattle.explain.specs.Explanations.{explained_record, entries_after, work_left}
 use Rattle.explain.proofs.ExplanationLaws.{explained_as, few_entries, enough_entries}
 use Rattle.explain.proofs.TellsLaws.{tells_why}
-use borrow.Author.Rules.{rules}
-use Rattle.explain.proofs.explain.Goals.{After-admit, In-Granted, Start}
+use Rattle.explain.proofs.explain.Goals.{Start}
 use Rattle.explain.proofs.explain.Goals as goal
-
--- the places on the way, by name
-abbrev start : After-admit → Start
-start c = (goal.at.After-admit c).Start
 
 -- the lengths of the slices, and the record
 abbrev words : Start → ℕ
-words c = length c.args.work.now
+words s = length s.args.work.now
 
 abbrev entries : Start → ℕ
-entries c = length c.args.entries.now
+entries s = length s.args.entries.now
 
 abbrev bytes : Start → List ℕ
-bytes c = c.args.s.now
-
-within : (c : In-Granted) → let s = start (goal.at.In-Granted c).After-admit in (work_words ≤ words s) × (1 ≤ s.args.number) × (s.args.number ≤ 13)
-within c = let s = start (goal.at.In-Granted c).After-admit in granted (words s) s.args.number (sym c.admit.ensures ∙ c.enum_told-in-Granted-1.given.1)
+bytes s = s.args.s.now
 
 pub returns-then-entries-lt-EVENTS : goal.returns-then-entries-lt-EVENTS
 unfolding entries_after work_left work_after
 returns-then-entries-lt-EVENTS c =
-    let s = start (goal.at.returns-then-entries-lt-EVENTS c).After-admit in
-    let q = few_entries (entries s) (explained_record (edition_of (bytes s)) s.args.number (bytes s)) c.if-entries-lt-EVENTS.true ∙ explained_as (words s) (entries s) s.args.number (bytes s) c.admit.ensures c.enum_told-in-Granted-1.given.1 in record {
+    let s = (goal.at.returns-then-entries-lt-EVENTS c).Start in
+    let q = few_entries (entries s) (explained_record (edition_of (bytes s)) s.args.number (bytes s)) c.if-entries-lt-EVENTS.true ∙ explained_as (words s) (entries s) s.args.number (bytes s) c.admit.ensures c.in-Granted.is in record {
       value = q;
       entries_after = refl;
       work_after = refl;
@@ -43,14 +35,15 @@ returns-then-entries-lt-EVENTS c =
 
 pub explain_record-requires : goal.explain_record-requires
 explain_record-requires c =
-    let w = within (goal.at.explain_record-requires c).In-Granted in
+    let s = (goal.at.explain_record-requires c).Start in
+    let w = granted (words s) s.args.number (sym c.admit.ensures ∙ c.in-Granted.is) in
     (w.0, w.1, w.2, c.if-entries-lt-EVENTS.false)
 
 pub returns-in-TooFewWords : goal.returns-in-TooFewWords
 unfolding entries_after work_left work_after
 returns-in-TooFewWords c =
-    let s = start (goal.at.returns-in-TooFewWords c).After-admit in
-    let q = explained_as (words s) (entries s) s.args.number (bytes s) c.admit.ensures c.enum_told-1.given.1 in record {
+    let s = (goal.at.returns-in-TooFewWords c).Start in
+    let q = explained_as (words s) (entries s) s.args.number (bytes s) c.admit.ensures c.in-TooFewWords.is in record {
       value = q;
       entries_after = refl;
       work_after = refl;
@@ -60,8 +53,8 @@ returns-in-TooFewWords c =
 pub returns-in-OutOfRange : goal.returns-in-OutOfRange
 unfolding entries_after work_left work_after
 returns-in-OutOfRange c =
-    let s = start (goal.at.returns-in-OutOfRange c).After-admit in
-    let q = explained_as (words s) (entries s) s.args.number (bytes s) c.admit.ensures c.enum_told-in-OutOfRange-1.given.1 in record {
+    let s = (goal.at.returns-in-OutOfRange c).Start in
+    let q = explained_as (words s) (entries s) s.args.number (bytes s) c.admit.ensures c.in-OutOfRange.is in record {
       value = q;
       entries_after = refl;
       work_after = refl;
@@ -70,9 +63,9 @@ returns-in-OutOfRange c =
 
 pub returns-else-entries-lt-EVENTS : goal.returns-else-entries-lt-EVENTS
 returns-else-entries-lt-EVENTS c =
-    let s = start (goal.at.returns-else-entries-lt-EVENTS c).After-admit in
+    let s = (goal.at.returns-else-entries-lt-EVENTS c).Start in
     let r = c.explain_record in
-    let q = r.ensures.value ∙ enough_entries (entries s) (explained_record (edition_of (bytes s)) s.args.number (bytes s)) c.if-entries-lt-EVENTS.false ∙ explained_as (words s) (entries s) s.args.number (bytes s) c.admit.ensures c.enum_told-in-Granted-1.given.1 in record {
+    let q = r.ensures.value ∙ enough_entries (entries s) (explained_record (edition_of (bytes s)) s.args.number (bytes s)) c.if-entries-lt-EVENTS.false ∙ explained_as (words s) (entries s) s.args.number (bytes s) c.admit.ensures c.in-Granted.is in record {
       value = q;
       entries_after = r.ensures.entries_after;
       work_after = r.ensures.work_after;

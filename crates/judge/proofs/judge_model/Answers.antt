@@ -12,23 +12,18 @@ use Rattle.judge.proofs.ClocksJudged.{by_clocks_lem}
 use Rattle.judge.proofs.KeptLaws.{verdict-kept}
 use Rattle.judge.proofs.CoversExactly.{tells_others}
 use Rattle.judge.proofs.JudgmentLaws.{granted, judged_as}
-use borrow.Author.Rules.{rules}
-use Rattle.judge.proofs.judge_model.Goals.{After-admit, In-Granted, Start}
+use Rattle.judge.proofs.judge_model.Goals.{In-Granted, Start}
 use Rattle.judge.proofs.judge_model.Goals as goal
-
--- the places on the way, by name
-abbrev start : After-admit → Start
-start c = (goal.at.After-admit c).Start
 
 -- the length of the work slice, and the record
 abbrev words : Start → ℕ
-words c = length c.args.work.now
+words s = length s.args.work.now
 
 abbrev bytes : Start → List ℕ
-bytes c = c.args.s.now
+bytes s = s.args.s.now
 
-within : (c : In-Granted) → let s = start (goal.at.In-Granted c).After-admit in (work_words ≤ words s) × (1 ≤ s.args.number) × (s.args.number ≤ 13)
-within c = let s = start (goal.at.In-Granted c).After-admit in granted (words s) s.args.number (sym c.admit.ensures ∙ c.enum_told-in-Granted-1.given.1)
+within : (c : In-Granted) → let s = (goal.at.In-Granted c).Start in (work_words ≤ words s) × (1 ≤ s.args.number) × (s.args.number ≤ 13)
+within c = let s = (goal.at.In-Granted c).Start in granted (words s) s.args.number (sym c.admit.ensures ∙ c.in-Granted.is)
 
 pub of_model-requires : goal.of_model-requires
 of_model-requires c = let w = within c in (w.1, w.2)
@@ -39,8 +34,8 @@ judge_list-requires c = ((within (goal.at.judge_list-requires c).In-Granted).0, 
 pub returns-in-TooFewWords : goal.returns-in-TooFewWords
 unfolding model_judgment work_after
 returns-in-TooFewWords c =
-    let s = start (goal.at.returns-in-TooFewWords c).After-admit in
-    let q = judged_as (words s) s.args.number (bytes s) (list_of s.args.number) c.admit.ensures c.enum_told-1.given.1 in record {
+    let s = (goal.at.returns-in-TooFewWords c).Start in
+    let q = judged_as (words s) s.args.number (bytes s) (list_of s.args.number) c.admit.ensures c.in-TooFewWords.is in record {
       value = q;
       exact_of = exact_of (edition_of (bytes s)) (words s) s.args.number (list_of s.args.number) (bytes s) q;
       by_clocks = by_clocks_lem (words s) s.args.number (list_of s.args.number) (bytes s) q;
@@ -52,8 +47,8 @@ returns-in-TooFewWords c =
 pub returns-in-OutOfRange : goal.returns-in-OutOfRange
 unfolding model_judgment work_after
 returns-in-OutOfRange c =
-    let s = start (goal.at.returns-in-OutOfRange c).After-admit in
-    let q = judged_as (words s) s.args.number (bytes s) (list_of s.args.number) c.admit.ensures c.enum_told-in-OutOfRange-1.given.1 in record {
+    let s = (goal.at.returns-in-OutOfRange c).Start in
+    let q = judged_as (words s) s.args.number (bytes s) (list_of s.args.number) c.admit.ensures c.in-OutOfRange.is in record {
       value = q;
       exact_of = exact_of (edition_of (bytes s)) (words s) s.args.number (list_of s.args.number) (bytes s) q;
       by_clocks = by_clocks_lem (words s) s.args.number (list_of s.args.number) (bytes s) q;
@@ -65,9 +60,9 @@ returns-in-OutOfRange c =
 pub returns-in-Granted : goal.returns-in-Granted
 unfolding model_judgment
 returns-in-Granted c =
-    let s = start (goal.at.returns-in-Granted c).After-admit in
+    let s = (goal.at.returns-in-Granted c).Start in
     let r = c.judge_list in
-    let q = r.ensures.value ∙ ap (judged_list (edition_of (bytes s)) (bytes s)) c.of_model.ensures.0 ∙ judged_as (words s) s.args.number (bytes s) (list_of s.args.number) c.admit.ensures c.enum_told-in-Granted-1.given.1 in record {
+    let q = r.ensures.value ∙ ap (judged_list (edition_of (bytes s)) (bytes s)) c.of_model.ensures.0 ∙ judged_as (words s) s.args.number (bytes s) (list_of s.args.number) c.admit.ensures c.in-Granted.is in record {
       value = q;
       exact_of = exact_of (edition_of (bytes s)) (words s) s.args.number (list_of s.args.number) (bytes s) q;
       by_clocks = by_clocks_lem (words s) s.args.number (list_of s.args.number) (bytes s) q;

@@ -1,11 +1,10 @@
 use mathlib.Core.Path.{sym, ◌∙◌}
-use Prim.Native.Nat.{◌-◌}
 use native.Mathlib.Omega.{arith}
 use lib.ListN.{length}
 use Rattle.rows.specs.Row.{has}
 use Rattle.rows.specs.Relation.{related}
 use Rattle.rows.specs.Placing.{ready}
-use Rattle.rows.proofs.LowestLaws.{Searched, searched_start, searched_more, searched_hit, searched_end}
+use Rattle.rows.proofs.LowestLaws.{searched_start, searched_more, searched_hit, searched_end}
 use Rattle.placing.proofs.next_ready.Goals as goal
 
 pub loop-e-init : goal.loop-e-init

@@ -1,12 +1,10 @@
 -- `placing::next_ready` meets its contract: the events are passed in turn up to the first that is ready. Assumes nothing.
-use mathlib.Core.Path.{sym, ◌∙◌}
 use Prim.Native.Nat.{◌-◌}
-use native.Mathlib.Omega.{arith}
 use lib.ListN.{length}
 use Rattle.rows.specs.Row.{has}
 use Rattle.rows.specs.Relation.{related}
 use Rattle.rows.specs.Placing.{ready}
-use Rattle.rows.proofs.LowestLaws.{Searched, searched_start, searched_more, searched_hit, searched_end}
+use Rattle.rows.proofs.LowestLaws.{Searched}
 use Rattle.placing.proofs.next_ready.Given as goal
 
 abbrev pub invariant-loop-e : goal.invariant-loop-e

@@ -1,13 +1,11 @@
 use mathlib.Core.Path.{◌≡◌, refl, sym, ap, ◌∙◌}
 use mathlib.Core.Bool.{false≢true}
-use Prim.Native.Nat.{◌-◌}
 use native.Mathlib.Omega.{arith}
-use borrow.Author.Rules.{rules}
 use lib.ListN.{length, length-replicate}
 use Rattle.rows.specs.Row.{has}
 use Rattle.rows.specs.Relation.{related}
 use Rattle.rows.specs.Placing.{next_ready}
-use Rattle.placing.proofs.ReadyLaws.{Going, going_start, going_stuck, going_end, going_more}
+use Rattle.placing.proofs.ReadyLaws.{going_start, going_stuck, going_end, going_more}
 use Rattle.placing.proofs.place.Goals.{After-next_ready-e, At-loop-i, Start}
 use Rattle.placing.proofs.place.Goals as goal
 

@@ -1,14 +1,8 @@
 -- `placing::place` meets its contract: after i turns i events are placed, and have their positions. Assumes nothing.
-use mathlib.Core.Path.{◌≡◌, refl, sym, ap, ◌∙◌}
-use mathlib.Core.Bool.{false≢true}
 use Prim.Native.Nat.{◌-◌}
-use native.Mathlib.Omega.{arith}
-use borrow.Author.Rules.{rules}
-use lib.ListN.{length, length-replicate}
-use Rattle.rows.specs.Row.{has}
+use lib.ListN.{length}
 use Rattle.rows.specs.Relation.{related}
-use Rattle.rows.specs.Placing.{next_ready}
-use Rattle.placing.proofs.ReadyLaws.{Going, going_start, going_stuck, going_end, going_more}
+use Rattle.placing.proofs.ReadyLaws.{Going}
 use Rattle.placing.proofs.place.Given as goal
 
 abbrev pub invariant-loop-i : goal.invariant-loop-i

@@ -51,10 +51,10 @@ count-n-requires c = (length-says (edition_of (bytes (asked c))) (bytes (asked c
 
 pub ask-requires : goal.ask-requires
 ask-requires c = record {
-      n_value = (c.count-n.ensures, (asked (goal.at.ask-requires c).Else-number-ne0).before.edition-ed.ensures, omega (arith, c.count-n.ensures, few (goal.at.ask-requires c).Else-number-ne0));
-      n_in_bounds = rw c.count-n.ensures (omega (arith, blocks_say (edition_of (bytes (asked (goal.at.ask-requires c).Else-number-ne0))) (bytes (asked (goal.at.ask-requires c).Else-number-ne0)) (right (goal.at.ask-requires c).Else-number-ne0).blocks));
-      work_words_in_bounds = search rules;
-    }
+  n_value = (c.count-n.ensures, (asked (goal.at.ask-requires c).Else-number-ne0).before.edition-ed.ensures, omega (arith, c.count-n.ensures, few (goal.at.ask-requires c).Else-number-ne0));
+  n_in_bounds = rw c.count-n.ensures (omega (arith, blocks_say (edition_of (bytes (asked (goal.at.ask-requires c).Else-number-ne0))) (bytes (asked (goal.at.ask-requires c).Else-number-ne0)) (right (goal.at.ask-requires c).Else-number-ne0).blocks));
+  work_words_in_bounds = search rules;
+}
 
 pub returns : goal.returns
 returns c =

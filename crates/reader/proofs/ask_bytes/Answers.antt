@@ -5,7 +5,6 @@ use mathlib.Core.List.{List}
 use Prim.Native.Nat.{ℕ, ◌*◌, ◌-◌, ◌/◌, ◌%◌, ◌≤◌}
 use native.Mathlib.Nat.{mul-le-mul_right}
 use native.Mathlib.Omega.{arith}
-use borrow.Author.Rules.{rules}
 use lib.ListN.{length}
 use Rattle.rows.specs.Lowest.{lowest}
 use Rattle.rows.proofs.Tests.{told_true, told_false}
@@ -136,9 +135,9 @@ returns-then-blocks c =
 
 pub wrong_slot-slot-requires : goal.wrong_slot-slot-requires
 wrong_slot-slot-requires c = record {
-      n_value = (c.count-n.ensures, (start4 c).requires);
-      in_bounds = (long (goal.at.wrong_slot-slot-requires c).Else-not-length_holds).0;
-    }
+  n_value = (c.count-n.ensures, (start4 c).requires);
+  in_bounds = (long (goal.at.wrong_slot-slot-requires c).Else-not-length_holds).0;
+}
 
 pub overflow_sub-blocks : goal.overflow_sub-blocks
 overflow_sub-blocks c = omega (arith, (long (goal.at.overflow_sub-blocks c).Else-not-length_holds).0)
@@ -155,10 +154,10 @@ returns-then-slot-ed c =
 
 pub wrong_position-event-requires : goal.wrong_position-event-requires
 wrong_position-event-requires c = record {
-      n_value = (c.count-n.ensures, (start4 (goal.at.wrong_position-event-requires c).Else-blocks).requires);
-      n_in_bounds = omega (arith, asked (goal.at.wrong_position-event-requires c).Else-blocks);
-      n_bound = few (goal.at.wrong_position-event-requires c).After-count-n;
-    }
+  n_value = (c.count-n.ensures, (start4 (goal.at.wrong_position-event-requires c).Else-blocks).requires);
+  n_in_bounds = omega (arith, asked (goal.at.wrong_position-event-requires c).Else-blocks);
+  n_bound = few (goal.at.wrong_position-event-requires c).After-count-n;
+}
 
 pub returns-then-event-n : goal.returns-then-event-n
 returns-then-event-n c =

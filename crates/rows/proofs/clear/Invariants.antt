@@ -1,11 +1,8 @@
 -- `rows::clear` meets its contract: the first i words are zero, and the rest as they were. Assumes nothing.
-use mathlib.Core.Path.{◌≡◌, refl, ◌∙◌, ap}
+use mathlib.Core.Path.{◌≡◌}
 use mathlib.Core.List.{◌++◌}
 use Prim.Native.Nat.{◌-◌, ◌≤◌}
-use native.Mathlib.Omega.{arith}
-use borrow.Author.Rules.{rules}
-use lib.ListN.{length, drop, replicate, length-replicate}
-use Rattle.rows.proofs.FrontLaws.{front-more, front_all, replicate_more}
+use lib.ListN.{length, drop, replicate}
 use Rattle.rows.proofs.clear.Given as goal
 
 abbrev pub invariant-loop-i : goal.invariant-loop-i

@@ -1,12 +1,8 @@
 -- `rows::copy` meets its contract: the first i words are those of `src`, and the rest as they were. Assumes nothing.
-use mathlib.Core.Path.{◌≡◌, refl, ◌∙◌, ap₂}
+use mathlib.Core.Path.{◌≡◌}
 use mathlib.Core.List.{◌++◌}
 use Prim.Native.Nat.{◌-◌, ◌≤◌}
-use native.Mathlib.Omega.{arith}
-use borrow.Author.Rules.{rules}
-use lib.ListN.{length, drop, take, get_or}
-use lib.Seq.{length-take-le, take_all}
-use Rattle.rows.proofs.FrontLaws.{front-more, take_more}
+use lib.ListN.{length, drop, take}
 use Rattle.rows.proofs.copy.Given as goal
 
 abbrev pub invariant-loop-i : goal.invariant-loop-i

@@ -1,11 +1,11 @@
 use mathlib.Core.Path.{◌≡◌, sym, ◌∙◌}
 use mathlib.Core.List.{List}
-use Prim.Native.Nat.{ℕ, ◌-◌, ◌≤◌}
+use Prim.Native.Nat.{ℕ}
 use native.Mathlib.Omega.{arith}
 use borrow.Author.Rules.{rules}
-use lib.ListN.{length, take}
+use lib.ListN.{length}
 use Rattle.rows.specs.Row.{insert}
-use Rattle.rows.proofs.RowLaws.{length-insert, word_insert, and_not, merge, merge_none, merge-more, merge_all, minus_merge}
+use Rattle.rows.proofs.RowLaws.{length-insert, word_insert, and_not, merge_none, merge-more, merge_all, minus_merge}
 use Rattle.rows.proofs.discard.Goals as goal
 
 pub loop-i-init : goal.loop-i-init

@@ -1,12 +1,9 @@
 -- `rows::discard` meets its contract: the first i words of `src`, with b in it, are taken out. Assumes nothing.
-use mathlib.Core.Path.{◌≡◌, sym, ◌∙◌}
-use mathlib.Core.List.{List}
-use Prim.Native.Nat.{ℕ, ◌-◌, ◌≤◌}
-use native.Mathlib.Omega.{arith}
-use borrow.Author.Rules.{rules}
+use mathlib.Core.Path.{◌≡◌}
+use Prim.Native.Nat.{◌-◌, ◌≤◌}
 use lib.ListN.{length, take}
 use Rattle.rows.specs.Row.{insert}
-use Rattle.rows.proofs.RowLaws.{length-insert, word_insert, and_not, merge, merge_none, merge-more, merge_all, minus_merge}
+use Rattle.rows.proofs.RowLaws.{and_not, merge}
 use Rattle.rows.proofs.discard.Given as goal
 
 abbrev pub invariant-loop-i : goal.invariant-loop-i

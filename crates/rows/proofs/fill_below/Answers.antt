@@ -1,10 +1,7 @@
-use Prim.Native.Nat.{◌-◌, ◌≤◌}
 use native.Mathlib.Omega.{arith}
-use borrow.Author.Rules.{rules}
-use lib.ListN.{length}
 use Rattle.rows.specs.Row.{below_word}
 use Rattle.rows.proofs.RowLaws.{row_below}
-use Rattle.rows.proofs.StoredLaws.{Stored, stored_none, stored_more}
+use Rattle.rows.proofs.StoredLaws.{stored_none, stored_more}
 use Rattle.rows.proofs.fill_below.Goals as goal
 
 pub loop-i-init : goal.loop-i-init

@@ -1,11 +1,8 @@
 -- `rows::fill_below` meets its contract: the words passed are those of the numbers below n. Assumes nothing.
 use Prim.Native.Nat.{◌-◌, ◌≤◌}
-use native.Mathlib.Omega.{arith}
-use borrow.Author.Rules.{rules}
 use lib.ListN.{length}
 use Rattle.rows.specs.Row.{below_word}
-use Rattle.rows.proofs.RowLaws.{row_below}
-use Rattle.rows.proofs.StoredLaws.{Stored, stored_none, stored_more}
+use Rattle.rows.proofs.StoredLaws.{Stored}
 use Rattle.rows.proofs.fill_below.Given as goal
 
 abbrev pub invariant-loop-i : goal.invariant-loop-i

@@ -1,11 +1,9 @@
 use mathlib.Core.Path.{refl, sym}
-use Prim.Native.Nat.{◌-◌, ◌≤◌}
 use native.Mathlib.Omega.{arith}
-use borrow.Author.Rules.{rules}
-use lib.ListN.{length, get_or}
+use lib.ListN.{get_or}
 use Rattle.rows.specs.Row.{insert}
 use Rattle.rows.proofs.RowLaws.{length-insert, word_insert}
-use Rattle.rows.proofs.StoredLaws.{Stored, stored_none, stored_more, stored_all}
+use Rattle.rows.proofs.StoredLaws.{stored_none, stored_more, stored_all}
 use Rattle.rows.proofs.insert.Goals as goal
 
 pub loop-i-init : goal.loop-i-init

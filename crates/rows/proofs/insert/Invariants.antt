@@ -1,12 +1,8 @@
 -- `rows::insert` meets its contract: the words passed are those of the row with b in it. Assumes nothing.
-use mathlib.Core.Path.{refl, sym}
 use Prim.Native.Nat.{◌-◌, ◌≤◌}
-use native.Mathlib.Omega.{arith}
-use borrow.Author.Rules.{rules}
 use lib.ListN.{length, get_or}
 use Rattle.rows.specs.Row.{insert}
-use Rattle.rows.proofs.RowLaws.{length-insert, word_insert}
-use Rattle.rows.proofs.StoredLaws.{Stored, stored_none, stored_more, stored_all}
+use Rattle.rows.proofs.StoredLaws.{Stored}
 use Rattle.rows.proofs.insert.Given as goal
 
 abbrev pub invariant-loop-i : goal.invariant-loop-i

@@ -1,10 +1,9 @@
 -- `rows::intersect` meets its contract: the first i words of `src` are and-ed in. Assumes nothing.
-use mathlib.Core.Path.{◌≡◌, sym, ◌∙◌}
+use mathlib.Core.Path.{◌≡◌}
 use Prim.Native.Nat.{◌-◌, ◌≤◌}
-use borrow.Author.Rules.{rules}
 use lib.Bits.{bit_and}
 use lib.ListN.{length, take}
-use Rattle.rows.proofs.RowLaws.{merge, merge_none, merge-more, merge_all, and-merge}
+use Rattle.rows.proofs.RowLaws.{merge}
 use Rattle.rows.proofs.intersect.Given as goal
 
 abbrev pub invariant-loop-i : goal.invariant-loop-i

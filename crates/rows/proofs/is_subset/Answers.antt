@@ -1,6 +1,5 @@
 -- `rows::is_subset` meets its contract: no number is only in `a` where the lowest such is past the end. Assumes nothing.
 use Prim.Native.Nat.{◌*◌}
-use borrow.Author.Rules.{rules}
 use lib.ListN.{length}
 use Rattle.rows.specs.Row.{only_first}
 use Rattle.rows.proofs.LowestLaws.{none_test}

@@ -1,11 +1,9 @@
-use mathlib.Core.Path.{◌≡◌, refl}
-use Prim.Native.Nat.{◌-◌, ◌≤◌}
+use mathlib.Core.Path.{refl}
 use native.Mathlib.Omega.{arith}
-use borrow.Author.Rules.{rules}
 use lib.Bits.{bit_and}
-use lib.ListN.{length, get_or}
+use lib.ListN.{get_or}
 use Rattle.rows.proofs.RowLaws.{lacking}
-use Rattle.rows.proofs.JoinLaws.{Joining, joining_none, joining_more, joining_all, outside, outside_word, outside_past}
+use Rattle.rows.proofs.JoinLaws.{joining_none, joining_more, joining_all, outside, outside_word, outside_past}
 use Rattle.rows.proofs.join_outside.Goals as goal
 
 pub loop-i-init : goal.loop-i-init

@@ -1,12 +1,8 @@
 -- `rows::join_outside` meets its contract: the words passed have what q and s have and r lacks too. Assumes nothing.
-use mathlib.Core.Path.{◌≡◌, refl}
+use mathlib.Core.Path.{◌≡◌}
 use Prim.Native.Nat.{◌-◌, ◌≤◌}
-use native.Mathlib.Omega.{arith}
-use borrow.Author.Rules.{rules}
-use lib.Bits.{bit_and}
-use lib.ListN.{length, get_or}
-use Rattle.rows.proofs.RowLaws.{lacking}
-use Rattle.rows.proofs.JoinLaws.{Joining, joining_none, joining_more, joining_all, outside, outside_word, outside_past}
+use lib.ListN.{length}
+use Rattle.rows.proofs.JoinLaws.{Joining, outside}
 use Rattle.rows.proofs.join_outside.Given as goal
 
 abbrev pub invariant-loop-i : goal.invariant-loop-i

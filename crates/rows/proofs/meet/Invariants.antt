@@ -1,14 +1,9 @@
 -- `rows::meet` meets its contract: the words passed are those of what all three have. Assumes nothing.
-use mathlib.Core.Path.{◌≡◌, refl, sym, ap, ◌∙◌}
 use mathlib.Core.List.{List}
 use Prim.Native.Nat.{ℕ, ◌-◌, ◌≤◌}
-use native.Mathlib.Omega.{arith}
-use borrow.Author.Rules.{rules}
-use lib.Bits.{bit_and}
 use lib.ListN.{length, get_or}
 use Rattle.rows.specs.Row.{and_row}
-use Rattle.rows.proofs.RowLaws.{length-and, get_d_and}
-use Rattle.rows.proofs.StoredLaws.{Stored, stored_none, stored_more, stored_all}
+use Rattle.rows.proofs.StoredLaws.{Stored}
 use Rattle.rows.proofs.meet.Given as goal
 
 abbrev pub met : List ℕ → List ℕ → List ℕ → List ℕ

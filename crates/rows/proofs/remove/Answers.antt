@@ -1,7 +1,6 @@
 -- `rows::remove` meets its contract: `!(1 << k)` is the mask of `erase`. Assumes nothing.
 use Prim.Native.Nat.{◌%◌}
 use native.Mathlib.Omega.{arith}
-use borrow.Author.Rules.{rules}
 use Rattle.rows.specs.Row.{erase}
 use Rattle.rows.proofs.Digits.{shl_one}
 use Rattle.rows.proofs.remove.Goals as goal

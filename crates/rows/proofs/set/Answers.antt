@@ -1,7 +1,6 @@
 -- `rows::set` meets its contract: `1 << k` is the power of two that `insert` puts in. Assumes nothing.
 use Prim.Native.Nat.{◌%◌}
 use native.Mathlib.Omega.{arith}
-use borrow.Author.Rules.{rules}
 use Rattle.rows.specs.Row.{insert}
 use Rattle.rows.proofs.Digits.{shl_one}
 use Rattle.rows.proofs.set.Goals as goal

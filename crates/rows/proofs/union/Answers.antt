@@ -1,9 +1,7 @@
-use mathlib.Core.Path.{◌≡◌, sym, ◌∙◌}
-use Prim.Native.Nat.{◌-◌, ◌≤◌}
+use mathlib.Core.Path.{sym, ◌∙◌}
 use borrow.Author.Rules.{rules}
 use lib.Bits.{bit_or}
-use lib.ListN.{length, take}
-use Rattle.rows.proofs.RowLaws.{merge, merge_none, merge-more, merge_all, or-merge}
+use Rattle.rows.proofs.RowLaws.{merge_none, merge-more, merge_all, or-merge}
 use Rattle.rows.proofs.union.Goals as goal
 
 pub loop-i-init : goal.loop-i-init

@@ -1,6 +1,5 @@
 -- `rows::union_at` meets its contract: the part from `at` on that is as wide as `dst`. Assumes nothing.
 use native.Mathlib.Nat.{add-sub_cancel_left}
-use borrow.Author.Rules.{rules}
 use Rattle.rows.proofs.union_at.Goals as goal
 
 pub returns : goal.returns

@@ -1,6 +1,5 @@
 -- `rows::union_into` meets its contract: the part from `at` on that is as wide as `src`, with what stands around it. Assumes nothing.
 use native.Mathlib.Nat.{add-sub_cancel_left}
-use borrow.Author.Rules.{rules}
 use Rattle.rows.proofs.union_into.Goals as goal
 
 pub returns : goal.returns

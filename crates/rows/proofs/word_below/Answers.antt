@@ -2,7 +2,6 @@
 use Prim.Native.Nat.{◌%◌}
 use native.Mathlib.Omega.{arith}
 use lib.Pow.{pow_pos}
-use borrow.Author.Rules.{rules}
 use Rattle.rows.proofs.Digits.{shl_one}
 use Rattle.rows.proofs.RowLaws.{below-full, below_none, below-part}
 use Rattle.rows.proofs.word_below.Goals as goal

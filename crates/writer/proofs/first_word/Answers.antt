@@ -1,6 +1,5 @@
 -- `writer::first_word` meets its contract: each part is below what the next is multiplied by. Assumes nothing.
 use native.Mathlib.Omega.{arith}
-use borrow.Author.Rules.{rules}
 use Rattle.record.specs.Encode.{bit}
 use Rattle.record.proofs.NumberBytes.{bit_le}
 use Rattle.record.proofs.SlotStored.{first_word_bytes}

@@ -1,13 +1,10 @@
 -- `writer::put_row` meets its contract. The loop's invariant: the first i words are stored. Assumes nothing.
-use mathlib.Core.Path.{◌≡◌, refl, ap, ◌∙◌}
-use Prim.Native.Nat.{ℕ, ◌+◌, ◌*◌, ◌-◌, ◌≤◌}
-use native.Mathlib.Omega.{arith}
-use borrow.Author.Rules.{rules}
+use mathlib.Core.Path.{◌≡◌}
+use Prim.Native.Nat.{◌*◌, ◌-◌, ◌≤◌}
 use lib.ListN.{length}
 use lib.Seq.{sets}
 use Rattle.rows.specs.Row.{has}
 use Rattle.record.specs.Encode.{set_bytes}
-use Rattle.record.proofs.WordBytes.{row-none, row_stored}
 use Rattle.writer.proofs.put_row.Given as goal
 
 abbrev pub invariant-loop-i : goal.invariant-loop-i

@@ -1,5 +1,4 @@
 -- `writer::put_slot` meets its contract: the words of the fields, and then those of the row. Assumes nothing.
-use borrow.Author.Rules.{rules}
 use Rattle.record.proofs.SlotStored.{slot_stored}
 use Rattle.writer.proofs.put_slot.Goals as goal
 

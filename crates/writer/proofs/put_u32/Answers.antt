@@ -1,6 +1,5 @@
 -- `writer::put_u32` meets its contract: two halves of two bytes. Assumes nothing.
 use native.Mathlib.Omega.{arith}
-use borrow.Author.Rules.{rules}
 use lib.Bits.{and_mask, mask_lt}
 use Rattle.record.proofs.WordBytes.{halves_stored}
 use Rattle.writer.proofs.put_u32.Goals as goal

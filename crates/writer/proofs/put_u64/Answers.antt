@@ -1,6 +1,5 @@
 -- `writer::put_u64` meets its contract: two halves of four bytes. Assumes nothing.
 use native.Mathlib.Omega.{arith}
-use borrow.Author.Rules.{rules}
 use lib.Bits.{and_mask, mask_lt}
 use Rattle.record.proofs.WordBytes.{halves_stored}
 use Rattle.writer.proofs.put_u64.Goals as goal

@@ -1,7 +1,5 @@
 use mathlib.Core.Path.{◌∙◌, ap, ◌≡◌}
-use Prim.Native.Nat.{◌-◌, ◌≤◌}
 use native.Mathlib.Omega.{arith}
-use lib.ListN.{length}
 use borrow.Author.Rules.{rules}
 use Rattle.record.specs.Encode.{sealed}
 use Rattle.record.proofs.SealLaws.{sum_a_lt, sum_b_lt, sealed-none, sealed-more}

@@ -1,10 +1,7 @@
 -- `writer::terms` meets its contract: the difference stands before the bytes that are copied, which are those of what they say. Assumes nothing.
-use mathlib.Core.Path.{◌≡◌, sym, ap, ◌∙◌}
-use mathlib.Core.List.{List, [], ◌++◌}
-use Prim.Native.Nat.{ℕ}
+use mathlib.Core.Path.{sym, ap, ◌∙◌}
 use native.Mathlib.Omega.{arith}
-use lib.ListN.{length, take, drop, length-drop}
-use lib.Seq.{length-take-le}
+use lib.ListN.{length, take, drop}
 use borrow.Author.Rules.{rules}
 use Rattle.record.specs.declared.Edition.{Edition}
 use Rattle.record.specs.Encode.{with_terms}

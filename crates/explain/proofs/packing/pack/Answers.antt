@@ -1,19 +1,12 @@
 -- `explain::packing::pack` meets its contract, by the case of the explanation. Assumes nothing.
-use mathlib.Core.Path.{◌≡◌, sym, ap, ap₂, ◌∙◌}
+use mathlib.Core.Path.{sym, ap, ap₂, ◌∙◌}
 use native.Mathlib.Omega.{arith}
 use Rattle.packed.specs.Packed.{packed_refusal}
-use Rattle.record.specs.Questions.{number_of, place_of}
 use Rattle.explain.specs.Explanations.{packed_explanation}
-use borrow.Author.Rules.{rules}
-use Rattle.explain.proofs.packing.pack.Goals.{In-Refused-2}
 use Rattle.explain.proofs.packing.pack.Goals as goal
 
--- the number of a refusal
-refused : (c : In-Refused-2) → packed_explanation c.args.e ≡ packed_refusal (number_of c.e-in-Refused-1.given.0.0) (place_of c.e-in-Refused-1.given.0.0)
-refused c = ap packed_explanation c.e-in-Refused-1.given.1
-
 pub refusal-requires-in-Refused : goal.refusal-requires-in-Refused
-refusal-requires-in-Refused c = omega (arith, c.number.ensures, c.place.ensures, refused (goal.at.refusal-requires-in-Refused c).In-Refused-2, c.requires)
+refusal-requires-in-Refused c = omega (arith, c.number.ensures, c.place.ensures, ap packed_explanation c.in-Refused.is, c.requires)
 
 pub returns-in-Refused : goal.returns-in-Refused
-returns-in-Refused c = c.refusal-in-Refused.ensures ∙ ap₂ packed_refusal c.number.ensures c.place.ensures ∙ sym (refused (goal.at.returns-in-Refused c).In-Refused-2)
+returns-in-Refused c = c.refusal-in-Refused.ensures ∙ ap₂ packed_refusal c.number.ensures c.place.ensures ∙ sym (ap packed_explanation c.in-Refused.is)

@@ -14,38 +14,31 @@ use Rattle.record.specs.Layout.{row_words}
 use Rattle.tables.specs.Tables.{part}
 use Rattle.explain.specs.Steps.{step_in}
 use Rattle.explain.proofs.ToldLaws.{steps-related, steps_graph}
-use borrow.Author.Rules.{rules}
-use Rattle.explain.proofs.telling.write_chain.Goals.{After-union_into, Start}
+use Rattle.explain.proofs.telling.write_chain.Goals.{After-union_into}
 use Rattle.explain.proofs.telling.write_chain.Goals as goal
-
-abbrev start : After-union_into → Start
-start c = (goal.at.After-union_into c).Start
 
 -- the table, as it is lent
 abbrev steps : After-union_into → List ℕ
-steps c = slice_at c.union_into.new.rows ((start c).args.n * row_words) 1
+steps c = slice_at c.union_into.new.rows (c.args.n * row_words) 1
 
-lent : (c : After-union_into) → steps c ≡ part (start c).args.n row_words 1 c.union_into.new.rows
-lent c = slice_row c.union_into.new.rows ((start c).args.n * row_words) 1
+lent : (c : After-union_into) → steps c ≡ part c.args.n row_words 1 c.union_into.new.rows
+lent c = slice_row c.union_into.new.rows (c.args.n * row_words) 1
 
 -- its steps are those that the tables have
-same : (c : After-union_into) → let a = (start c).args in (x y : ℕ) → x < a.n → y < a.n → related (steps c) row_words x y ≡ step_in a.n a.t.now a.v.now x y
+same : (c : After-union_into) → let a = c.args in (x y : ℕ) → x < a.n → y < a.n → related (steps c) row_words x y ≡ step_in a.n a.t.now a.v.now x y
 same c x y i j =
-    let s = start c in
-    let a = s.args in
-    ap (λ (g : List ℕ). related g row_words x y) (lent c) ∙ steps-related a.n a.v.now a.t.now c.union_into.new.rows s.requires.graph.0 s.requires.graph.1 s.requires.graph.2 c.union_into.ensures x y j
+    let a = c.args in
+    ap (λ (g : List ℕ). related g row_words x y) (lent c) ∙ steps-related a.n a.v.now a.t.now c.union_into.new.rows c.requires.graph.0 c.requires.graph.1 c.requires.graph.2 c.union_into.ensures x y j
 
-reached : (c : After-union_into) → let a = (start c).args in reaches a.n (related (steps c) row_words) a.a a.b ≡ true
+reached : (c : After-union_into) → let a = c.args in reaches a.n (related (steps c) row_words) a.a a.b ≡ true
 reached c =
-    let s = start c in
-    let a = s.args in
-    reaches_same a.n (related (steps c) row_words) (step_in a.n a.t.now a.v.now) (same c) a.a a.b s.requires.a_lt_n.0 s.requires.a_lt_n.1 ∙ s.requires.b_value
+    let a = c.args in
+    reaches_same a.n (related (steps c) row_words) (step_in a.n a.t.now a.v.now) (same c) a.a a.b c.requires.a_lt_n.0 c.requires.a_lt_n.1 ∙ c.requires.b_value
 
-told : (c : After-union_into) → let a = (start c).args in shortest_chain a.n (related (steps c) row_words) a.a a.b ≡ shortest_chain a.n (step_in a.n a.t.now a.v.now) a.a a.b
+told : (c : After-union_into) → let a = c.args in shortest_chain a.n (related (steps c) row_words) a.a a.b ≡ shortest_chain a.n (step_in a.n a.t.now a.v.now) a.a a.b
 told c =
-    let s = start c in
-    let a = s.args in
-    chain_same a.n (related (steps c) row_words) (step_in a.n a.t.now a.v.now) (same c) a.b s.requires.a_lt_n.1 a.a s.requires.a_lt_n.0 (reached c)
+    let a = c.args in
+    chain_same a.n (related (steps c) row_words) (step_in a.n a.t.now a.v.now) (same c) a.b c.requires.a_lt_n.1 a.a c.requires.a_lt_n.0 (reached c)
 
 pub slice_bounds-union_into-end : goal.slice_bounds-union_into-end
 slice_bounds-union_into-end c = omega (arith, c.requires.graph.0.size, length-take (c.args.n * row_words) c.args.v.now)
@@ -55,17 +48,17 @@ union_into-requires c = omega (arith, c.requires.graph.2, length-take (c.args.n 
 
 pub shortest-requires : goal.shortest-requires
 shortest-requires c =
-    let s = start (goal.at.shortest-requires c).After-union_into in
-    let a = s.args in record {
-      graph = (subst (λ (g : List ℕ). Graph g a.n row_words) (sym (lent (goal.at.shortest-requires c).After-union_into)) (steps_graph a.n a.v.now a.t.now c.union_into.new.rows s.requires.graph.0 s.requires.graph.1 s.requires.graph.2 c.union_into.ensures), omega arith, omega (arith, s.requires.graph.3));
-      a_lt_n = s.requires.a_lt_n;
-      b_value = reached (goal.at.shortest-requires c).After-union_into;
+    let u = (goal.at.shortest-requires c).After-union_into in
+    let a = c.args in record {
+      graph = (subst (λ (g : List ℕ). Graph g a.n row_words) (sym (lent u)) (steps_graph a.n a.v.now a.t.now c.union_into.new.rows c.requires.graph.0 c.requires.graph.1 c.requires.graph.2 c.union_into.ensures), omega arith, omega (arith, c.requires.graph.3));
+      a_lt_n = c.requires.a_lt_n;
+      b_value = reached u;
     }
 
 pub returns : goal.returns
 returns c =
-    let a = (start (goal.at.returns c).After-union_into).args in record {
-      value = c.shortest.ensures.value ∙ ap length (told (goal.at.returns c).After-union_into);
-      out_after = c.shortest.ensures.out_after ∙ ap (λ (l : List ℕ). l ++ drop c.shortest.result a.out.now) (told (goal.at.returns c).After-union_into);
+    let t = told (goal.at.returns c).After-union_into in record {
+      value = c.shortest.ensures.value ∙ ap length t;
+      out_after = c.shortest.ensures.out_after ∙ ap (λ (l : List ℕ). l ++ drop c.shortest.result c.args.out.now) t;
       t_after = c.union_into.ensures;
     }

@@ -4,7 +4,6 @@ use mathlib.Core.Bool.{Bool, ◌&&◌}
 use mathlib.Core.List.{List, ◌∷◌}
 use Prim.Native.Nat.{ℕ, ◌+◌, ◌*◌}
 use native.Mathlib.Omega.{arith}
-use borrow.Author.Rules.{rules}
 use lib.ListN.{length, drop}
 use Rattle.rows.specs.Lowest.{lowest}
 use Rattle.events.specs.Given.{writes_row}
@@ -16,11 +15,8 @@ use Rattle.rows.proofs.SliceLaws.{slice_at, length_slice}
 use Rattle.record.specs.Layout.{row_words}
 use Rattle.tables.specs.Tables.{part}
 use Rattle.explain.proofs.ToldLaws.{set_two, so_row}
-use Rattle.explain.proofs.telling.write_middle.Goals.{After-lowest_after-arg-2-1, After-lowest_after-middle, Start}
+use Rattle.explain.proofs.telling.write_middle.Goals.{After-lowest_after-middle, Start}
 use Rattle.explain.proofs.telling.write_middle.Goals as goal
-
-abbrev start : After-lowest_after-arg-2-1 → Start
-start c = (goal.at.After-lowest_after-arg-2-1 c).Start
 
 -- row b of so's table as it is lent
 abbrev lent : Start → List ℕ
@@ -36,12 +32,12 @@ is_row s = so_row s.args.n s.args.b s.args.t.now s.requires.row_words_in_bounds.
 abbrev between : Start → ℕ → Bool
 between s m = only_first (row_at (part s.args.n row_words 1 s.args.t.now) row_words s.args.b) (row_at s.args.groups.now row_words writes_row) m && related s.args.v.now row_words s.args.a m
 
-found : (c : After-lowest_after-middle) → c.lowest_after-middle.result ≡ lowest (start (goal.at.After-lowest_after-middle c).After-lowest_after-arg-2-1).args.n (between (start (goal.at.After-lowest_after-middle c).After-lowest_after-arg-2-1))
-found c = let s = start (goal.at.After-lowest_after-middle c).After-lowest_after-arg-2-1 in rw (wide s, is_row s) at c.lowest_after-middle.ensures
+found : (c : After-lowest_after-middle) → let s = (goal.at.After-lowest_after-middle c).Start in c.lowest_after-middle.result ≡ lowest s.args.n (between s)
+found c = let s = (goal.at.After-lowest_after-middle c).Start in rw (wide s, is_row s) at c.lowest_after-middle.ensures
 
 pub lowest_after-middle-requires : goal.lowest_after-middle-requires
 lowest_after-middle-requires c =
-    let s = start c in
+    let s = (goal.at.lowest_after-middle-requires c).Start in
     let w = wide s in record {
       graph = (rw w s.requires.graph.0, omega (arith, w));
       without_len = (length-row s.args.groups.now row_words writes_row (omega (arith, s.requires.row_words_in_bounds.0)) ∙ sym w, s.requires.row_words_in_bounds.1);
@@ -50,10 +46,10 @@ lowest_after-middle-requires c =
 
 pub overflow_cast-out : goal.overflow_cast-out
 overflow_cast-out c =
-    let s = start (goal.at.overflow_cast-out c).After-lowest_after-arg-2-1 in
-    omega (arith, found c, (lowest_low s.args.n (between s)).within, s.requires.graph.0.wide)
+    let s = (goal.at.overflow_cast-out c).Start in
+    omega (arith, found (goal.at.overflow_cast-out c).After-lowest_after-middle, (lowest_low s.args.n (between s)).within, s.requires.graph.0.wide)
 
 pub returns : goal.returns
 returns c =
-    let s = start (goal.at.returns c).After-lowest_after-arg-2-1 in
-    set_two s.args.out.now c.lowest_after-middle.result s.args.b s.requires.row_words_in_bounds.3 ∙ ap (λ (m : ℕ). m ∷ s.args.b ∷ drop 2 s.args.out.now) (found c)
+    let a = c.args in
+    set_two a.out.now c.lowest_after-middle.result a.b c.requires.row_words_in_bounds.3 ∙ ap (λ (m : ℕ). m ∷ a.b ∷ drop 2 a.out.now) (found (goal.at.returns c).After-lowest_after-middle)

@@ -1,16 +1,10 @@
 -- `judge::lists::first_broken` meets its contract. The invariant: the outcome of the list is that of what is left of it. Assumes nothing.
-use borrow.Author.Rules.{rules}
-use mathlib.Core.Path.{◌≡◌, sym, ◌∙◌}
-use mathlib.Core.List.{List}
-use Prim.Native.Nat.{ℕ, ◌-◌, ◌≤◌}
-use native.Mathlib.Omega.{arith}
+use mathlib.Core.Path.{◌≡◌}
+use Prim.Native.Nat.{◌-◌, ◌≤◌}
 use lib.ListN.{drop}
-use Rattle.consistency.specs.Predicates.{verdict}
 use Rattle.consistency.specs.Models.{first_broken}
 use Rattle.judge.specs.Judgments.{said_by}
 use Rattle.judge.specs.Lists.{up_to_zero}
-use Rattle.judge.proofs.RecordLaws.{ready-verdict}
-use Rattle.judge.proofs.ListLaws.{left_end, left_past, left-met, left-broken}
 use Rattle.judge.proofs.lists.first_broken.Given as goal
 
 abbrev pub invariant-loop-k : goal.invariant-loop-k

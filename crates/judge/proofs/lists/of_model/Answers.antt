@@ -2,7 +2,6 @@
 use mathlib.Core.Path.{refl}
 use mathlib.Core.List.{List, [], ◌∷◌}
 use Prim.Native.Nat.{ℕ}
-use borrow.Author.Rules.{rules}
 use Rattle.judge.specs.Lists.{up_to_zero}
 use Rattle.judge.proofs.ListLaws.{model_list}
 use Rattle.judge.proofs.lists.of_model.Goals as goal

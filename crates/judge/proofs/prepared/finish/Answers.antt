@@ -1,6 +1,5 @@
 -- `judge::prepared::finish` meets its contract: the closing of table 4, and ar in table 5. Assumes nothing.
 use native.Mathlib.Omega.{arith}
-use borrow.Author.Rules.{rules}
 use Rattle.judge.proofs.TablesGiven.{steps_graph, tables_finished}
 use Rattle.judge.proofs.prepared.finish.Goals as goal
 

@@ -18,7 +18,6 @@ use Rattle.consistency.specs.declared.Predicate.TheVariants.{RVal, SingleOrder, 
 use Rattle.consistency.specs.declared.Verdict.{Verdict}
 use Rattle.consistency.proofs.SameVerdict.{SameFor, verdict-under}
 use Rattle.judge.proofs.PreparedLaws.{ars-lent, ar-judged, vis-judged}
-use borrow.Author.Rules.{rules}
 use Rattle.judge.proofs.prepared.judge.Goals.{Start}
 use Rattle.judge.proofs.prepared.judge.Goals as goal
 
@@ -136,92 +135,102 @@ first_misplaced-requires-in-PerObjectSingleOrder c = record {
 
 pub returns-in-RVal : goal.returns-in-RVal
 unfolding rule breaks verdict history_from
-returns-in-RVal c = as_is (goal.at.returns-in-RVal c).Start RVal c.enum_told-1.given.1 c.wrong_values.ensures
+returns-in-RVal c = as_is (goal.at.returns-in-RVal c).Start RVal c.in-RVal.is c.wrong_values.ensures
 
 pub returns-in-SingleOrder : goal.returns-in-SingleOrder
 unfolding rule breaks verdict history_from
-returns-in-SingleOrder c = by-events (goal.at.returns-in-SingleOrder c).Start SingleOrder tt c.enum_told-in-SingleOrder-1.given.1 c.first_misplaced.ensures
+returns-in-SingleOrder c = by-events (goal.at.returns-in-SingleOrder c).Start SingleOrder tt c.in-SingleOrder.is c.first_misplaced.ensures
 
 pub returns-in-RealTime : goal.returns-in-RealTime
 unfolding rule breaks verdict history_from
 returns-in-RealTime c =
-    let h = judged (goal.at.returns-in-RealTime c).Start in
-    let w = c.requires.given.1 in
-    as_is (goal.at.returns-in-RealTime c).Start RealTime c.enum_told-in-RealTime-1.given.1
-    (c.within_ar.ensures ∙ ar-judged c.args.n c.args.l.now c.args.v.now c.args.groups.now c.args.t.now (terms (goal.at.returns-in-RealTime c).Start) c.requires.prepared 0 258 258 (rb h) (every (goal.at.returns-in-RealTime c).Start) (every (goal.at.returns-in-RealTime c).Start) c.requires.prepared.timed.rbs w.every w.every)
+    let s = (goal.at.returns-in-RealTime c).Start in
+    let h = judged s in
+    let w = s.requires.given.1 in
+    as_is s RealTime c.in-RealTime.is
+    (c.within_ar.ensures ∙ ar-judged s.args.n s.args.l.now s.args.v.now s.args.groups.now s.args.t.now (terms s) s.requires.prepared 0 258 258 (rb h) (every s) (every s) s.requires.prepared.timed.rbs w.every w.every)
 
 pub returns-in-RealTimeWrites : goal.returns-in-RealTimeWrites
 unfolding rule breaks verdict history_from
 returns-in-RealTimeWrites c =
-    let h = judged (goal.at.returns-in-RealTimeWrites c).Start in
-    let w = c.requires.given.1 in
-    as_is (goal.at.returns-in-RealTimeWrites c).Start RealTimeWrites c.enum_told-in-RealTimeWrites-1.given.1
-    (c.within_ar-in-RealTimeWrites.ensures ∙ ar-judged c.args.n c.args.l.now c.args.v.now c.args.groups.now c.args.t.now (terms (goal.at.returns-in-RealTimeWrites c).Start) c.requires.prepared 0 256 258 (rb h) (writes (goal.at.returns-in-RealTimeWrites c).Start) (every (goal.at.returns-in-RealTimeWrites c).Start) c.requires.prepared.timed.rbs w.writes w.every)
+    let s = (goal.at.returns-in-RealTimeWrites c).Start in
+    let h = judged s in
+    let w = s.requires.given.1 in
+    as_is s RealTimeWrites c.in-RealTimeWrites.is
+    (c.within_ar-in-RealTimeWrites.ensures ∙ ar-judged s.args.n s.args.l.now s.args.v.now s.args.groups.now s.args.t.now (terms s) s.requires.prepared 0 256 258 (rb h) (writes s) (every s) s.requires.prepared.timed.rbs w.writes w.every)
 
 pub returns-in-MonotonicReads : goal.returns-in-MonotonicReads
 unfolding rule breaks verdict history_from
 returns-in-MonotonicReads c =
-    let h = judged (goal.at.returns-in-MonotonicReads c).Start in
-    let w = c.requires.given.1 in
-    as_is (goal.at.returns-in-MonotonicReads c).Start MonotonicReads c.enum_told-in-MonotonicReads-1.given.1
-    (c.within_vis.ensures ∙ vis-judged c.args.n c.args.l.now c.args.v.now c.args.groups.now c.args.t.now (terms (goal.at.returns-in-MonotonicReads c).Start) c.requires.prepared 2 258 257 (through h (read h) (vis h) (so h)) (every (goal.at.returns-in-MonotonicReads c).Start) (reads (goal.at.returns-in-MonotonicReads c).Start) c.requires.prepared.timed.middles w.every w.reads c.requires.given.0)
+    let s = (goal.at.returns-in-MonotonicReads c).Start in
+    let h = judged s in
+    let w = s.requires.given.1 in
+    as_is s MonotonicReads c.in-MonotonicReads.is
+    (c.within_vis.ensures ∙ vis-judged s.args.n s.args.l.now s.args.v.now s.args.groups.now s.args.t.now (terms s) s.requires.prepared 2 258 257 (through h (read h) (vis h) (so h)) (every s) (reads s) s.requires.prepared.timed.middles w.every w.reads s.requires.given.0)
 
 pub returns-in-ReadYourWrites : goal.returns-in-ReadYourWrites
 unfolding rule breaks verdict history_from
 returns-in-ReadYourWrites c =
-    let h = judged (goal.at.returns-in-ReadYourWrites c).Start in
-    let w = c.requires.given.1 in
-    as_is (goal.at.returns-in-ReadYourWrites c).Start ReadYourWrites c.enum_told-in-ReadYourWrites-1.given.1
-    (c.within_vis-in-ReadYourWrites.ensures ∙ vis-judged c.args.n c.args.l.now c.args.v.now c.args.groups.now c.args.t.now (terms (goal.at.returns-in-ReadYourWrites c).Start) c.requires.prepared 1 256 257 (so h) (writes (goal.at.returns-in-ReadYourWrites c).Start) (reads (goal.at.returns-in-ReadYourWrites c).Start) c.requires.prepared.timed.sos w.writes w.reads c.requires.given.0)
+    let s = (goal.at.returns-in-ReadYourWrites c).Start in
+    let h = judged s in
+    let w = s.requires.given.1 in
+    as_is s ReadYourWrites c.in-ReadYourWrites.is
+    (c.within_vis-in-ReadYourWrites.ensures ∙ vis-judged s.args.n s.args.l.now s.args.v.now s.args.groups.now s.args.t.now (terms s) s.requires.prepared 1 256 257 (so h) (writes s) (reads s) s.requires.prepared.timed.sos w.writes w.reads s.requires.given.0)
 
 pub returns-in-MonotonicWrites : goal.returns-in-MonotonicWrites
 unfolding rule breaks verdict history_from
 returns-in-MonotonicWrites c =
-    let h = judged (goal.at.returns-in-MonotonicWrites c).Start in
-    let w = c.requires.given.1 in
-    as_is (goal.at.returns-in-MonotonicWrites c).Start MonotonicWrites c.enum_told-in-MonotonicWrites-1.given.1
-    (c.within_ar-in-MonotonicWrites.ensures ∙ ar-judged c.args.n c.args.l.now c.args.v.now c.args.groups.now c.args.t.now (terms (goal.at.returns-in-MonotonicWrites c).Start) c.requires.prepared 1 256 256 (so h) (writes (goal.at.returns-in-MonotonicWrites c).Start) (writes (goal.at.returns-in-MonotonicWrites c).Start) c.requires.prepared.timed.sos w.writes w.writes)
+    let s = (goal.at.returns-in-MonotonicWrites c).Start in
+    let h = judged s in
+    let w = s.requires.given.1 in
+    as_is s MonotonicWrites c.in-MonotonicWrites.is
+    (c.within_ar-in-MonotonicWrites.ensures ∙ ar-judged s.args.n s.args.l.now s.args.v.now s.args.groups.now s.args.t.now (terms s) s.requires.prepared 1 256 256 (so h) (writes s) (writes s) s.requires.prepared.timed.sos w.writes w.writes)
 
 pub returns-in-WritesFollowReads : goal.returns-in-WritesFollowReads
 unfolding rule breaks verdict history_from
 returns-in-WritesFollowReads c =
-    let h = judged (goal.at.returns-in-WritesFollowReads c).Start in
-    let w = c.requires.given.1 in
-    as_is (goal.at.returns-in-WritesFollowReads c).Start WritesFollowReads c.enum_told-in-WritesFollowReads-1.given.1
-    (c.within_ar-in-WritesFollowReads.ensures ∙ ar-judged c.args.n c.args.l.now c.args.v.now c.args.groups.now c.args.t.now (terms (goal.at.returns-in-WritesFollowReads c).Start) c.requires.prepared 2 256 256 (through h (read h) (vis h) (so h)) (writes (goal.at.returns-in-WritesFollowReads c).Start) (writes (goal.at.returns-in-WritesFollowReads c).Start) c.requires.prepared.timed.middles w.writes w.writes)
+    let s = (goal.at.returns-in-WritesFollowReads c).Start in
+    let h = judged s in
+    let w = s.requires.given.1 in
+    as_is s WritesFollowReads c.in-WritesFollowReads.is
+    (c.within_ar-in-WritesFollowReads.ensures ∙ ar-judged s.args.n s.args.l.now s.args.v.now s.args.groups.now s.args.t.now (terms s) s.requires.prepared 2 256 256 (through h (read h) (vis h) (so h)) (writes s) (writes s) s.requires.prepared.timed.middles w.writes w.writes)
 
 pub returns-in-Pram : goal.returns-in-Pram
 unfolding rule breaks verdict history_from
 returns-in-Pram c =
-    let h = judged (goal.at.returns-in-Pram c).Start in
-    let w = c.requires.given.1 in
-    as_is (goal.at.returns-in-Pram c).Start Pram c.enum_told-in-Pram-1.given.1
-    (c.within_vis-in-Pram.ensures ∙ vis-judged c.args.n c.args.l.now c.args.v.now c.args.groups.now c.args.t.now (terms (goal.at.returns-in-Pram c).Start) c.requires.prepared 1 258 258 (so h) (every (goal.at.returns-in-Pram c).Start) (every (goal.at.returns-in-Pram c).Start) c.requires.prepared.timed.sos w.every w.every c.requires.given.0)
+    let s = (goal.at.returns-in-Pram c).Start in
+    let h = judged s in
+    let w = s.requires.given.1 in
+    as_is s Pram c.in-Pram.is
+    (c.within_vis-in-Pram.ensures ∙ vis-judged s.args.n s.args.l.now s.args.v.now s.args.groups.now s.args.t.now (terms s) s.requires.prepared 1 258 258 (so h) (every s) (every s) s.requires.prepared.timed.sos w.every w.every s.requires.given.0)
 
 pub returns-in-CausalVisibility : goal.returns-in-CausalVisibility
 unfolding rule breaks verdict history_from
 returns-in-CausalVisibility c =
-    let h = judged (goal.at.returns-in-CausalVisibility c).Start in
-    let w = c.requires.given.1 in
-    as_is (goal.at.returns-in-CausalVisibility c).Start CausalVisibility c.enum_told-in-CausalVisibility-1.given.1
-    (c.within_vis-in-CausalVisibility.ensures ∙ vis-judged c.args.n c.args.l.now c.args.v.now c.args.groups.now c.args.t.now (terms (goal.at.returns-in-CausalVisibility c).Start) c.requires.prepared 4 258 258 (hb h) (every (goal.at.returns-in-CausalVisibility c).Start) (every (goal.at.returns-in-CausalVisibility c).Start) c.requires.prepared.hbs w.every w.every c.requires.given.0)
+    let s = (goal.at.returns-in-CausalVisibility c).Start in
+    let h = judged s in
+    let w = s.requires.given.1 in
+    as_is s CausalVisibility c.in-CausalVisibility.is
+    (c.within_vis-in-CausalVisibility.ensures ∙ vis-judged s.args.n s.args.l.now s.args.v.now s.args.groups.now s.args.t.now (terms s) s.requires.prepared 4 258 258 (hb h) (every s) (every s) s.requires.prepared.hbs w.every w.every s.requires.given.0)
 
 pub returns-in-CausalArbitration : goal.returns-in-CausalArbitration
 unfolding rule breaks verdict history_from
 returns-in-CausalArbitration c =
-    let h = judged (goal.at.returns-in-CausalArbitration c).Start in
-    let w = c.requires.given.1 in
-    as_is (goal.at.returns-in-CausalArbitration c).Start CausalArbitration c.enum_told-in-CausalArbitration-1.given.1
-    (c.within_ar-in-CausalArbitration.ensures ∙ ar-judged c.args.n c.args.l.now c.args.v.now c.args.groups.now c.args.t.now (terms (goal.at.returns-in-CausalArbitration c).Start) c.requires.prepared 4 258 258 (hb h) (every (goal.at.returns-in-CausalArbitration c).Start) (every (goal.at.returns-in-CausalArbitration c).Start) c.requires.prepared.hbs w.every w.every)
+    let s = (goal.at.returns-in-CausalArbitration c).Start in
+    let h = judged s in
+    let w = s.requires.given.1 in
+    as_is s CausalArbitration c.in-CausalArbitration.is
+    (c.within_ar-in-CausalArbitration.ensures ∙ ar-judged s.args.n s.args.l.now s.args.v.now s.args.groups.now s.args.t.now (terms s) s.requires.prepared 4 258 258 (hb h) (every s) (every s) s.requires.prepared.hbs w.every w.every)
 
 pub returns-in-PerObjectPram : goal.returns-in-PerObjectPram
 unfolding rule breaks verdict history_from
 returns-in-PerObjectPram c =
-    let h = judged (goal.at.returns-in-PerObjectPram c).Start in
-    let w = c.requires.given.1 in
-    as_is (goal.at.returns-in-PerObjectPram c).Start PerObjectPram c.enum_told-in-PerObjectPram-1.given.1
-    (c.within_vis-in-PerObjectPram.ensures ∙ vis-judged c.args.n c.args.l.now c.args.v.now c.args.groups.now c.args.t.now (terms (goal.at.returns-in-PerObjectPram c).Start) c.requires.prepared 3 258 258 (both (so h) (ob h)) (every (goal.at.returns-in-PerObjectPram c).Start) (every (goal.at.returns-in-PerObjectPram c).Start) c.requires.prepared.timed.objects w.every w.every c.requires.given.0)
+    let s = (goal.at.returns-in-PerObjectPram c).Start in
+    let h = judged s in
+    let w = s.requires.given.1 in
+    as_is s PerObjectPram c.in-PerObjectPram.is
+    (c.within_vis-in-PerObjectPram.ensures ∙ vis-judged s.args.n s.args.l.now s.args.v.now s.args.groups.now s.args.t.now (terms s) s.requires.prepared 3 258 258 (both (so h) (ob h)) (every s) (every s) s.requires.prepared.timed.objects w.every w.every s.requires.given.0)
 
 pub returns-in-PerObjectSingleOrder : goal.returns-in-PerObjectSingleOrder
 unfolding rule breaks verdict history_from
-returns-in-PerObjectSingleOrder c = by-events (goal.at.returns-in-PerObjectSingleOrder c).Start PerObjectSingleOrder tt c.enum_told-in-PerObjectSingleOrder-1.given.1 c.first_misplaced-in-PerObjectSingleOrder.ensures
+returns-in-PerObjectSingleOrder c = by-events (goal.at.returns-in-PerObjectSingleOrder c).Start PerObjectSingleOrder tt c.in-PerObjectSingleOrder.is c.first_misplaced-in-PerObjectSingleOrder.ensures

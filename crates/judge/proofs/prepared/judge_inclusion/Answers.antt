@@ -2,7 +2,6 @@
 use mathlib.Core.Path.{◌∙◌}
 use native.Mathlib.Omega.{arith}
 use Rattle.judge.proofs.PreparedLaws.{length_starts, length_ends, ends_whole, lacks-rows}
-use borrow.Author.Rules.{rules}
 use Rattle.judge.proofs.prepared.judge_inclusion.Goals as goal
 
 pub first_outside-requires : goal.first_outside-requires

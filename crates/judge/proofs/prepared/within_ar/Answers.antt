@@ -2,7 +2,6 @@
 use native.Mathlib.Nat.{add-sub_cancel_left}
 use native.Mathlib.Omega.{arith}
 use Rattle.judge.proofs.PreparedLaws.{part_end}
-use borrow.Author.Rules.{rules}
 use Rattle.judge.proofs.prepared.within_ar.Goals as goal
 
 pub overflow_mul-at : goal.overflow_mul-at
@@ -18,4 +17,4 @@ pub slice_bounds-judge_inclusion-end : goal.slice_bounds-judge_inclusion-end
 slice_bounds-judge_inclusion-end c = omega (arith, part_end c.args.n c.args.k (omega arith))
 
 pub returns : goal.returns
-returns c = rw (add-sub_cancel_left, add-sub_cancel_left) at c.judge_inclusion.ensures
+returns c = simp add-sub_cancel_left at c.judge_inclusion.ensures

@@ -2,7 +2,6 @@
 use native.Mathlib.Nat.{add-sub_cancel_left}
 use native.Mathlib.Omega.{arith}
 use Rattle.judge.proofs.PreparedLaws.{part_end}
-use borrow.Author.Rules.{rules}
 use Rattle.judge.proofs.prepared.within_vis.Goals as goal
 
 pub overflow_mul-at : goal.overflow_mul-at

@@ -41,9 +41,9 @@ overflow_mul-past c = omega (arith, c.requires.rows.fits)
 
 pub returns-then-test : goal.returns-then-test
 returns-then-test c = record {
-      closed_2 = c.requires.closed;
-      by_index = λ x e. e;
-    }
+  closed_2 = c.requires.closed;
+  by_index = λ x e. e;
+}
 
 pub overflow_mul-at : goal.overflow_mul-at
 overflow_mul-at c = omega (arith, room c, (start (goal.at.overflow_mul-at c).After-test).well_formed)
@@ -59,9 +59,9 @@ slice_bounds-lowest_difference-end c = omega (arith, room c, (start (goal.at.sli
 
 pub returns-then-x-past : goal.returns-then-x-past
 returns-then-x-past c = record {
-      closed_2 = c.requires.closed;
-      by_index = λ x e. e;
-    }
+  closed_2 = c.requires.closed;
+  by_index = λ x e. e;
+}
 
 pub close_row-requires : goal.close_row-requires
 close_row-requires c =

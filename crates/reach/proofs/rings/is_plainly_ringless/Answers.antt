@@ -63,30 +63,33 @@ settle_from-requires c =
 
 pub returns-then-not-settle_from : goal.returns-then-not-settle_from
 returns-then-not-settle_from c = record {
-      settled = c.settle_from.ensures.settled_2;
-      a_after = λ t. absurd (false≢true t);
-    }
+  settled = c.settle_from.ensures.settled_2;
+  a_after = λ t. absurd (false≢true t);
+}
 
 pub loop-b-preserved : goal.loop-b-preserved
 loop-b-preserved c =
     let l = at-loop (goal.at.loop-b-preserved c).After-is_subset in
     let i = l.loop-b.invariant in
     let k : l.loop-b.b < 64 * length l.loop-b.settled = omega (arith, width l, (start l).requires.graph.wide) in
-    elim c.if-is_subset.branch [ then-is_subset w ↦
-    let e = w.settled-is ∙ w.set.ensures in (
-      search rules,
-      ap length e ∙ length-insert l.loop-b.settled l.loop-b.b ∙ i.1,
-      rw w.path-is i.2,
-      settled_more i.3 l.loop-b.b (row_inside (goal.at.loop-b-preserved c).After-is_subset w.if-is_subset.true) e c.loop-b-test.true (omega arith),
-      all_more l.loop-b.settled l.loop-b.b e (omega arith) i.4,
-    ) | else-is_subset+else-not-settle_from w ↦
-    let p = w.settle_from.ensures in (
-      search rules,
-      search rules,
-      search rules,
-      rw w.settled-is p.settled_2,
-      rw w.settled-is (below_more (λ x. has w.settle_from.new.settled x ≡ true) l.loop-b.b (λ x h. p.by_index x (i.4 x h)) (p.b_after w.if-not-settle_from.false)),
-    ) ]
+    elim c.if-is_subset.branch [
+      | then-is_subset w ↦
+          let e = w.settled-is ∙ w.set.ensures in (
+            search rules,
+            ap length e ∙ length-insert l.loop-b.settled l.loop-b.b ∙ i.1,
+            rw w.path-is i.2,
+            settled_more i.3 l.loop-b.b (row_inside (goal.at.loop-b-preserved c).After-is_subset w.if-is_subset.true) e c.loop-b-test.true (omega arith),
+            all_more l.loop-b.settled l.loop-b.b e (omega arith) i.4,
+          )
+      | else-is_subset+else-not-settle_from w ↦
+          let p = w.settle_from.ensures in (
+            search rules,
+            search rules,
+            search rules,
+            rw w.settled-is p.settled_2,
+            rw w.settled-is (below_more (λ x. has w.settle_from.new.settled x ≡ true) l.loop-b.b (λ x h. p.by_index x (i.4 x h)) (p.b_after w.if-not-settle_from.false)),
+          )
+    ]
 
 pub returns : goal.returns
 returns c =

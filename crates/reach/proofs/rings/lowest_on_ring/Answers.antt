@@ -29,9 +29,9 @@ slice_bounds-settled-end-2 c = sym (cut (goal.at.slice_bounds-settled-end-2 c).S
 
 pub is_plainly_ringless-requires : goal.is_plainly_ringless-requires
 is_plainly_ringless-requires c = record {
-      graph = rw (cut (goal.at.is_plainly_ringless-requires c).Start) c.requires.0;
-      n_in_bounds = (omega (arith, c.requires.0.wide, c.requires.1), omega (arith, c.requires.0.wide, c.requires.1));
-    }
+  graph = rw (cut (goal.at.is_plainly_ringless-requires c).Start) c.requires.0;
+  n_in_bounds = (omega (arith, c.requires.0.wide, c.requires.1), omega (arith, c.requires.0.wide, c.requires.1));
+}
 
 pub returns-then-is_plainly_ringless : goal.returns-then-is_plainly_ringless
 returns-then-is_plainly_ringless c =

@@ -70,9 +70,12 @@ pub loop-a-preserved : goal.loop-a-preserved
 loop-a-preserved c =
     let l = at-loop (goal.at.loop-a-preserved c).After-test in
     let i = l.loop-a.invariant in
-    elim c.if-not-test.branch [ then-not-test+else-test w ↦
-    (search rules, search rules, search rules, below_more _ _ i.3 (sym (on-ring (goal.at.loop-a-preserved c).In-loop-a w.reaching.new.found w.reaching.ensures) ∙ sym w.test-then-not-test.ensures ∙ w.if-test.false)) | else-not-test w ↦
-    (search rules, rw w.found-is i.1, rw w.done-is i.2, below_more _ _ i.3 ((start l).requires.settled.ringless l.loop-a.a (sym c.test.ensures ∙ w.if-not-test.false))) ]
+    elim c.if-not-test.branch [
+      | then-not-test+else-test w ↦
+          (search rules, search rules, search rules, below_more _ _ i.3 (sym (on-ring (goal.at.loop-a-preserved c).In-loop-a w.reaching.new.found w.reaching.ensures) ∙ sym w.test-then-not-test.ensures ∙ w.if-test.false))
+      | else-not-test w ↦
+          (search rules, rw w.found-is i.1, rw w.done-is i.2, below_more _ _ i.3 ((start l).requires.settled.ringless l.loop-a.a (sym c.test.ensures ∙ w.if-not-test.false)))
+    ]
 
 pub returns : goal.returns
 returns c =

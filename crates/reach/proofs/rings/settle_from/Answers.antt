@@ -90,10 +90,13 @@ loop-preserved c =
     let l = (at-loop (goal.at.loop-preserved c).After-lowest_difference-x).loop in
     let s = start (at-loop (goal.at.loop-preserved c).After-lowest_difference-x) in
     let walk = l.invariant.3 in
-    elim c.if-x-n.branch [ then-x-n+else-depth-n w ↦ (search rules, rw w.settled-is l.invariant.1, ap length w.path-is ∙ length-set l.path l.depth l.e ∙ l.invariant.2, walk_on walk c.lowest_difference-x.result w.if-x-n.true w.if-depth-n.false (omega (arith, l.invariant.2, s.requires.b_lt_n.1)) w.path-is w.e-is w.depth-is, rw w.settled-is l.invariant.4, rw w.settled-is l.invariant.5) | else-x-n+else-depth-eq0 w ↦
-    let q = w.settled-is ∙ w.set.ensures in
-    let g = grown (goal.at.loop-preserved c).After-lowest_difference-x w.if-x-n.false q in
-    (search rules, ap length q ∙ length-insert l.settled l.e ∙ l.invariant.1, rw w.path-is l.invariant.2, walk_back walk w.if-depth-eq0.false w.path-is w.e-is w.depth-is, g.0, g.1) ]
+    elim c.if-x-n.branch [
+      | then-x-n+else-depth-n w ↦ (search rules, rw w.settled-is l.invariant.1, ap length w.path-is ∙ length-set l.path l.depth l.e ∙ l.invariant.2, walk_on walk c.lowest_difference-x.result w.if-x-n.true w.if-depth-n.false (omega (arith, l.invariant.2, s.requires.b_lt_n.1)) w.path-is w.e-is w.depth-is, rw w.settled-is l.invariant.4, rw w.settled-is l.invariant.5)
+      | else-x-n+else-depth-eq0 w ↦
+          let q = w.settled-is ∙ w.set.ensures in
+          let g = grown (goal.at.loop-preserved c).After-lowest_difference-x w.if-x-n.false q in
+          (search rules, ap length q ∙ length-insert l.settled l.e ∙ l.invariant.1, rw w.path-is l.invariant.2, walk_back walk w.if-depth-eq0.false w.path-is w.e-is w.depth-is, g.0, g.1)
+    ]
 
 pub returns : goal.returns
 returns c =

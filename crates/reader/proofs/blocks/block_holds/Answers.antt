@@ -1,5 +1,4 @@
 -- `reader::blocks::block_holds` meets its contract: A is compared before B. Assumes nothing.
-use borrow.Author.Rules.{rules}
 use Rattle.rows.proofs.Tests.{tests}
 use Rattle.record.specs.Blocks.{block_right}
 use Rattle.reader.proofs.blocks.block_holds.Goals as goal

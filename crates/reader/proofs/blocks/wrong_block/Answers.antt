@@ -1,9 +1,6 @@
 use mathlib.Core.Path.{ap}
 use mathlib.Core.Bool.{not}
-use Prim.Native.Nat.{◌-◌}
-use borrow.Author.Rules.{rules}
-use Rattle.rows.proofs.LowestLaws.{Searched, searched_start, searched_more, searched_hit, searched_end}
-use Rattle.record.specs.Blocks.{block_right}
+use Rattle.rows.proofs.LowestLaws.{searched_start, searched_more, searched_hit, searched_end}
 use Rattle.reader.proofs.blocks.wrong_block.Goals as goal
 
 pub loop-k-init : goal.loop-k-init

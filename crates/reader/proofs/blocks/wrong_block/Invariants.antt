@@ -1,8 +1,7 @@
 -- `reader::blocks::wrong_block` meets its contract. The loop's invariant: the blocks below k are right. Assumes nothing.
 use mathlib.Core.Bool.{not}
 use Prim.Native.Nat.{◌-◌}
-use borrow.Author.Rules.{rules}
-use Rattle.rows.proofs.LowestLaws.{Searched, searched_start, searched_more, searched_hit, searched_end}
+use Rattle.rows.proofs.LowestLaws.{Searched}
 use Rattle.record.specs.Blocks.{block_right}
 use Rattle.reader.proofs.blocks.wrong_block.Given as goal
 

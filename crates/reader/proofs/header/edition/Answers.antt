@@ -1,6 +1,5 @@
 -- `reader::header::edition` meets its contract: the letters are compared with each edition's. Assumes nothing.
 use mathlib.Core.Path.{sym, ap, ◌∙◌}
-use borrow.Author.Rules.{rules}
 use Rattle.record.specs.Layout.{GCR2, GCR3, numbers_of}
 use Rattle.record.proofs.LayoutLaws.{letters-name, edition-first, edition-short}
 use Rattle.reader.proofs.header.edition.Goals as goal

@@ -1,6 +1,5 @@
 -- `reader::header::sites` meets its contract: a byte fits. Assumes nothing.
 use native.Mathlib.Omega.{arith}
-use borrow.Author.Rules.{rules}
 use Rattle.reader.proofs.header.sites.Goals as goal
 
 pub overflow_cast-result : goal.overflow_cast-result

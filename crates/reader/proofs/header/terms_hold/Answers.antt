@@ -1,7 +1,6 @@
 -- `reader::header::terms_hold` meets its contract: the code asks what `terms_right` asks, in its order. Assumes nothing.
 use mathlib.Core.Bool.{not}
 use mathlib.Core.Path.{sym, ◌∙◌, ap}
-use borrow.Author.Rules.{rules}
 use Rattle.rows.proofs.Tests.{told_false, told_true}
 use Rattle.record.proofs.QuestionLaws.{terms_lacked, terms_had}
 use Rattle.reader.proofs.header.terms_hold.Goals as goal

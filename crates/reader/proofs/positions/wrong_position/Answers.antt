@@ -1,15 +1,14 @@
 use mathlib.Core.Path.{◌≡◌, refl, sym, ap, ◌∙◌}
-use Prim.Native.Nat.{ℕ, ◌+◌, ◌-◌, ◌/◌, ◌≤◌, ◌<◌}
+use Prim.Native.Nat.{ℕ, ◌+◌, ◌/◌, ◌≤◌, ◌<◌}
 use native.Mathlib.Omega.{arith}
 use borrow.Author.Rules.{rules}
 use lib.ListN.{length}
 use Rattle.rows.specs.Octets.{little}
-use Rattle.rows.proofs.LowestLaws.{Searched, searched_start, searched_more, searched_hit, searched_end}
-use Rattle.record.specs.Layout.{edition_of, slot_at, row_words}
+use Rattle.rows.proofs.LowestLaws.{searched_start, searched_more, searched_hit, searched_end}
+use Rattle.record.specs.Layout.{edition_of, row_words}
 use Rattle.record.specs.History.{history_of}
-use Rattle.record.specs.Questions.{wrong_position}
 use Rattle.record.proofs.SoundLayout.{sound_of, Numbers, numbers_of_lem, next_of, slot-first, slot-inside}
-use Rattle.record.proofs.PositionLaws.{taken_none, position_large, position-taken, position_free, taken_more, Taken}
+use Rattle.record.proofs.PositionLaws.{taken_none, position_large, position-taken, position_free, taken_more}
 use Rattle.reader.proofs.positions.wrong_position.Goals.{After-u16_at-p, At-loop-e, In-loop-e, Start}
 use Rattle.reader.proofs.positions.wrong_position.Goals as goal
 

@@ -1,16 +1,12 @@
 -- `reader::positions::wrong_position` meets its contract: no position passed is wrong, the row has those positions, and slot e starts at `at`. Assumes nothing.
-use mathlib.Core.Path.{◌≡◌, refl, sym, ap, ◌∙◌}
-use Prim.Native.Nat.{ℕ, ◌+◌, ◌-◌, ◌/◌, ◌≤◌, ◌<◌}
-use native.Mathlib.Omega.{arith}
-use borrow.Author.Rules.{rules}
+use mathlib.Core.Path.{◌≡◌}
+use Prim.Native.Nat.{◌-◌}
 use lib.ListN.{length}
-use Rattle.rows.specs.Octets.{little}
-use Rattle.rows.proofs.LowestLaws.{Searched, searched_start, searched_more, searched_hit, searched_end}
+use Rattle.rows.proofs.LowestLaws.{Searched}
 use Rattle.record.specs.Layout.{edition_of, slot_at, row_words}
 use Rattle.record.specs.History.{history_of}
 use Rattle.record.specs.Questions.{wrong_position}
-use Rattle.record.proofs.SoundLayout.{sound_of, Numbers, numbers_of_lem, next_of, slot-first, slot-inside}
-use Rattle.record.proofs.PositionLaws.{taken_none, position_large, position-taken, position_free, taken_more, Taken}
+use Rattle.record.proofs.PositionLaws.{Taken}
 use Rattle.reader.proofs.positions.wrong_position.Given as goal
 
 abbrev pub invariant-loop-e : goal.invariant-loop-e

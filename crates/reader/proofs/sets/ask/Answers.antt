@@ -89,10 +89,10 @@ ring c =
 
 pub load_sets-set-requires : goal.load_sets-set-requires
 load_sets-set-requires c = record {
-      ed_value = (c.requires.n_value.1, c.requires.n_value.2);
-      n_in_bounds = c.requires.n_in_bounds;
-      row_words_in_bounds = omega (arith, few (goal.at.load_sets-set-requires c).Start, c.requires.work_words_in_bounds);
-    }
+  ed_value = (c.requires.n_value.1, c.requires.n_value.2);
+  n_in_bounds = c.requires.n_in_bounds;
+  row_words_in_bounds = omega (arith, few (goal.at.load_sets-set-requires c).Start, c.requires.work_words_in_bounds);
+}
 
 pub returns-then-set-n : goal.returns-then-set-n
 unfolding set_questions

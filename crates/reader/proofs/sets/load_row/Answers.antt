@@ -1,13 +1,11 @@
-use mathlib.Core.Logic.{⊎_elim}
-use mathlib.Core.Path.{◌≡◌, refl, sym, ap, ◌∙◌}
-use mathlib.Core.List.{List, ◌++◌}
-use Prim.Native.Nat.{ℕ, ◌+◌, ◌-◌, ◌≤◌, ◌<◌}
+use mathlib.Core.Path.{◌≡◌, refl, sym, ◌∙◌}
+use Prim.Native.Nat.{ℕ, ◌+◌, ◌-◌, ◌<◌}
 use native.Mathlib.Omega.{arith}
 use borrow.Author.Rules.{rules}
 use lib.ListN.{length, get_or, replicate, length-append, length-replicate}
 use Rattle.rows.specs.Octets.{words}
 use Rattle.rows.proofs.ByteLaws.{length-words}
-use Rattle.rows.proofs.StoredLaws.{Stored, stored_none, stored_more, stored_all}
+use Rattle.rows.proofs.StoredLaws.{stored_none, stored_more, stored_all}
 use Rattle.record.proofs.WorkLaws.{row_word, row-rest}
 use Rattle.reader.proofs.sets.load_row.Invariants.{loaded}
 use Rattle.reader.proofs.sets.load_row.Goals.{else-i-k, then-i-k}

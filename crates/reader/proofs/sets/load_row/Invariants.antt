@@ -1,15 +1,10 @@
 -- `reader::sets::load_row` meets its contract: a word of the set where it has one, and else zero. Assumes nothing.
-use mathlib.Core.Logic.{⊎_elim}
-use mathlib.Core.Path.{◌≡◌, refl, sym, ap, ◌∙◌}
+use mathlib.Core.Path.{◌≡◌}
 use mathlib.Core.List.{List, ◌++◌}
-use Prim.Native.Nat.{ℕ, ◌+◌, ◌-◌, ◌≤◌, ◌<◌}
-use native.Mathlib.Omega.{arith}
-use borrow.Author.Rules.{rules}
-use lib.ListN.{length, get_or, replicate, length-append, length-replicate}
+use Prim.Native.Nat.{ℕ, ◌-◌, ◌≤◌}
+use lib.ListN.{length, get_or, replicate}
 use Rattle.rows.specs.Octets.{words}
-use Rattle.rows.proofs.ByteLaws.{length-words}
-use Rattle.rows.proofs.StoredLaws.{Stored, stored_none, stored_more, stored_all}
-use Rattle.record.proofs.WorkLaws.{row_word, row-rest}
+use Rattle.rows.proofs.StoredLaws.{Stored}
 use Rattle.reader.proofs.sets.load_row.Given as goal
 
 -- the row as it is to be

@@ -7,11 +7,9 @@ use native.Mathlib.Omega.{arith}
 use borrow.Author.Rules.{rules}
 use lib.ListN.{length, take, drop}
 use Rattle.rows.proofs.Tests.{told_true, told_false}
-use Rattle.rows.proofs.LowestLaws.{Searched, searched_start, searched_more, searched_hit, searched_end}
+use Rattle.rows.proofs.LowestLaws.{searched_start, searched_more, searched_hit, searched_end}
 use Rattle.rows.proofs.TableLaws.{length-row}
-use Rattle.record.specs.Layout.{edition_of, slot_at, row_words}
-use Rattle.record.specs.History.{history_of, vis}
-use Rattle.record.specs.Questions.{wrong_set}
+use Rattle.record.specs.Layout.{edition_of, row_words}
 use Rattle.record.specs.Words.{set_rows}
 use Rattle.record.proofs.SoundLayout.{sound_of, Numbers, numbers_of_lem, next_of, slot-first, slot-inside}
 use Rattle.record.proofs.SlotWords.{set_row_loaded, set_rows-none, set_rows-put}

@@ -1,21 +1,13 @@
 -- `reader::sets::load_sets` meets its contract: the sets of the events passed are loaded and right, and slot e starts at `slot`. Assumes nothing.
-use mathlib.Core.Path.{◌≡◌, refl, sym, ◌∙◌}
-use mathlib.Core.List.{List, ◌++◌}
-use Prim.Native.Nat.{ℕ, ◌+◌, ◌*◌, ◌-◌, ◌≤◌, ◌<◌, min}
-use native.Mathlib.Nat.{add-sub_cancel_left}
-use native.Mathlib.Omega.{arith}
-use borrow.Author.Rules.{rules}
-use lib.ListN.{length, take, drop}
-use Rattle.rows.proofs.Tests.{told_true, told_false}
-use Rattle.rows.proofs.LowestLaws.{Searched, searched_start, searched_more, searched_hit, searched_end}
-use Rattle.rows.proofs.TableLaws.{length-row}
+use mathlib.Core.Path.{◌≡◌}
+use mathlib.Core.List.{◌++◌}
+use Prim.Native.Nat.{◌*◌, ◌-◌}
+use lib.ListN.{length, drop}
+use Rattle.rows.proofs.LowestLaws.{Searched}
 use Rattle.record.specs.Layout.{edition_of, slot_at, row_words}
 use Rattle.record.specs.History.{history_of, vis}
 use Rattle.record.specs.Questions.{wrong_set}
 use Rattle.record.specs.Words.{set_rows}
-use Rattle.record.proofs.SoundLayout.{sound_of, Numbers, numbers_of_lem, next_of, slot-first, slot-inside}
-use Rattle.record.proofs.SlotWords.{set_row_loaded, set_rows-none, set_rows-put}
-use Rattle.record.proofs.SetLaws.{byte_itself, loaded_outside, loaded_right}
 use Rattle.reader.proofs.sets.load_sets.Given as goal
 
 abbrev pub invariant-loop-e : goal.invariant-loop-e

@@ -1,7 +1,6 @@
 -- `reader::slots::event_holds` meets its contract: the code asks what `event_right` asks, in its order. Assumes nothing.
 use mathlib.Core.Path.{ap}
 use mathlib.Core.Bool.{not}
-use borrow.Author.Rules.{rules}
 use Rattle.rows.proofs.Tests.{told_false, told_true}
 use Rattle.record.specs.Slots.{event_right}
 use Rattle.reader.proofs.slots.event_holds.Goals as goal

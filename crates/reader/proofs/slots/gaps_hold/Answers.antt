@@ -1,5 +1,4 @@
 -- `reader::slots::gaps_hold` meets its contract: the code asks what `gaps_right` asks, in its order. Assumes nothing.
-use borrow.Author.Rules.{rules}
 use Rattle.rows.proofs.Tests.{tests}
 use Rattle.record.specs.Slots.{gaps_right}
 use Rattle.reader.proofs.slots.gaps_hold.Goals as goal

@@ -1,5 +1,4 @@
 -- `reader::slots::place_holds` meets its contract: the code asks what `place_right` asks, in its order. Assumes nothing.
-use borrow.Author.Rules.{rules}
 use Rattle.rows.proofs.Tests.{tests}
 use Rattle.record.specs.Slots.{place_right}
 use Rattle.reader.proofs.slots.place_holds.Goals as goal

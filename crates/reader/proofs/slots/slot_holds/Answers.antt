@@ -1,7 +1,6 @@
 -- `reader::slots::slot_holds` meets its contract: below n an event, from n on zero, and then the tail. Assumes nothing.
 use mathlib.Core.Bool.{not}
 use mathlib.Core.Path.{◌≡◌, ap, ◌∙◌}
-use mathlib.Core.Logic.{⊎_elim}
 use Prim.Native.Nat.{ℕ, ◌+◌, ◌*◌, ◌/◌, ◌%◌, ◌≤◌}
 use native.Mathlib.Omega.{arith}
 use lib.ListN.{length}
@@ -54,16 +53,16 @@ returns-then-not-is_zero c =
 
 pub tail_holds-requires : goal.tail_holds-requires
 tail_holds-requires c = record {
-      ed_value = c.requires.n_value.1;
-      at_in_bounds = (inside (goal.at.tail_holds-requires c).Start).block;
-    }
+  ed_value = c.requires.n_value.1;
+  at_in_bounds = (inside (goal.at.tail_holds-requires c).Start).block;
+}
 
 pub returns : goal.returns
 returns c =
     let tail = c.tail_holds.ensures c.args.e c.requires.at_value in
     elim c.if-e-n.branch [
-    | then-e-n+else-not-event_holds w ↦
-        rw (slot-below (edition_of c.args.s.now) _ _ _ _ c.requires.n_value.0 c.requires.at_value w.if-e-n.true, told_true w.event_holds.ensures (ap not w.if-not-event_holds.false)) tail
-    | else-e-n+else-not-is_zero w ↦
-        rw (slot_from_lem (edition_of c.args.s.now) _ _ _ _ c.requires.n_value.0 c.requires.at_value w.if-e-n.false, told_true (w.is_zero.ensures ∙ zeros_of (goal.at.returns c).Start) (ap not w.if-not-is_zero.false)) tail
+      | then-e-n+else-not-event_holds w ↦
+          rw (slot-below (edition_of c.args.s.now) _ _ _ _ c.requires.n_value.0 c.requires.at_value w.if-e-n.true, told_true w.event_holds.ensures (ap not w.if-not-event_holds.false)) tail
+      | else-e-n+else-not-is_zero w ↦
+          rw (slot_from_lem (edition_of c.args.s.now) _ _ _ _ c.requires.n_value.0 c.requires.at_value w.if-e-n.false, told_true (w.is_zero.ensures ∙ zeros_of (goal.at.returns c).Start) (ap not w.if-not-is_zero.false)) tail
     ]

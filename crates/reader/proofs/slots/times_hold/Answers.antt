@@ -1,5 +1,4 @@
 -- `reader::slots::times_hold` meets its contract: a pending event returns at 0, another not before its start. Assumes nothing.
-use borrow.Author.Rules.{rules}
 use Rattle.rows.proofs.Tests.{tests}
 use Rattle.record.specs.Slots.{times_right}
 use Rattle.reader.proofs.slots.times_hold.Goals as goal

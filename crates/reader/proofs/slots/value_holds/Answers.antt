@@ -1,5 +1,4 @@
 -- `reader::slots::value_holds` meets its contract: the code asks what `value_right` asks, in its order. Assumes nothing.
-use borrow.Author.Rules.{rules}
 use Rattle.rows.proofs.Tests.{tests}
 use Rattle.record.specs.Slots.{value_right}
 use Rattle.reader.proofs.slots.value_holds.Goals as goal

@@ -3,11 +3,9 @@ use mathlib.Core.Bool.{not}
 use Prim.Native.Nat.{ℕ, ◌+◌, ◌*◌, ◌-◌, ◌/◌, ◌≤◌, ◌<◌}
 use native.Mathlib.Nat.{mul-le-mul_right}
 use native.Mathlib.Omega.{arith}
-use borrow.Author.Rules.{rules}
 use lib.ListN.{length}
-use Rattle.rows.proofs.LowestLaws.{Searched, searched_start, searched_more, searched_hit, searched_end}
-use Rattle.record.specs.Layout.{edition_of, slot_at}
-use Rattle.record.specs.Slots.{slot_right}
+use Rattle.rows.proofs.LowestLaws.{searched_start, searched_more, searched_hit, searched_end}
+use Rattle.record.specs.Layout.{edition_of}
 use Rattle.record.specs.Questions.{slots_in}
 use Rattle.record.proofs.SoundLayout.{sound_of, Numbers, numbers_of_lem, next_of, slot-first, slot_end, slot_block}
 use Rattle.reader.proofs.slots.wrong_slot.Goals.{At-loop-e, In-loop-e, Start}
@@ -46,10 +44,10 @@ loop-e-init c = let s = c.args.s.now in (searched_start _ _, slot-first (edition
 
 pub slot_holds-requires : goal.slot_holds-requires
 slot_holds-requires c = let a = start (goal.at.slot_holds-requires c).At-loop-e in record {
-      n_value = a.requires.n_value;
-      at_value = c.loop-e.invariant.1;
-      s_in_bounds = block c;
-    }
+  n_value = a.requires.n_value;
+  at_value = c.loop-e.invariant.1;
+  s_in_bounds = block c;
+}
 
 pub returns-then-not-slot_holds : goal.returns-then-not-slot_holds
 returns-then-not-slot_holds c =

@@ -1,16 +1,11 @@
 -- `reader::slots::wrong_slot` meets its contract. The loop's invariant: the slots below e are right, and slot e starts at `at`. Assumes nothing.
-use mathlib.Core.Path.{◌≡◌, ap, ◌∙◌}
+use mathlib.Core.Path.{◌≡◌}
 use mathlib.Core.Bool.{not}
-use Prim.Native.Nat.{ℕ, ◌+◌, ◌*◌, ◌-◌, ◌/◌, ◌≤◌, ◌<◌}
-use native.Mathlib.Nat.{mul-le-mul_right}
-use native.Mathlib.Omega.{arith}
-use borrow.Author.Rules.{rules}
-use lib.ListN.{length}
-use Rattle.rows.proofs.LowestLaws.{Searched, searched_start, searched_more, searched_hit, searched_end}
+use Prim.Native.Nat.{◌-◌}
+use Rattle.rows.proofs.LowestLaws.{Searched}
 use Rattle.record.specs.Layout.{edition_of, slot_at}
 use Rattle.record.specs.Slots.{slot_right}
 use Rattle.record.specs.Questions.{slots_in}
-use Rattle.record.proofs.SoundLayout.{sound_of, Numbers, numbers_of_lem, next_of, slot-first, slot_end, slot_block}
 use Rattle.reader.proofs.slots.wrong_slot.Given as goal
 
 abbrev pub invariant-loop-e : goal.invariant-loop-e

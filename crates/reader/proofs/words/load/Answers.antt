@@ -1,5 +1,4 @@
 use mathlib.Core.Path.{◌≡◌, refl, ap₂, ◌∙◌}
-use mathlib.Core.List.{◌++◌}
 use Prim.Native.Nat.{◌+◌, ◌*◌, ◌-◌, ◌≤◌}
 use native.Mathlib.Nat.{add-sub_cancel_left}
 use native.Mathlib.Omega.{arith}
@@ -7,8 +6,7 @@ use borrow.Author.Rules.{rules}
 use lib.ListN.{length, take, drop}
 use Rattle.rows.specs.Octets.{words}
 use Rattle.rows.proofs.TableLaws.{row_room, length-row}
-use Rattle.record.specs.Layout.{edition_of, slot_at}
-use Rattle.record.specs.Words.{slot_words}
+use Rattle.record.specs.Layout.{edition_of}
 use Rattle.record.proofs.SoundLayout.{sound_of, Numbers, numbers_of_lem, next_of, slot-first, slot-inside}
 use Rattle.record.proofs.SlotWords.{slot_words-none, slot_words-put}
 use Rattle.reader.proofs.words.load.Goals.{At-loop-e, In-loop-e, Start}

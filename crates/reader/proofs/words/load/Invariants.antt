@@ -1,17 +1,10 @@
 -- `reader::words::load` meets its contract: the words of the first e events are loaded, the rest of the slice is as it was, and slot e starts at `slot`. Assumes nothing.
-use mathlib.Core.Path.{◌≡◌, refl, ap₂, ◌∙◌}
+use mathlib.Core.Path.{◌≡◌}
 use mathlib.Core.List.{◌++◌}
-use Prim.Native.Nat.{◌+◌, ◌*◌, ◌-◌, ◌≤◌}
-use native.Mathlib.Nat.{add-sub_cancel_left}
-use native.Mathlib.Omega.{arith}
-use borrow.Author.Rules.{rules}
-use lib.ListN.{length, take, drop}
-use Rattle.rows.specs.Octets.{words}
-use Rattle.rows.proofs.TableLaws.{row_room, length-row}
+use Prim.Native.Nat.{◌*◌, ◌-◌, ◌≤◌}
+use lib.ListN.{length, drop}
 use Rattle.record.specs.Layout.{edition_of, slot_at}
 use Rattle.record.specs.Words.{slot_words}
-use Rattle.record.proofs.SoundLayout.{sound_of, Numbers, numbers_of_lem, next_of, slot-first, slot-inside}
-use Rattle.record.proofs.SlotWords.{slot_words-none, slot_words-put}
 use Rattle.reader.proofs.words.load.Given as goal
 
 abbrev pub invariant-loop-e : goal.invariant-loop-e

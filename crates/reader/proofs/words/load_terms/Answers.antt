@@ -1,7 +1,6 @@
 -- `reader::words::load_terms` meets its contract. Assumes nothing.
 use mathlib.Core.Path.{ap, ◌∙◌}
 use Prim.Native.Nat.{ℕ}
-use borrow.Author.Rules.{rules}
 use Rattle.rows.specs.Octets.{words}
 use Rattle.record.specs.Words.{terms_words}
 use Rattle.reader.proofs.words.load_terms.Goals as goal

@@ -1,10 +1,5 @@
-use mathlib.Core.Path.{◌≡◌, sym, ◌∙◌}
-use mathlib.Core.Bool.{◌&&◌}
-use Prim.Native.Nat.{◌+◌, ◌-◌, ◌≤◌}
+use mathlib.Core.Path.{sym, ◌∙◌}
 use native.Mathlib.Omega.{arith}
-use borrow.Author.Rules.{rules}
-use lib.Dec.{eqb}
-use Rattle.record.specs.Layout.{zeros}
 use Rattle.record.proofs.LayoutLaws.{zeros-start, zeros-more, zeros_end}
 use Rattle.record.proofs.layout.is_zero.Goals as goal
 

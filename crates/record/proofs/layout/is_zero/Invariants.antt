@@ -1,12 +1,9 @@
 -- `record::layout::is_zero` meets its contract. The loop's invariant: what is asked of all bytes is asked of those passed, put together, and of those from i on. Assumes nothing.
-use mathlib.Core.Path.{◌≡◌, sym, ◌∙◌}
+use mathlib.Core.Path.{◌≡◌}
 use mathlib.Core.Bool.{◌&&◌}
 use Prim.Native.Nat.{◌+◌, ◌-◌, ◌≤◌}
-use native.Mathlib.Omega.{arith}
-use borrow.Author.Rules.{rules}
 use lib.Dec.{eqb}
 use Rattle.record.specs.Layout.{zeros}
-use Rattle.record.proofs.LayoutLaws.{zeros-start, zeros-more, zeros_end}
 use Rattle.record.proofs.layout.is_zero.Given as goal
 
 abbrev pub invariant-loop-i : goal.invariant-loop-i

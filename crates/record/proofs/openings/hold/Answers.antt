@@ -1,8 +1,5 @@
 use mathlib.Core.Path.{◌∙◌, sym}
-use Prim.Native.Nat.{◌-◌}
-use borrow.Author.Rules.{rules}
-use Rattle.record.specs.Terms.{stray}
-use Rattle.record.proofs.OpeningLaws.{NoneStray, stray-start, stray-more, stray-found, stray-none}
+use Rattle.record.proofs.OpeningLaws.{stray-start, stray-more, stray-found, stray-none}
 use Rattle.record.proofs.openings.hold.Goals as goal
 
 pub loop-o-init : goal.loop-o-init

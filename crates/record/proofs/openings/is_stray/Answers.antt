@@ -1,5 +1,4 @@
 -- `record::openings::is_stray` meets its contract. Assumes nothing.
-use borrow.Author.Rules.{rules}
 use Rattle.record.proofs.openings.is_stray.Goals as goal
 
 pub returns-then-test : goal.returns-then-test

@@ -1,8 +1,6 @@
 use mathlib.Core.Path.{◌≡◌, refl, ◌∙◌}
-use Prim.Native.Nat.{◌≤◌, ◌-◌}
 use native.Mathlib.Omega.{arith}
-use borrow.Author.Rules.{rules}
-use Rattle.record.proofs.SumLaws.{Lanes, lanes_start, lanes_more, lanes_end}
+use Rattle.record.proofs.SumLaws.{lanes_start, lanes_more, lanes_end}
 use Rattle.record.proofs.sums.of_block.Goals as goal
 
 pub loop-r-init : goal.loop-r-init

@@ -1,9 +1,6 @@
 -- `record::sums::of_block` meets its contract. The loop's invariant: the lanes hold the sums of the rows passed, and are too small to wrap. Assumes nothing.
-use mathlib.Core.Path.{◌≡◌, refl, ◌∙◌}
 use Prim.Native.Nat.{◌≤◌, ◌-◌}
-use native.Mathlib.Omega.{arith}
-use borrow.Author.Rules.{rules}
-use Rattle.record.proofs.SumLaws.{Lanes, lanes_start, lanes_more, lanes_end}
+use Rattle.record.proofs.SumLaws.{Lanes}
 use Rattle.record.proofs.sums.of_block.Given as goal
 
 abbrev pub invariant-loop-r : goal.invariant-loop-r

@@ -1,13 +1,9 @@
 -- `rows::octets::load` meets its contract: the first i words are loaded, and the rest as they were. Assumes nothing.
-use mathlib.Core.Path.{◌≡◌, refl, sym, ◌∙◌, ap}
-use mathlib.Core.List.{◌∷◌, [], ◌++◌}
+use mathlib.Core.Path.{◌≡◌}
+use mathlib.Core.List.{◌++◌}
 use Prim.Native.Nat.{◌-◌, ◌≤◌}
-use native.Mathlib.Omega.{arith}
-use borrow.Author.Rules.{rules}
 use lib.ListN.{length, drop}
 use Rattle.rows.specs.Octets.{words}
-use Rattle.rows.proofs.FrontLaws.{front-more, front_all}
-use Rattle.rows.proofs.ByteLaws.{words_more, length-words}
 use Rattle.rows.proofs.octets.load.Given as goal
 
 abbrev pub invariant-loop-i : goal.invariant-loop-i

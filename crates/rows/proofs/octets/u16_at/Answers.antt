@@ -4,9 +4,6 @@ use Prim.Native.Nat.{◌+◌}
 use native.Mathlib.Omega.{arith}
 use lib.ListN.{get_or}
 use Rattle.rows.proofs.ByteLaws.{little_two, shift-over}
-use borrow.Author.Rules.{rules}
-use Rattle.rows.proofs.octets.u16_at.Reads as reads
-use Rattle.rows.proofs.octets.u16_at.Lts as lts
 use Rattle.rows.proofs.octets.u16_at.Goals as goal
 
 -- src/octets.rt:18:5

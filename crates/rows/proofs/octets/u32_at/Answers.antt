@@ -2,10 +2,6 @@
 use mathlib.Core.Path.{◌∙◌}
 use native.Mathlib.Omega.{arith}
 use Rattle.rows.proofs.ByteLaws.{little_join, shift-over}
-use borrow.Author.Rules.{rules}
-use Rattle.rows.proofs.octets.u32_at.Reads as reads
-use Rattle.rows.proofs.octets.u32_at.Lts as lts
-use Rattle.rows.proofs.octets.u16_at.Reads as u16-at-reads
 use Rattle.rows.proofs.octets.u32_at.Goals as goal
 
 -- src/octets.rt:21:1

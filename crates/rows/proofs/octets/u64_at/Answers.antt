@@ -2,10 +2,6 @@
 use mathlib.Core.Path.{◌∙◌}
 use native.Mathlib.Omega.{arith}
 use Rattle.rows.proofs.ByteLaws.{little_join, shift-over}
-use borrow.Author.Rules.{rules}
-use Rattle.rows.proofs.octets.u64_at.Reads as reads
-use Rattle.rows.proofs.octets.u64_at.Lts as lts
-use Rattle.rows.proofs.octets.u32_at.Reads as u32-at-reads
 use Rattle.rows.proofs.octets.u64_at.Goals as goal
 
 -- src/octets.rt:28:1

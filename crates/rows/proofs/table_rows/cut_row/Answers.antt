@@ -1,5 +1,4 @@
 -- `rows::table_rows::cut_row` meets its contract: a row is lent of each slice, and only what both have stays. Assumes nothing.
-use borrow.Author.Rules.{rules}
 use Rattle.rows.specs.Row.{and_row}
 use Rattle.rows.proofs.RowLaws.{length-and}
 use Rattle.rows.proofs.SliceLaws.{row_changed}

@@ -1,5 +1,4 @@
 -- `rows::table_rows::join_row` meets its contract: a row is lent of each slice, and joined. Assumes nothing.
-use borrow.Author.Rules.{rules}
 use Rattle.rows.specs.Row.{or_row}
 use Rattle.rows.proofs.RowLaws.{length-or}
 use Rattle.rows.proofs.SliceLaws.{row_changed}

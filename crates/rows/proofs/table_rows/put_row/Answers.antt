@@ -1,5 +1,4 @@
 -- `rows::table_rows::put_row` meets its contract: a row is lent of each slice, and copied. Assumes nothing.
-use borrow.Author.Rules.{rules}
 use Rattle.rows.proofs.SliceLaws.{row_put}
 use Rattle.rows.proofs.table_rows.put_row.Goals as goal
 
