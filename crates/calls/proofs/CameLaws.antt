@@ -8,7 +8,7 @@ use borrow.Author.Tests.{lt-ltb}
 use Rattle.rows.specs.Row.{has, insert, or_row, row_at, RowChanged}
 use Rattle.rows.proofs.TableLaws.{length-row}
 use Rattle.record.specs.Layout.{most_events, row_words}
-use Rattle.record.specs.Terms.{value, value_or0}
+use Rattle.record.specs.Terms.{value_or0}
 use Rattle.store.specs.Store.{upd, Cell, merge, Site, Event}
 use Rattle.store.specs.Rules.{after_delivery}
 use Rattle.store.proofs.UpdateLaws.{upd_same, upd_elim}

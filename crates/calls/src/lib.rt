@@ -1,4 +1,6 @@
 // One call of a script: how it is read, what refuses it, and what it does to the slices that a store is kept in.
+#![tactic(auto)]
+
 pub mod call;
 pub mod close;
 pub mod deliver;

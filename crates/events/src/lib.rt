@@ -1,5 +1,7 @@
 // The fields of an event, read from its words, and terms, read from block 0's. The reader loads these words, and the judge reads from them.
 // And which rows groups of events have in a slice.
+#![tactic(auto)]
+
 ghost use Rattle.std.specs.Prelude.{◌≡◌, false, ◌&&◌, ◌+◌, ◌*◌, ◌≤◌, ◌<◌, ltb, length};
 ghost use Rattle.rows.specs.Row.{has};
 ghost use Rattle.record.specs.Layout.{head_length, terms_length};

@@ -1,4 +1,6 @@
 // The first pair that breaks a predicate, from tables of rows.
+#![tactic(auto)]
+
 pub mod inclusion;
 pub mod order;
 pub mod reads;

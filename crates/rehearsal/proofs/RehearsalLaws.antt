@@ -25,7 +25,7 @@ use Rattle.record.proofs.EncodedPasses.{edition-back}
 use Rattle.store.specs.Store.{Site, Store, fresh}
 use Rattle.store.specs.Calls.{calls_of}
 use Rattle.record.specs.Questions.{ask}
-use Rattle.store.specs.Rules.{run, answers}
+use Rattle.store.specs.Rules.{answers}
 use Rattle.store.specs.Recorded.{recorded, store_record}
 use Rattle.store.specs.Outstanding.{lacks, outstanding, AddsUp, ToldAddsUp}
 use Rattle.store.specs.Rehearsal.{rehearsal_refusal, terms_of, store_after, call_count, answer_in, record_of, record_after, answers_after, length_after, outstanding_after}

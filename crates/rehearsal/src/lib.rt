@@ -1,4 +1,5 @@
 // The rehearsal of the store: a script of calls at one to eight fresh sites, whose cells start with openings, its answers, and the record that it leaves.
+#![tactic(auto)]
 
 pub mod copies;
 pub mod image;

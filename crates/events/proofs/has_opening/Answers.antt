@@ -1,6 +1,5 @@
 -- `events::has_opening` meets its contract. Assumes nothing.
 use native.Mathlib.Omega.{arith}
-use borrow.Author.Rules.{rules}
 use borrow.Author.Tests.{lt-ltb, le-ltb}
 use Rattle.events.proofs.has_opening.Goals as goal
 

@@ -1,6 +1,5 @@
 -- `events::opening` meets its contract: the lower or the upper half of a word. Assumes nothing.
 use Prim.Native.Nat.{◌%◌}
-use borrow.Author.Rules.{rules}
 use borrow.Author.Tests.{eq-eqb, ne_eqb}
 use Rattle.events.proofs.opening.Goals as goal
 

@@ -9,9 +9,9 @@ use Rattle.calls.proofs.deliver.deliver.Goals as goal
 
 pub raised-b-requires : goal.raised-b-requires
 raised-b-requires c = record {
-      s_bound = omega (arith, c.site.ensures);
-      by_index = λ i. rw c.site_at-a.ensures (c.requires.held i);
-    }
+  s_bound = omega (arith, c.site.ensures);
+  by_index = λ i. rw c.site_at-a.ensures (c.requires.held i);
+}
 
 pub shape_of-cells : goal.shape_of-cells
 shape_of-cells c = ap length c.keep.ensures.cells_after ∙ simp length-set

@@ -61,17 +61,20 @@ join_outside-requires c =
 pub loop-row-preserved : goal.loop-row-preserved
 loop-row-preserved c =
     let l = c.loop-row in
-    elim c.if-may_end.branch [ then-may_end t ↦ (
-      omega arith,
-      ap length t.left-is ∙ t.join_outside.ensures.dst_len_unchanged ∙ l.invariant.1,
-      λ a. ap (λ (m : List ℕ). has m a) t.left-is
-          ∙ collected_more (width (goal.at.loop-row-preserved c).Start) c.args.q.now c.args.starts.now c.args.ends.now c.args.r.now l.row l.left t.join_outside.new.dst l.invariant.2 (sym c.may_end.ensures ∙ t.if-may_end.true) t.join_outside.ensures.by_index a,
-    ) | else-may_end t ↦ (
-      omega arith,
-      ap length t.left-is ∙ l.invariant.1,
-      λ a. ap (λ (m : List ℕ). has m a) t.left-is
-          ∙ collected_skip (width (goal.at.loop-row-preserved c).Start) c.args.q.now c.args.starts.now c.args.ends.now c.args.r.now l.row l.left l.invariant.2 (sym c.may_end.ensures ∙ t.if-may_end.false) a,
-    ) ]
+    elim c.if-may_end.branch [
+      | then-may_end t ↦ (
+        omega arith,
+        ap length t.left-is ∙ t.join_outside.ensures.dst_len_unchanged ∙ l.invariant.1,
+        λ a. ap (λ (m : List ℕ). has m a) t.left-is
+            ∙ collected_more (width (goal.at.loop-row-preserved c).Start) c.args.q.now c.args.starts.now c.args.ends.now c.args.r.now l.row l.left t.join_outside.new.dst l.invariant.2 (sym c.may_end.ensures ∙ t.if-may_end.true) t.join_outside.ensures.by_index a,
+      )
+      | else-may_end t ↦ (
+        omega arith,
+        ap length t.left-is ∙ l.invariant.1,
+        λ a. ap (λ (m : List ℕ). has m a) t.left-is
+            ∙ collected_skip (width (goal.at.loop-row-preserved c).Start) c.args.q.now c.args.starts.now c.args.ends.now c.args.r.now l.row l.left l.invariant.2 (sym c.may_end.ensures ∙ t.if-may_end.false) a,
+      )
+    ]
 
 pub returns : goal.returns
 returns c =

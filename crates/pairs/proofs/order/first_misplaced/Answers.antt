@@ -116,26 +116,27 @@ loop-b-init c = (omega arith, below_none _)
 
 pub is_seen-requires : goal.is_seen-requires
 is_seen-requires c = record {
-      given = c.requires.given.0;
-      a_lt_n = (c.if-n-a.false, c.loop-b-test.true);
-    }
+  given = c.requires.given.0;
+  a_lt_n = (c.if-n-a.false, c.loop-b-test.true);
+}
 
 pub is_placed-requires : goal.is_placed-requires
 is_placed-requires c = record {
-      given = c.requires.given.0;
-      a_lt_n = (c.if-n-a.false, c.loop-b-test.true);
-    }
+  given = c.requires.given.0;
+  a_lt_n = (c.if-n-a.false, c.loop-b-test.true);
+}
 
 pub loop-b-preserved : goal.loop-b-preserved
 loop-b-preserved c = (omega (arith, c.loop-b-test.true), below_more _ _ c.loop-b.invariant.1 (told (goal.at.loop-b-preserved c).After-is_placed false c.if-is_seen-is_placed.false))
 
 pub search-preserved : goal.search-preserved
-search-preserved c =
-    (
-      omega (arith, c.if-n-a.false),
-      below_more _ _ c.search.invariant.1 (elim c.if-is_misfit.branch [ then-is_misfit+else-loop-b-test t ↦ λ y i. t.loop-b.invariant.1 y (omega (arith, t.loop-b-test.false))
-          | else-is_misfit t ↦ λ y i. untold (goal.at.search-preserved c).After-is_misfit t.if-is_misfit.false y i ]),
-    )
+search-preserved c = (
+  omega (arith, c.if-n-a.false),
+  below_more _ _ c.search.invariant.1 (elim c.if-is_misfit.branch [
+    | then-is_misfit+else-loop-b-test t ↦ λ y i. t.loop-b.invariant.1 y (omega (arith, t.loop-b-test.false))
+    | else-is_misfit t ↦ λ y i. untold (goal.at.search-preserved c).After-is_misfit t.if-is_misfit.false y i
+  ]),
+)
 
 pub returns-then-n-a : goal.returns-then-n-a
 returns-then-n-a c =

@@ -53,10 +53,10 @@ returns-then-cut c =
     let k = c.copy in
     let m = c.intersect in
     let t = taken_cut c.args.cut c.args.l.now c.args.n (width (goal.at.returns-then-cut c).Start) c.args.g.now c.args.b c.args.out.now k.new.dst c.requires.1 c.requires.2 refl k.ensures
-        c.args.groups.now m.new.dst c.object.result c.if-cut.true c.requires.3 c.object.ensures m.ensures in
-    record { out_len_unchanged = t.0; row = t.1; }
+    c.args.groups.now m.new.dst c.object.result c.if-cut.true c.requires.3 c.object.ensures m.ensures in
+    record { out_len_unchanged = t.0; row = t.1 }
 
 pub returns-else-cut : goal.returns-else-cut
 returns-else-cut c =
     let t = taken-whole c.args.cut c.args.l.now c.args.n (width (goal.at.returns-else-cut c).Start) c.args.g.now c.args.b c.args.out.now c.copy.new.dst c.requires.1 c.requires.2 refl c.copy.ensures c.if-cut.false in
-    record { out_len_unchanged = t.0; row = t.1; }
+    record { out_len_unchanged = t.0; row = t.1 }

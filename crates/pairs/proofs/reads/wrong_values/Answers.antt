@@ -27,15 +27,15 @@ is_pending-requires c = omega (arith, c.requires.given.0.heads)
 
 pub last_write-found-requires : goal.last_write-found-requires
 last_write-found-requires c = record {
-      given = (c.requires.given.0, c.requires.given.1, c.loop-e-test.true);
-      table = c.requires.table;
-    }
+  given = (c.requires.given.0, c.requires.given.1, c.loop-e-test.true);
+  table = c.requires.table;
+}
 
 pub is_held-requires : goal.is_held-requires
 is_held-requires c = record {
-      n_in_bounds = (c.requires.given.0.heads, c.requires.given.2);
-      e_lt_n = (c.loop-e-test.true, c.last_write-found.ensures.found_below);
-    }
+  n_in_bounds = (c.requires.given.0.heads, c.requires.given.2);
+  e_lt_n = (c.loop-e-test.true, c.last_write-found.ensures.found_below);
+}
 
 pub returns-then-not-is_held : goal.returns-then-not-is_held
 unfolding history_from
@@ -57,13 +57,15 @@ loop-e-preserved c =
     let l = c.loop-e in
     let i = c.is_write in (
       omega (arith, c.loop-e-test.true),
-      below_more _ _ l.invariant.1 (elim c.if-not-is_write.branch [ then-not-is_write+then-not-is_pending+else-not-is_held t ↦
-          let p = t.is_pending in
-          let f = t.last_write-found in
-          let d = t.is_held in
-          wrong-held (history s) l.e i.result i.ensures p.result p.ensures (ap not t.if-not-is_write.true) f.result d.result false (ap not t.if-not-is_pending.true) (f.ensures.value ∙ sym (write_under (terms_from s.args.terms.now) (events s) l.e c.loop-e-test.true)) (held_test s.args.n s.args.w s.args.l.now s.args.v.now (terms_from s.args.terms.now) l.e f.result d.result d.ensures) (ap not t.if-not-is_held.false)
-          | then-not-is_write+else-not-is_pending t ↦ right-pending (history s) l.e i.result i.ensures t.is_pending.result t.is_pending.ensures (ap not t.if-not-is_write.true) (ap not t.if-not-is_pending.false)
-          | else-not-is_write t ↦ right-write (history s) l.e i.result i.ensures (ap not t.if-not-is_write.false) ]),
+      below_more _ _ l.invariant.1 (elim c.if-not-is_write.branch [
+        | then-not-is_write+then-not-is_pending+else-not-is_held t ↦
+            let p = t.is_pending in
+            let f = t.last_write-found in
+            let d = t.is_held in
+            wrong-held (history s) l.e i.result i.ensures p.result p.ensures (ap not t.if-not-is_write.true) f.result d.result false (ap not t.if-not-is_pending.true) (f.ensures.value ∙ sym (write_under (terms_from s.args.terms.now) (events s) l.e c.loop-e-test.true)) (held_test s.args.n s.args.w s.args.l.now s.args.v.now (terms_from s.args.terms.now) l.e f.result d.result d.ensures) (ap not t.if-not-is_held.false)
+        | then-not-is_write+else-not-is_pending t ↦ right-pending (history s) l.e i.result i.ensures t.is_pending.result t.is_pending.ensures (ap not t.if-not-is_write.true) (ap not t.if-not-is_pending.false)
+        | else-not-is_write t ↦ right-write (history s) l.e i.result i.ensures (ap not t.if-not-is_write.false)
+      ]),
     )
 
 pub returns : goal.returns

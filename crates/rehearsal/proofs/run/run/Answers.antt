@@ -23,9 +23,9 @@ asked_at-c-requires c = omega (arith, c.loop-k-test.true, c.requires.n_bound.2)
 
 pub call-bytes-requires : goal.call-bytes-requires
 call-bytes-requires c = record {
-      n_bound = (c.requires.n_bound.0, c.asked_at-c.ensures.kind_bound);
-      stand = record { terms = c.requires.begun.terms; stands = standing c.args.n c.requires.begun.terms c.args.script.now c.args.out.now _ _ _ (turned (goal.at.call-bytes-requires c).At-loop-k) };
-    }
+  n_bound = (c.requires.n_bound.0, c.asked_at-c.ensures.kind_bound);
+  stand = record { terms = c.requires.begun.terms; stands = standing c.args.n c.requires.begun.terms c.args.script.now c.args.out.now _ _ _ (turned (goal.at.call-bytes-requires c).At-loop-k) };
+}
 
 pub overflow_mul-k-in-loop-k : goal.overflow_mul-k-in-loop-k
 overflow_mul-k-in-loop-k c = omega (arith, c.loop-k-test.true, c.requires.n_bound.2)
