@@ -1,4 +1,6 @@
 // What happened where a predicate breaks: the events that lead from the first of its pair to the second.
+#![tactic(auto)]
+
 pub mod packing;
 pub mod telling;
 

@@ -16,7 +16,7 @@ use Rattle.record.specs.declared.Reading.TheVariants.{ShortWork}
 use Rattle.record.proofs.BeforeHarvest.{edition-kept, questions-kept}
 use Rattle.consistency.specs.Models.{list_of, first_broken}
 use Rattle.judge.specs.Judgments.{is_number, admission, admit, judged_list, judged, predicate_judgment, model_judgment, predicate_judgment_of, model_judgment_of, packed_judgment}
-use Rattle.judge.specs.Kept.{judgment_before, KeepsVerdict, KeepsNumber, KeepsThirteen}
+use Rattle.judge.specs.Kept.{KeepsVerdict, KeepsNumber, KeepsThirteen}
 use Rattle.judge.specs.declared.Admission.TheVariants.{Granted, TooFewWords, OutOfRange}
 use Rattle.judge.specs.declared.Judgment.{Judgment}
 use Rattle.judge.specs.declared.Judgment.TheVariants.{Judged, NoSuchNumber, Refused}

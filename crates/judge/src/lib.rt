@@ -1,4 +1,6 @@
 // The judge of thirteen predicates and thirteen models.
+#![tactic(auto)]
+
 pub mod lists;
 pub mod packing;
 pub mod prepared;

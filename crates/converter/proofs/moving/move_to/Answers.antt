@@ -10,9 +10,8 @@ use Rattle.rows.proofs.Tests.{told_false, told_true}
 use native.Mathlib.Omega.{arith}
 use Prim.Native.Nat.{ℕ, ◌*◌}
 use mathlib.Core.List.{List}
-use mathlib.Core.Bool.{true}
+use mathlib.Core.Bool.{true, not}
 use mathlib.Core.Path.{◌≡◌, refl, ap, ◌∙◌}
-use borrow.Author.Rules.{rules}
 use Rattle.converter.proofs.moving.move_to.Goals.{After-blocks-blocks, Start}
 use Rattle.converter.proofs.moving.move_to.Goals as goal
 
@@ -27,12 +26,12 @@ many : (c : After-blocks-blocks) → c.blocks-blocks.result ≡ blocks_for (numb
 many c = c.blocks-blocks.ensures (numbered (start c).args.k) c.by_number.ensures ∙ ap (blocks_for (numbered (start c).args.k)) c.count.ensures
 
 stands : (c : After-blocks-blocks) → can_stand (numbered (start c).args.k) (history_of (edition_of (text c)) (text c)) ≡ true
-stands c = told_true c.stands.ensures c.if-not-stands.false
+stands c = told_true c.stands.ensures (ap not c.if-not-stands.false)
 
 pub returns-then-not-stands : goal.returns-then-not-stands
 unfolding target_after
 returns-then-not-stands c = let a = c.args in record {
-      value = moved_not _ _ _ a.s.now (told_false c.stands.ensures c.if-not-stands.true);
+      value = moved_not _ _ _ a.s.now (told_false c.stands.ensures (ap not c.if-not-stands.true));
       target_after = refl;
     }
 

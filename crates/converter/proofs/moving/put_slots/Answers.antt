@@ -10,10 +10,9 @@ use Rattle.record.specs.Layout.{Layout, edition_of, count_in, slot_at}
 use lib.ListN.{length, take, drop}
 use lib.Seq.{sets}
 use native.Mathlib.Omega.{arith}
-use Prim.Native.Nat.{ℕ, ◌+◌, ◌-◌, ◌<◌, ◌≤◌, min}
+use Prim.Native.Nat.{ℕ, ◌+◌, ◌<◌, ◌≤◌, min}
 use mathlib.Core.List.{List}
 use mathlib.Core.Path.{◌≡◌, refl, ap, ap₂, ◌∙◌}
-use borrow.Author.Rules.{rules}
 use Rattle.converter.proofs.moving.put_slots.Goals.{At-loop-e, In-loop-e, Start}
 use Rattle.converter.proofs.moving.put_slots.Goals as goal
 
@@ -91,7 +90,7 @@ loop-e-preserved c =
     ap₂ (λ (x y : ℕ). sets c.loop-e.target x (take size (drop y (text (goal.at.loop-e-preserved c).At-loop-e)))) c.loop-e.invariant.1.1.1.0 c.loop-e.invariant.1.1.0 in (
       omega (arith, below (goal.at.loop-e-preserved c).In-loop-e),
       (
-        c.copy_part.auto.1.1.1.0 ∙ c.loop-e.invariant.1.0,
+        c.copy_part.auto.target ∙ c.loop-e.invariant.1.0,
         (
           next_of (text (goal.at.loop-e-preserved c).At-loop-e) _ c.edition-from.ensures c.loop-e.e c.loop-e.here _ c.loop-e.invariant.1.1.0 c.next_slot-here.ensures,
           (

@@ -1,20 +1,11 @@
 -- `converter::moving::put_slots` meets its contract: the loop has written the slots of the events passed. Assumes nothing.
-use Rattle.converter.proofs.MovingLaws.{laid, long, near}
-use Rattle.record.proofs.MovedLaws.{slot-more}
-use Rattle.record.proofs.WrittenLaws.{slots-none}
-use Rattle.record.proofs.SaidAgain.{laid_length}
-use Rattle.record.proofs.SoundLayout.{Sound, edition-sound, sound_of, slot-first, slot_step, slot-inside, Numbers, numbers, numbers_of_lem, next_of}
-use Rattle.record.specs.Converted.{named, numbered}
+use Rattle.record.specs.Converted.{numbered}
 use Rattle.record.specs.Encode.{with_slots}
 use Rattle.record.specs.History.{history_of}
-use Rattle.record.specs.Layout.{Layout, edition_of, count_in, slot_at}
-use lib.ListN.{length, take, drop}
-use lib.Seq.{sets}
-use native.Mathlib.Omega.{arith}
-use Prim.Native.Nat.{ℕ, ◌+◌, ◌-◌, ◌<◌, ◌≤◌, min}
-use mathlib.Core.List.{List}
-use mathlib.Core.Path.{◌≡◌, refl, ap, ap₂, ◌∙◌}
-use borrow.Author.Rules.{rules}
+use Rattle.record.specs.Layout.{edition_of, count_in, slot_at}
+use lib.ListN.{length}
+use Prim.Native.Nat.{◌-◌, ◌≤◌}
+use mathlib.Core.Path.{◌≡◌}
 use Rattle.converter.proofs.moving.put_slots.Given as goal
 
 abbrev pub invariant-loop-e : goal.invariant-loop-e

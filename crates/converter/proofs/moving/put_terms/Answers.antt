@@ -7,7 +7,6 @@ use native.Mathlib.Omega.{arith}
 use Prim.Native.Nat.{ℕ}
 use mathlib.Core.List.{List}
 use mathlib.Core.Path.{◌≡◌, sym, ap, ◌∙◌}
-use borrow.Author.Rules.{rules}
 use Rattle.converter.proofs.moving.put_terms.Goals.{After-by_number-to, Start}
 use Rattle.converter.proofs.moving.put_terms.Goals as goal
 

@@ -7,9 +7,7 @@ use borrow.Author.Tests.{not-true, not-false}
 use native.Mathlib.Omega.{arith}
 use Prim.Native.Nat.{ℕ}
 use mathlib.Core.List.{List}
-use mathlib.Core.Bool.{true}
 use mathlib.Core.Path.{◌≡◌, sym, ap, ◌∙◌}
-use borrow.Author.Rules.{rules}
 use Rattle.converter.proofs.moving.says_none.Goals.{After-edition-from}
 use Rattle.converter.proofs.moving.says_none.Goals as goal
 
@@ -31,4 +29,4 @@ is_zero-requires c = omega (arith, long (text (goal.at.is_zero-requires c).After
 
 pub returns : goal.returns
 returns c =
-    c.is_zero.ensures ∙ none-zero (text (goal.at.returns c).After-edition-from) (right (goal.at.returns c).After-edition-from) (λ (goal.at.returns c).After-edition-from. (c.type_inv.s (goal.at.returns c).After-edition-from).ranges) (terms (goal.at.returns c).After-edition-from ∙ not-false _ c.if-not-from.false)
+    c.is_zero.ensures ∙ none-zero (text (goal.at.returns c).After-edition-from) (right (goal.at.returns c).After-edition-from) (λ i. (c.type_inv.s i).fits) (terms (goal.at.returns c).After-edition-from ∙ not-false _ c.if-not-from.false)

@@ -5,9 +5,7 @@ use Rattle.record.specs.History.{History, history_of}
 use Rattle.record.specs.Layout.{edition_of}
 use Rattle.record.specs.declared.Edition.{Edition}
 use native.Mathlib.Omega.{arith}
-use Prim.Native.Nat.{ℕ}
 use mathlib.Core.Path.{◌≡◌, sym, ap, ◌∙◌}
-use borrow.Author.Rules.{rules}
 use Rattle.converter.proofs.moving.stands.Goals.{After-count, Start}
 use Rattle.converter.proofs.moving.stands.Goals as goal
 

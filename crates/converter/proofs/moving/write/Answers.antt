@@ -9,7 +9,6 @@ use native.Mathlib.Omega.{arith}
 use Prim.Native.Nat.{ℕ, ◌*◌, ◌≤◌}
 use mathlib.Core.List.{List, ◌++◌}
 use mathlib.Core.Path.{◌≡◌, refl, ap, ◌∙◌}
-use borrow.Author.Rules.{rules}
 use Rattle.converter.proofs.moving.write.Goals.{After-clear, After-header, Start}
 use Rattle.converter.proofs.moving.write.Goals as goal
 
@@ -32,7 +31,7 @@ begun h =
     ∙ ap (λ (n : ℕ). sets (clear h).clear.new.s 0 (header_bytes (numbered (start h).args.k) n (sites_in (text h)))) h.count.ensures
 
 room : (h : After-header) → length_in (numbered (start h).args.k) (text h) ≤ length h.header.new.s
-room h = omega (arith, (start h).requires.passes.1, (clear h).clear.auto.0, h.header.auto.0)
+room h = omega (arith, (start h).requires.passes.1, (clear h).clear.auto.s, h.header.auto.s)
 
 pub count-requires : goal.count-requires
 count-requires c = long c.args.s.now c.requires.passes.0
@@ -42,20 +41,20 @@ bounds-s-6 c = omega (arith, long c.args.s.now c.requires.passes.0)
 
 pub header-requires : goal.header-requires
 header-requires c =
-    (omega (arith, c.requires.passes.1, c.clear.auto.0), omega (arith, c.count.ensures, few c.args.s.now c.requires.passes.0))
+    (omega (arith, c.requires.passes.1, c.clear.auto.s), omega (arith, c.count.ensures, few c.args.s.now c.requires.passes.0))
 
 pub put_terms-requires : goal.put_terms-requires
 put_terms-requires c =
-    header_blank (text (goal.at.put_terms-requires c).After-header) (start (goal.at.put_terms-requires c).After-header).requires.0.0 (start (goal.at.put_terms-requires c).After-header).args.k _ (start (goal.at.put_terms-requires c).After-header).args.target.now _ _ (cleared (goal.at.put_terms-requires c).After-header) (begun (goal.at.put_terms-requires c).After-header) (omega (arith, room (goal.at.put_terms-requires c).After-header))
+    header_blank (text (goal.at.put_terms-requires c).After-header) (start (goal.at.put_terms-requires c).After-header).requires.passes.0 (start (goal.at.put_terms-requires c).After-header).args.k _ (start (goal.at.put_terms-requires c).After-header).args.target.now _ _ (cleared (goal.at.put_terms-requires c).After-header) (begun (goal.at.put_terms-requires c).After-header) (omega (arith, room (goal.at.put_terms-requires c).After-header))
 
 pub put_slots-requires : goal.put_slots-requires
 put_slots-requires c =
-    terms_blank (text (goal.at.put_slots-requires c).After-header) (start (goal.at.put_slots-requires c).After-header).requires.0.0 (start (goal.at.put_slots-requires c).After-header).args.k _ (start (goal.at.put_slots-requires c).After-header).args.target.now _ _ (cleared (goal.at.put_slots-requires c).After-header) (begun (goal.at.put_slots-requires c).After-header) _ _ c.put_terms.ensures (omega (arith, c.put_terms.auto.1.1.0, room (goal.at.put_slots-requires c).After-header))
+    terms_blank (text (goal.at.put_slots-requires c).After-header) (start (goal.at.put_slots-requires c).After-header).requires.passes.0 (start (goal.at.put_slots-requires c).After-header).args.k _ (start (goal.at.put_slots-requires c).After-header).args.target.now _ _ (cleared (goal.at.put_slots-requires c).After-header) (begun (goal.at.put_slots-requires c).After-header) _ _ c.put_terms.ensures (omega (arith, c.put_terms.auto.target, room (goal.at.put_slots-requires c).After-header))
 
 pub seal-requires : goal.seal-requires
 seal-requires c =
-    (omega (arith, c.put_slots.auto.1.1.0, c.put_terms.auto.1.1.0, room (goal.at.seal-requires c).After-header, (start (goal.at.seal-requires c).After-header).requires.1), omega (arith, (start (goal.at.seal-requires c).After-header).requires.1, blocks-few (text (goal.at.seal-requires c).After-header) (start (goal.at.seal-requires c).After-header).requires.0.0 (start (goal.at.seal-requires c).After-header).args.k))
+    (omega (arith, c.put_slots.auto.target, c.put_terms.auto.target, room (goal.at.seal-requires c).After-header, (start (goal.at.seal-requires c).After-header).requires.blocks_value), omega (arith, (start (goal.at.seal-requires c).After-header).requires.blocks_value, blocks-few (text (goal.at.seal-requires c).After-header) (start (goal.at.seal-requires c).After-header).requires.passes.0 (start (goal.at.seal-requires c).After-header).args.k))
 
 pub returns : goal.returns
 returns c =
-    all_written (text (goal.at.returns c).After-header) (start (goal.at.returns c).After-header).requires.0.0 (start (goal.at.returns c).After-header).args.k (start (goal.at.returns c).After-header).args.blocks _ (start (goal.at.returns c).After-header).args.target.now _ _ _ _ _ (start (goal.at.returns c).After-header).requires.1 refl (clear (goal.at.returns c).After-header).clear.ensures (begun (goal.at.returns c).After-header) c.put_terms.ensures c.put_slots.ensures c.seal.ensures
+    all_written (text (goal.at.returns c).After-header) (start (goal.at.returns c).After-header).requires.passes.0 (start (goal.at.returns c).After-header).args.k (start (goal.at.returns c).After-header).args.blocks _ (start (goal.at.returns c).After-header).args.target.now _ _ _ _ _ (start (goal.at.returns c).After-header).requires.blocks_value refl (clear (goal.at.returns c).After-header).clear.ensures (begun (goal.at.returns c).After-header) c.put_terms.ensures c.put_slots.ensures c.seal.ensures

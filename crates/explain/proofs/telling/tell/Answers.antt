@@ -70,15 +70,15 @@ has-chain c =
 
 pub prepare-n-requires : goal.prepare-n-requires
 prepare-n-requires c = record {
-      read_into = c.requires.0;
-      l_len = search rules;
-    }
+  read_into = c.requires.0;
+  l_len = search rules;
+}
 
 pub judge-found-requires : goal.judge-found-requires
 judge-found-requires c = let r = c.prepare-n.ensures.ready in record {
-      given = (r.given, r.grouped, r.terms);
-      prepared = r.tables;
-    }
+  given = (r.given, r.grouped, r.terms);
+  prepared = r.tables;
+}
 
 pub write_chain-requires : goal.write_chain-requires
 write_chain-requires c =

@@ -15,9 +15,9 @@ found c = ready-verdict _ _ _ _ _ _ _ c.prepare-n.ensures.ready _ _ c.judge-foun
 
 pub prepare-n-requires : goal.prepare-n-requires
 prepare-n-requires c = record {
-      read_into = c.requires.0;
-      l_len = search rules;
-    }
+  read_into = c.requires.0;
+  l_len = search rules;
+}
 
 pub returns-then-number-eq0 : goal.returns-then-number-eq0
 returns-then-number-eq0 c = sym (c.loop-k.invariant.1 ∙ left_end (said_by c.args.s.now) c.args.list c.loop-k.k c.if-number-eq0.true)
@@ -27,9 +27,9 @@ by_number-p-requires c = (omega arith, c.requires.1.small c.loop-k.k)
 
 pub judge-found-requires : goal.judge-found-requires
 judge-found-requires c = let r = c.prepare-n.ensures.ready in record {
-      given = (r.given, r.grouped, r.terms);
-      prepared = r.tables;
-    }
+  given = (r.given, r.grouped, r.terms);
+  prepared = r.tables;
+}
 
 pub overflow_cast-result : goal.overflow_cast-result
 overflow_cast-result c = omega (arith, c.requires.1.small c.loop-k.k)

@@ -57,81 +57,81 @@ sized s = (s.requires.given.0.rows.wide, s.requires.prepared.size, s.requires.gi
 
 pub wrong_values-requires : goal.wrong_values-requires
 wrong_values-requires c = record {
-      given = c.requires.given;
-      table = ars-lent c.args.n c.args.l.now c.args.v.now c.args.groups.now c.args.t.now (terms (goal.at.wrong_values-requires c).Start) c.requires.prepared;
-    }
+  given = c.requires.given;
+  table = ars-lent c.args.n c.args.l.now c.args.v.now c.args.groups.now c.args.t.now (terms (goal.at.wrong_values-requires c).Start) c.requires.prepared;
+}
 
 pub first_misplaced-requires : goal.first_misplaced-requires
 first_misplaced-requires c = record {
-      given = (c.requires.given.0, c.requires.given.1);
-      table = ars-lent c.args.n c.args.l.now c.args.v.now c.args.groups.now c.args.t.now (terms (goal.at.first_misplaced-requires c).Start) c.requires.prepared;
-    }
+  given = (c.requires.given.0, c.requires.given.1);
+  table = ars-lent c.args.n c.args.l.now c.args.v.now c.args.groups.now c.args.t.now (terms (goal.at.first_misplaced-requires c).Start) c.requires.prepared;
+}
 
 pub within_ar-requires : goal.within_ar-requires
 within_ar-requires c = let z = sized (goal.at.within_ar-requires c).Start in record {
-      n_le_most_events = omega (arith, z);
-      whole = whole (goal.at.within_ar-requires c).Start;
-    }
+  n_le_most_events = omega (arith, z);
+  whole = whole (goal.at.within_ar-requires c).Start;
+}
 
 pub within_ar-requires-in-RealTimeWrites : goal.within_ar-requires-in-RealTimeWrites
 within_ar-requires-in-RealTimeWrites c = let z = sized (goal.at.within_ar-requires-in-RealTimeWrites c).Start in record {
-      n_le_most_events = omega (arith, z);
-      whole = whole (goal.at.within_ar-requires-in-RealTimeWrites c).Start;
-    }
+  n_le_most_events = omega (arith, z);
+  whole = whole (goal.at.within_ar-requires-in-RealTimeWrites c).Start;
+}
 
 pub within_vis-requires : goal.within_vis-requires
 within_vis-requires c = let z = sized (goal.at.within_vis-requires c).Start in record {
-      n_le_most_events = omega (arith, z);
-      whole = whole (goal.at.within_vis-requires c).Start;
-    }
+  n_le_most_events = omega (arith, z);
+  whole = whole (goal.at.within_vis-requires c).Start;
+}
 
 pub within_vis-requires-in-ReadYourWrites : goal.within_vis-requires-in-ReadYourWrites
 within_vis-requires-in-ReadYourWrites c = let z = sized (goal.at.within_vis-requires-in-ReadYourWrites c).Start in record {
-      n_le_most_events = omega (arith, z);
-      whole = whole (goal.at.within_vis-requires-in-ReadYourWrites c).Start;
-    }
+  n_le_most_events = omega (arith, z);
+  whole = whole (goal.at.within_vis-requires-in-ReadYourWrites c).Start;
+}
 
 pub within_ar-requires-in-MonotonicWrites : goal.within_ar-requires-in-MonotonicWrites
 within_ar-requires-in-MonotonicWrites c = let z = sized (goal.at.within_ar-requires-in-MonotonicWrites c).Start in record {
-      n_le_most_events = omega (arith, z);
-      whole = whole (goal.at.within_ar-requires-in-MonotonicWrites c).Start;
-    }
+  n_le_most_events = omega (arith, z);
+  whole = whole (goal.at.within_ar-requires-in-MonotonicWrites c).Start;
+}
 
 pub within_ar-requires-in-WritesFollowReads : goal.within_ar-requires-in-WritesFollowReads
 within_ar-requires-in-WritesFollowReads c = let z = sized (goal.at.within_ar-requires-in-WritesFollowReads c).Start in record {
-      n_le_most_events = omega (arith, z);
-      whole = whole (goal.at.within_ar-requires-in-WritesFollowReads c).Start;
-    }
+  n_le_most_events = omega (arith, z);
+  whole = whole (goal.at.within_ar-requires-in-WritesFollowReads c).Start;
+}
 
 pub within_vis-requires-in-Pram : goal.within_vis-requires-in-Pram
 within_vis-requires-in-Pram c = let z = sized (goal.at.within_vis-requires-in-Pram c).Start in record {
-      n_le_most_events = omega (arith, z);
-      whole = whole (goal.at.within_vis-requires-in-Pram c).Start;
-    }
+  n_le_most_events = omega (arith, z);
+  whole = whole (goal.at.within_vis-requires-in-Pram c).Start;
+}
 
 pub within_vis-requires-in-CausalVisibility : goal.within_vis-requires-in-CausalVisibility
 within_vis-requires-in-CausalVisibility c = let z = sized (goal.at.within_vis-requires-in-CausalVisibility c).Start in record {
-      n_le_most_events = omega (arith, z);
-      whole = whole (goal.at.within_vis-requires-in-CausalVisibility c).Start;
-    }
+  n_le_most_events = omega (arith, z);
+  whole = whole (goal.at.within_vis-requires-in-CausalVisibility c).Start;
+}
 
 pub within_ar-requires-in-CausalArbitration : goal.within_ar-requires-in-CausalArbitration
 within_ar-requires-in-CausalArbitration c = let z = sized (goal.at.within_ar-requires-in-CausalArbitration c).Start in record {
-      n_le_most_events = omega (arith, z);
-      whole = whole (goal.at.within_ar-requires-in-CausalArbitration c).Start;
-    }
+  n_le_most_events = omega (arith, z);
+  whole = whole (goal.at.within_ar-requires-in-CausalArbitration c).Start;
+}
 
 pub within_vis-requires-in-PerObjectPram : goal.within_vis-requires-in-PerObjectPram
 within_vis-requires-in-PerObjectPram c = let z = sized (goal.at.within_vis-requires-in-PerObjectPram c).Start in record {
-      n_le_most_events = omega (arith, z);
-      whole = whole (goal.at.within_vis-requires-in-PerObjectPram c).Start;
-    }
+  n_le_most_events = omega (arith, z);
+  whole = whole (goal.at.within_vis-requires-in-PerObjectPram c).Start;
+}
 
 pub first_misplaced-requires-in-PerObjectSingleOrder : goal.first_misplaced-requires-in-PerObjectSingleOrder
 first_misplaced-requires-in-PerObjectSingleOrder c = record {
-      given = (c.requires.given.0, c.requires.given.1);
-      table = ars-lent c.args.n c.args.l.now c.args.v.now c.args.groups.now c.args.t.now (terms (goal.at.first_misplaced-requires-in-PerObjectSingleOrder c).Start) c.requires.prepared;
-    }
+  given = (c.requires.given.0, c.requires.given.1);
+  table = ars-lent c.args.n c.args.l.now c.args.v.now c.args.groups.now c.args.t.now (terms (goal.at.first_misplaced-requires-in-PerObjectSingleOrder c).Start) c.requires.prepared;
+}
 
 pub returns-in-RVal : goal.returns-in-RVal
 unfolding rule breaks verdict history_from

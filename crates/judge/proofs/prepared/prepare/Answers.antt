@@ -33,10 +33,10 @@ count-n-requires c = passed-long c.args.s.now c.requires.read_into.passed
 
 pub load-requires : goal.load-requires
 load-requires c = record {
-      n_in_bounds = blocks-long c.args.s.now c.requires.read_into.passed c.count-n.result c.count-n.ensures;
-      w_bound = omega arith;
-      w_in_bounds = omega (arith, few (goal.at.load-requires c).After-count-n, c.requires.l_len.0);
-    }
+  n_in_bounds = blocks-long c.args.s.now c.requires.read_into.passed c.count-n.result c.count-n.ensures;
+  w_bound = omega arith;
+  w_in_bounds = omega (arith, few (goal.at.load-requires c).After-count-n, c.requires.l_len.0);
+}
 
 pub load_terms-requires : goal.load_terms-requires
 load_terms-requires c = (passed-long c.args.s.now c.requires.read_into.passed, c.requires.l_len.1)

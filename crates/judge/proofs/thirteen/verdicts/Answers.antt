@@ -19,9 +19,9 @@ found c = ready-verdict _ _ _ _ _ _ _ c.prepare-n.ensures.ready _ _ c.judge-foun
 
 pub prepare-n-requires : goal.prepare-n-requires
 prepare-n-requires c = record {
-      read_into = c.requires;
-      l_len = search rules;
-    }
+  read_into = c.requires;
+  l_len = search rules;
+}
 
 pub loop-k-init : goal.loop-k-init
 unfolding packed_verdicts
@@ -29,9 +29,9 @@ loop-k-init c = (omega arith, refl, refl)
 
 pub judge-found-requires : goal.judge-found-requires
 judge-found-requires c = let r = c.prepare-n.ensures.ready in record {
-      given = (r.given, r.grouped, r.terms);
-      prepared = r.tables;
-    }
+  given = (r.given, r.grouped, r.terms);
+  prepared = r.tables;
+}
 
 pub pack-requires : goal.pack-requires
 unfolding history_of
