@@ -105,35 +105,19 @@ def table():
             new = lemma(name, snakes)
             if new != name:
                 turned[name] = new
-    for name in fields() & names:
-        if "-" in name and not of_rattle(name):
-            turned[name] = "_".join(words_of(p) for p in name.split("-"))
     # A lemma that would have a definition's name ends in _lem.
     taken = {b for a, b in turned.items() if is_camel(a)} | definitions | {"bit_and", "bit_or"}
     for name in found:
         new = turned.get(name, name)
         if new in taken and not is_camel(name) and (name not in definitions or new in turned.values() and "-" not in name and name in lemmas_of(found, definitions)):
             turned[name] = new + "_lem"
+    turned.update((name, name.replace("-", "_")) for name in FIELDS if name in names)
     return turned, names
 
 
-FIELD = re.compile(r"\s+(?:pub )?([^\s:()]+) :(?=\s|$)")
-
-
-def fields():
-    """The fields of records: labels, in which no dash stays."""
-    found = set()
-    for path in antt_files():
-        inside = False
-        for line in open(path, encoding="utf-8"):
-            code = code_of(line)
-            if re.match(r"\s*(?:pub )?record .*where", code):
-                inside = True
-            elif re.match(r"\S", code):
-                inside = False
-            elif inside and (m := FIELD.match(code)):
-                found.add(m[1])
-    return found
+# Fields of records that have names of definitions in theirs: labels, in which no dash stays.
+FIELDS = """lowest-next needs-made clock-few known-held held-known held-made cell-stamp cell-site none-lacking needs-met each-answer
+beyond-answers here-taken there-taken first-row so-row middle-row object-row from-length from-once""".split()
 
 
 def lemmas_of(found, definitions):
@@ -142,10 +126,6 @@ def lemmas_of(found, definitions):
 
 # Names that are Rattle's own or the source's.
 KEPT = {"decLt", "decEq", "decLe", "or-false"}
-
-
-def of_rattle(name):
-    return name in KEPT
 
 
 def together(turned, names):

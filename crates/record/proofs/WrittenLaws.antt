@@ -54,6 +54,13 @@ part_stored src s d at k long room copied =
     sym (sets-eq src s at (omega arith) ∙ append_assoc (take at s) src (drop (at + length src) s)
     ∙ ap₂ (λ (l r : List ℕ). take at s ++ (l ++ r)) (sym e) (ap (λ (p : ℕ). drop p s) (sym end) ∙ sym (drop-drop k at s)))
 
+-- the openings, copied over the 132 bytes from 12 on, which left d there
+openings_stored : (openings s d : List ℕ) → Bytes openings → length openings ≡ 132 → openings_right openings 0 ≡ true → 144 ≤ length s
+    → d ≡ take (length openings) openings ++ drop (length openings) (take 132 (drop 12 s))
+    → take 12 s ++ (d ++ drop 132 (drop 12 s)) ≡ sets s 12 (opening_bytes (opening_in openings 0))
+openings_stored openings s d bytes long right room copied =
+    part_stored openings s d 12 132 long room copied ∙ ap (sets s 12) (sym (openings_again openings bytes long right))
+
 -- behind a difference, which was stored from 8 on
 pub terms_stored : (L : Layout) → L.terms ≡ true → (openings s s₁ d : List ℕ) (difference : ℕ) → Bytes openings → length openings ≡ 132 → openings_right openings 0 ≡ true → 144 ≤ length s₁
     → s₁ ≡ sets s 8 (little_bytes 4 difference) → d ≡ take (length openings) openings ++ drop (length openings) (take 132 (drop 12 s₁))
@@ -62,7 +69,7 @@ unfolding with_terms terms_bytes
 terms_stored L had openings s s₁ d difference bytes long right room put copied =
     rw had
     (little-then 4 difference (opening_bytes (opening_in openings 0)) s s₁ (take 12 s₁ ++ (d ++ drop 132 (drop 12 s₁))) 8 12 put
-    (part_stored openings s₁ d 12 132 long room copied ∙ ap (sets s₁ 12) (sym (openings_again openings bytes long right))) refl)
+    (openings_stored openings s₁ d bytes long right room copied) refl)
 
 terms-front : (L : Layout) (t : Terms) (p q : List ℕ) → 144 ≤ length p → with_terms L t (p ++ q) ≡ with_terms L t p ++ q
 unfolding with_terms
