@@ -6,14 +6,12 @@ use Prim.Native.Nat.{ℕ, ◌+◌, ◌*◌, ◌-◌, ◌<◌, ◌≤◌}
 use native.Mathlib.Nat.{div-le_self}
 use native.Mathlib.Omega.{arith}
 use borrow.Author.Tests.{le-leb, lt-leb}
-use lib.Dec.{leb}
 use lib.ListN.{length, get_or, take, drop, replicate, length-replicate, get_or-append}
 use lib.Seq.{sets}
-use Rattle.rows.specs.Lowest.{some}
 use Rattle.rows.proofs.LowestLaws.{none-some}
 use Rattle.rows.proofs.Tests.{split}
 use Rattle.record.specs.Layout.{Layout, edition_of, count_in, sites_in, slot_at, zeros, most_events}
-use Rattle.record.specs.Terms.{Terms, bare}
+use Rattle.record.specs.Terms.{Terms}
 use Rattle.record.specs.History.{History, history_of}
 use Rattle.record.specs.Answers.{Passes}
 use Rattle.record.specs.declared.Reading.TheVariants.{Passed}

@@ -1,4 +1,6 @@
 // The converter: a record of any edition, written as any.
+#![tactic(auto)]
+
 pub mod moving;
 pub mod packing;
 

@@ -31,9 +31,9 @@ stands c = told_true c.stands.ensures (ap not c.if-not-stands.false)
 pub returns-then-not-stands : goal.returns-then-not-stands
 unfolding target_after
 returns-then-not-stands c = let a = c.args in record {
-      value = moved_not _ _ _ a.s.now (told_false c.stands.ensures (ap not c.if-not-stands.true));
-      target_after = refl;
-    }
+  value = moved_not _ _ _ a.s.now (told_false c.stands.ensures (ap not c.if-not-stands.true));
+  target_after = refl;
+}
 
 pub count-requires : goal.count-requires
 count-requires c = long c.args.s.now c.requires
@@ -49,19 +49,19 @@ overflow_mul-blocks c = omega (arith, many c, blocks-few (text c) (start c).requ
 pub returns-then-target-blocks : goal.returns-then-target-blocks
 unfolding target_after
 returns-then-target-blocks c = record {
-      value = moved_short _ _ _ (text (goal.at.returns-then-target-blocks c).After-blocks-blocks) (stands (goal.at.returns-then-target-blocks c).After-blocks-blocks) (omega (arith, many (goal.at.returns-then-target-blocks c).After-blocks-blocks, c.if-target-blocks.true));
-      target_after = refl;
-    }
+  value = moved_short _ _ _ (text (goal.at.returns-then-target-blocks c).After-blocks-blocks) (stands (goal.at.returns-then-target-blocks c).After-blocks-blocks) (omega (arith, many (goal.at.returns-then-target-blocks c).After-blocks-blocks, c.if-target-blocks.true));
+  target_after = refl;
+}
 
 pub write-requires : goal.write-requires
 write-requires c = record {
-      passes = ((start (goal.at.write-requires c).After-blocks-blocks).requires, omega (arith, many (goal.at.write-requires c).After-blocks-blocks, c.if-target-blocks.false));
-      blocks_value = many (goal.at.write-requires c).After-blocks-blocks;
-    }
+  passes = ((start (goal.at.write-requires c).After-blocks-blocks).requires, omega (arith, many (goal.at.write-requires c).After-blocks-blocks, c.if-target-blocks.false));
+  blocks_value = many (goal.at.write-requires c).After-blocks-blocks;
+}
 
 pub returns : goal.returns
 unfolding target_after
 returns c = record {
-      value = moved_written _ _ _ (text (goal.at.returns c).After-blocks-blocks) (stands (goal.at.returns c).After-blocks-blocks) (omega (arith, many (goal.at.returns c).After-blocks-blocks, c.if-target-blocks.false)) _ (ap (λ (n : ℕ). 512 * n) (many (goal.at.returns c).After-blocks-blocks));
-      target_after = c.write.ensures;
-    }
+  value = moved_written _ _ _ (text (goal.at.returns c).After-blocks-blocks) (stands (goal.at.returns c).After-blocks-blocks) (omega (arith, many (goal.at.returns c).After-blocks-blocks, c.if-target-blocks.false)) _ (ap (λ (n : ℕ). 512 * n) (many (goal.at.returns c).After-blocks-blocks));
+  target_after = c.write.ensures;
+}
