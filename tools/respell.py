@@ -5,8 +5,8 @@ usage: python3 tools/respell.py [--table]      at the top of the repository, onc
 
 port.py respells the names that the library has too; this does the rest: definitions, fields and constructors in camelCase become
 snake_case, and in the name of a lemma a dash stays only between two names of definitions, as in `length-sets`, and is an underscore before
-or after a plain word, as in `slots_more`. It turns specs/, proofs/ and the `ghost use` lines and clauses of src/, and the texts of must-fail
-edits. Functions of src/ keep their names, and so does what Rattle makes of the code, behind `c.`, `tie.` and `goal.`.
+or after a plain word, as in `slots_more`. It turns specs/, proofs/ and the `ghost use` lines and clauses of src/. Functions of
+src/ keep their names, and so does what Rattle makes of the code, behind `c.`, `tie.` and `goal.`. Must-fail edits were turned by hand.
 --table prints the names, old and new, and changes nothing.
 """
 

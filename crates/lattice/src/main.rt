@@ -11,7 +11,9 @@ ghost use Rattle.lattice.specs.Answers.{Models};
 
 use consistency::Outcome;
 use judge::Judgment;
-use std::{env, io};
+use std::env::FillError;
+use std::io;
+use std::rt::Env;
 
 fn name(m: usize) -> &'static str {
     match m {
@@ -120,8 +122,8 @@ fn usage(rt: &impl Eprint) -> io::Result<()> {
 }
 
 // The bytes of the record that an argument names.
-fn one_record(rt: &(impl Print + Eprint), argument: &str) -> io::Result<()> {
-    let [digit @ b'1'..=b'8'] = argument.as_bytes() else {
+fn one_record(rt: &(impl Print + Eprint), argument: &[u8]) -> io::Result<()> {
+    let [digit @ b'1'..=b'8'] = argument else {
         return usage(rt);
     };
     let mut rec = [0u8; records::LENGTH];
@@ -130,15 +132,14 @@ fn one_record(rt: &(impl Print + Eprint), argument: &str) -> io::Result<()> {
 }
 
 fn main(rt: HostRuntime) -> io::Result<()> {
-    let mut arguments = match env::args(&rt) {
-        Ok(arguments) => arguments.skip(1),
-        // An argument that is not text names no record.
-        Err(error) if error.kind() == io::ErrorKind::InvalidData => return usage(&rt),
-        Err(error) => return Err(error),
+    let mut argument = [0u8; 1];
+    let length = match rt.arg(1, &mut argument) {
+        Ok(length) => length,
+        Err(FillError::NotPresent) => return pairs(&rt),
+        Err(FillError::TooLong) => return usage(&rt),
     };
-    match (arguments.next(), arguments.next()) {
-        (None, _) => pairs(&rt),
-        (Some(argument), None) => one_record(&rt, argument.as_str()),
-        (Some(_), Some(_)) => usage(&rt),
+    match rt.arg(2, &mut [0u8; 1]) {
+        Err(FillError::NotPresent) => one_record(&rt, &argument[..length]),
+        _ => usage(&rt),
     }
 }

@@ -4,8 +4,9 @@
 
 use lines::input;
 use record::layout;
-use std::rt::Files;
-use std::{env, fs, io};
+use std::env::FillError;
+use std::rt::{Env, Files};
+use std::{fs, io, str};
 
 // What stands in a work slice before it is lent.
 fn noise(i: usize) -> u64 {
@@ -65,9 +66,13 @@ fn reports(rt: &impl Print, s: &[u8]) -> io::Result<()> {
     report(rt, s, &mut long)
 }
 
-// A file that does not open has a line on standard error in place of its reports.
-fn vector(rt: &(impl Files + Print + Eprint), path: &str) -> io::Result<()> {
-    println!(rt; "{path}")?;
+// A file that does not open has a line on standard error in place of its reports, and so has a path that is not text.
+fn vector(rt: &(impl Files + Print + Eprint), path: &[u8]) -> io::Result<()> {
+    rt.write_all(path)?;
+    println!(rt)?;
+    let Ok(path) = str::from_utf8(path) else {
+        return eprintln!(rt; "the path is not UTF-8");
+    };
     let mut file = match fs::open(rt, path) {
         Ok(file) => file,
         Err(error) => return eprintln!(rt; "{path}: {error}"),
@@ -78,9 +83,19 @@ fn vector(rt: &(impl Files + Print + Eprint), path: &str) -> io::Result<()> {
     reports(rt, &input[..length])
 }
 
+// The longest path that can be opened, in bytes.
+const LONGEST_PATH: usize = 4095;
+
 fn main(rt: HostRuntime) -> io::Result<()> {
-    for path in env::args(&rt)?.skip(1) {
-        vector(&rt, path.as_str())?;
+    // Argument 0 is the program's name.
+    for i in 1..usize::MAX {
+        let mut path = [0u8; LONGEST_PATH];
+        let length = match rt.arg(i, &mut path) {
+            Ok(length) => length,
+            Err(FillError::NotPresent) => return Ok(()),
+            Err(FillError::TooLong) => 0,
+        };
+        vector(&rt, &path[..length])?;
     }
     Ok(())
 }
