@@ -1,4 +1,4 @@
--- `converter::moving::says_none_lem` meets its contract: an edition without terms says none, and in the others their bytes tell. Assumes nothing.
+-- `converter::moving::says_none` meets its contract: an edition without terms says none, and in the others their bytes tell. Assumes nothing.
 use Rattle.converter.proofs.MovingLaws.{long, none_lacking, none-zero}
 use Rattle.record.specs.Answers.{Passes}
 use Rattle.record.specs.Layout.{edition_of}
