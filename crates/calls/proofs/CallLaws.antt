@@ -11,19 +11,7 @@ use Rattle.rows.proofs.Tests.{split, never, and_left, and_right}
 use Rattle.rows.specs.Octets.{little}
 use Rattle.rows.proofs.ByteLaws.{little_join, little_two, little_lt}
 use Rattle.record.specs.Layout.{byte}
-use Rattle.store.specs.Calls.{call_at, malformed}
-use Rattle.calls.specs.Mirror.{call_of}
-use Rattle.calls.specs.declared.Asked.{Asked}
-
--- the fields of the word x
-abbrev asked : ℕ → ℕ → Asked
-asked x kind = record {
-  kind = kind;
-  site = x / 256 % 256;
-  object = x / 65536 % 256;
-  value = x / 4294967296;
-  event = x / 4294967296 % 65536;
-}
+use Rattle.store.specs.Calls.{put, get, deliver, close, malformed, call_at}
 
 module _ (s : List ℕ) (bytes : (i : ℕ) → get_or s i 0 < 256) (at : ℕ) where
   -- a word of four bytes and a number of four more
@@ -74,7 +62,7 @@ module _ (s : List ℕ) (bytes : (i : ℕ) → get_or s i 0 < 256) (at : ℕ) wh
     kind_is : (k : ℕ) → x % 256 ≡ k → byte s at ≡ k
     kind_is k e = sym w.kind ∙ e
 
-    pub asked_put : x % 256 ≡ 1 → x / 16777216 % 256 ≡ 0 → call_of (asked x 1) ≡ call_at s at
+    pub asked_put : x % 256 ≡ 1 → x / 16777216 % 256 ≡ 0 → put (x / 256 % 256) (x / 65536 % 256) (x / 4294967296) ≡ call_at s at
     unfolding call_at
     asked_put k z = rw (← w.zero, z, kind_is 1 k, w.site, w.object, w.value)
 
@@ -82,7 +70,7 @@ module _ (s : List ℕ) (bytes : (i : ℕ) → get_or s i 0 < 256) (at : ℕ) wh
     unfolding call_at
     asked_no_put k z = rw (← w.zero, ne_eqb (x / 16777216 % 256) 0 z)
 
-    pub asked_get : x % 256 ≡ 2 → x / 16777216 ≡ 0 → call_of (asked x 2) ≡ call_at s at
+    pub asked_get : x % 256 ≡ 2 → x / 16777216 ≡ 0 → get (x / 256 % 256) (x / 65536 % 256) ≡ call_at s at
     unfolding call_at
     asked_get k z =
         let third : byte s (at + 3) ≡ 0 = omega (arith, w.rest) in
@@ -95,12 +83,13 @@ module _ (s : List ℕ) (bytes : (i : ℕ) → get_or s i 0 < 256) (at : ℕ) wh
         (λ t. rw (t, ne_eqb (little 4 s (at + 4)) 0 (λ q. z (omega (arith, w.rest, eqb-true (byte s (at + 3)) 0 t)))))
         (λ t. rw t))
 
-    pub asked_deliver : x % 256 ≡ 3 → x / 65536 % 65536 ≡ 0 → x / 281474976710656 ≡ 0 → call_of (asked x 3) ≡ call_at s at
+    pub asked_deliver : x % 256 ≡ 3 → x / 65536 % 65536 ≡ 0 → x / 281474976710656 ≡ 0 → deliver (x / 4294967296) (x / 256 % 256) ≡ call_at s at
     unfolding call_at
     asked_deliver k g z =
         let third : byte s (at + 3) ≡ 0 = omega (arith, w.gap) in
         let second : byte s (at + 2) ≡ 0 = omega (arith, w.gap) in
-        rw (third, kind_is 3 k, second, ← w.last, z, w.site, w.event)
+        let event : x / 4294967296 ≡ little 2 s (at + 4) = omega (arith, w.event, z) in
+        rw (third, kind_is 3 k, second, ← w.last, z, w.site, event)
 
     pub asked_late : x % 256 ≡ 3 → x / 65536 % 65536 ≡ 0 → (x / 281474976710656 ≡ 0 → ⊥) → malformed ≡ call_at s at
     unfolding call_at
@@ -115,7 +104,7 @@ module _ (s : List ℕ) (bytes : (i : ℕ) → get_or s i 0 < 256) (at : ℕ) wh
         (λ t. rw (t, ne_eqb (byte s (at + 2)) 0 (λ q. g (omega (arith, w.gap, eqb-true (byte s (at + 3)) 0 t)))))
         (λ t. rw t))
 
-    pub asked_close : x ≡ 4 → call_of (asked x 4) ≡ call_at s at
+    pub asked_close : x ≡ 4 → close ≡ call_at s at
     unfolding call_at
     asked_close e =
         let kind : byte s at ≡ 4 = omega (arith, w.kind) in

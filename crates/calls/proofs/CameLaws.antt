@@ -1,47 +1,52 @@
--- A put that comes to a site, on the slices, is that copy in the store that they stand for. Assumes nothing.
+-- A put that comes to a site, on the arrays, is that copy in the store that they stand for. Assumes nothing.
 use mathlib.Core.Path.{◌≡◌, refl, sym, ap, ap₂, ◌∙◌}
 use mathlib.Core.List.{List}
-use Prim.Native.Nat.{ℕ, suc, ◌+◌, ◌*◌, ◌/◌, ◌%◌, ◌<◌, max}
+use Prim.Native.Nat.{ℕ, ◌<◌, max}
 use native.Mathlib.Omega.{arith}
-use lib.ListN.{get_or, set}
+use lib.ListN.{length, get_or, set, length-set}
+use lib.Seq.{get_or-set_same, get_or-set_other}
 use borrow.Author.Tests.{lt-ltb}
-use Rattle.rows.specs.Row.{has, insert, or_row, row_at, RowChanged}
-use Rattle.rows.proofs.TableLaws.{length-row}
-use Rattle.record.specs.Layout.{most_events, row_words}
+use Rattle.rows.specs.Row.{has, insert, or_row}
+use Rattle.rows.proofs.RowLaws.{length-or, length-insert}
+use Rattle.record.specs.Layout.{most_events}
 use Rattle.record.specs.Terms.{value_or0}
-use Rattle.store.specs.Store.{upd, Cell, merge, Site, Event}
+use Rattle.store.specs.Store.{upd, merge, Site, Event}
 use Rattle.store.specs.Rules.{after_delivery}
-use Rattle.store.proofs.UpdateLaws.{upd_same, upd_elim}
-use Rattle.calls.specs.declared.Kept.{Kept}
-use Rattle.calls.specs.Mirror.{word_value, word_object, word_site, word_stamp, word_shown, cell_of, Raised}
-use Rattle.calls.specs.Lent.{Lent, lent, clocks_at, count_in, kept_in, cells_in, site_in, puts_in, event_in, store_in}
+use Rattle.calls.specs.Mirror.{word_value, word_object, word_site, word_stamp, word_shown, cell_of, OneMore}
+use Rattle.calls.specs.Lent.{Lent, row_in, cells_in, site_in, event_in, store_in}
 use Rattle.calls.specs.Done.{Copyable, Came}
 use Rattle.calls.proofs.KeptLaws.{known_joined}
 use Rattle.calls.proofs.WordLaws.{merged}
-use Rattle.calls.proofs.LentLaws.{Holds, holds-now, holds-clock, holds-cell, site-at, event_at_lem, site-store}
-use Rattle.calls.proofs.MadeLaws.{as_held, event-same, site_parts, row_kept}
+use Rattle.calls.proofs.LentLaws.{row_same, row_other, rows_set, cell_put-rows, cell_put-here, cell_put-other, site-at, event_at_lem, site-store}
+use Rattle.calls.proofs.MadeLaws.{as_held, site_parts}
 
-module _ (z : Lent) (s w : ℕ) (h : Copyable z s w) (at y : ℕ) (place : at ≡ 32 * s + word_object (get_or z.events w 0)) (is_later : y ≡ max (get_or z.cells at 0) (get_or z.events w 0))
-    (known' : List ℕ) (learns : RowChanged row_words s (insert (or_row (row_at z.known row_words s) (row_at z.sees row_words w)) w) z.known known')
-    (a b : Kept) (is_kept : a ≡ kept_in (set z.cells at y) z.counts s) (raises : Raised a b (max a.clock (word_stamp (get_or z.events w 0))) (word_site (get_or z.events w 0)))
-    (cells' counts' : List ℕ) (ticks : cells' ≡ set (set z.cells at y) (clocks_at + s) b.clock) (holds : RowChanged 8 s b.counts z.counts counts') where
+module _ (z : Lent) (s w : ℕ) (h : Copyable z s w) (y : ℕ) (is_later : y ≡ max (get_or (row_in z.cells s) (word_object (get_or z.events w 0)) 0) (get_or z.events w 0))
+    (row : List ℕ) (more : OneMore (row_in z.held s) row (word_site (get_or z.events w 0))) (wide : length row ≡ 8) where
   abbrev x : ℕ
   x = get_or z.events w 0
 
   abbrev o : ℕ
   o = word_object x
 
-  abbrev after : Lent
-  after = lent known' z.sees cells' z.events counts'
+  abbrev clock : ℕ
+  clock = max (get_or z.clocks s 0) (word_stamp x)
 
-  abbrev clocks : ℕ → ℕ
-  clocks i = get_or z.cells (clocks_at + i) 0
+  abbrev joined : List ℕ
+  joined = insert (or_row (row_in z.known s) (row_in z.sees w)) w
 
-  stored : Holds (set z.cells at y) (count_in z.cells) clocks (upd (cells_in z.cells) s (upd (cells_in z.cells s) o (cell_of y)))
-  stored = rw place (holds-cell z.cells (count_in z.cells) _ _ (holds-now z.cells h.sized.cells) s h.site o h.object y)
-
-  after_holds : Holds cells' (count_in z.cells) (upd clocks s b.clock) (upd (cells_in z.cells) s (upd (cells_in z.cells s) o (cell_of y)))
-  after_holds = rw ticks (holds-clock (set z.cells at y) (count_in z.cells) _ _ stored s h.site b.clock)
+  -- what it leaves
+  abbrev pub carried : Lent
+  carried = record {
+    known = set z.known s joined;
+    puts = z.puts;
+    sees = z.sees;
+    cells = set z.cells s (set (row_in z.cells s) o y);
+    clocks = set z.clocks s clock;
+    count = z.count;
+    events = z.events;
+    held = set z.held s row;
+    needs = z.needs;
+  }
 
   few : w < most_events
   few = omega (arith, h.event, h.few)
@@ -49,60 +54,43 @@ module _ (z : Lent) (s w : ℕ) (h : Copyable z s w) (at y : ℕ) (place : at �
   -- the cell keeps the later put
   cell_merged : cell_of y ≡ merge (cells_in z.cells s o) (word_value x) (word_stamp x) (word_site x)
   cell_merged =
-      let old : ℕ = get_or z.cells (32 * s + o) 0 in
-      let same : y ≡ max old x = is_later ∙ ap (λ (i : ℕ). max (get_or z.cells i 0) x) place in
-      ap cell_of same ∙ merged old x h.stamp (h.apart old refl) ∙ rw (lt-ltb o 32 (omega (arith, h.object))) refl
+      let old : ℕ = get_or (row_in z.cells s) o 0 in
+      ap cell_of is_later ∙ merged old x h.stamp (h.apart old refl) ∙ rw (lt-ltb o 32 (omega (arith, h.object))) refl
 
   -- the put has a value
   shown : word_value x ≡ value_or0 (word_shown x)
   shown = rw h.present refl
 
-  after-here : site_in after s ≡ after_delivery (site_in z s) w (event_in z w)
-  after-here =
-      let clock : a.clock ≡ clocks s = ap (λ (k : Kept). k.clock) is_kept ∙ stored.clock s h.site in
-      let counts : a.counts ≡ row_at z.counts 8 s = ap (λ (k : Kept). k.counts) is_kept in
-      site_parts after s _ _ _ _
-      (after_holds.clock s h.site ∙ upd_same clocks s b.clock ∙ raises.clock ∙ ap (λ (k : ℕ). max k (word_stamp x)) clock)
-      (as_held holds.same ∙ raises.counts ∙ ap (λ (l : List ℕ). upd (λ (i : ℕ). get_or l i 0) (word_site x) (suc (get_or l (word_site x) 0))) counts)
-      (ap has learns.same
-      ∙ known_joined (row_at z.known row_words s) (row_at z.sees row_words w) w
-      (omega (arith, length-row z.known row_words s (omega (arith, h.site, h.sized.known)), length-row z.sees row_words w (omega (arith, few, h.sized.sees))))
-      (omega (arith, few, length-row z.known row_words s (omega (arith, h.site, h.sized.known)))))
-      (after_holds.cell s h.site ∙ upd_same (cells_in z.cells) s (upd (cells_in z.cells s) o (cell_of y))
+  carried_here : site_in carried s ≡ after_delivery (site_in z s) w (event_in z w)
+  carried_here =
+      site_parts carried s _ _ _ _
+      (get_or-set_same z.clocks s clock 0 (omega (arith, h.site, h.sized.clocks)))
+      (as_held (row_same h.sized.held s h.site row) ∙ more)
+      (ap has (row_same h.sized.known s h.site joined)
+      ∙ known_joined (row_in z.known s) (row_in z.sees w) w (omega (arith, h.sized.known.wide s h.site, h.sized.sees.wide w few)) (omega (arith, few, h.sized.known.wide s h.site)))
+      (cell_put-here z.cells h.sized.cells s h.site o y h.object
       ∙ ap (upd (cells_in z.cells s) o) (cell_merged ∙ ap (λ (v : ℕ). merge (cells_in z.cells s o) v (word_stamp x) (word_site x)) shown))
 
-  after-other : (i : ℕ) → i < 8 → (i ≡ s → ⊥) → site_in after i ≡ site_in z i
-  after-other i l d =
-      site_parts after i _ _ _ _
-      (after_holds.clock i l ∙ upd_elim (λ (k : ℕ). k ≡ clocks i) clocks s b.clock i (λ q. absurd (d q)) (λ q. refl))
-      (as_held (holds.other i d))
-      (ap has (learns.other i d))
-      (after_holds.cell i l ∙ upd_elim (λ (c : ℕ → Cell). c ≡ cells_in z.cells i) (cells_in z.cells) s (upd (cells_in z.cells s) o (cell_of y)) i (λ q. absurd (d q)) (λ q. refl))
+  carried_other : (i : ℕ) → i < 8 → (i ≡ s → ⊥) → site_in carried i ≡ site_in z i
+  carried_other i l d =
+      site_parts carried i _ _ _ _ (get_or-set_other z.clocks s i clock 0 d) (as_held (row_other h.sized.held s h.site row i d))
+      (ap has (row_other h.sized.known s h.site joined i d)) (cell_put-other z.cells h.sized.cells s h.site o y h.object i d)
 
-  puts-kept : puts_in known' ≡ puts_in z.known
-  puts-kept = learns.other 8 (λ q. omega (arith, h.site))
-
-  after-events : (e : ℕ) → e < count_in z.cells → event_in after e ≡ event_in z e
-  after-events e l = event-same z after e refl (ap (λ (r : List ℕ). has r e) puts-kept) refl (holds.other (8 + e) (λ q. omega (arith, h.site)))
-
-  pub came : Came z after s w
+  pub came : Came z carried s w
   came = record {
     sized = record {
-      known = learns.size ∙ h.sized.known;
+      known = rows_set h.sized.known s h.site joined (length-insert (or_row (row_in z.known s) (row_in z.sees w)) w ∙ length-or (row_in z.known s) (row_in z.sees w) ∙ h.sized.known.wide s h.site);
+      puts = h.sized.puts;
       sees = h.sized.sees;
-      cells = after_holds.long;
+      cells = cell_put-rows z.cells h.sized.cells s h.site o y h.object;
+      clocks = length-set z.clocks s clock ∙ h.sized.clocks;
       events = h.sized.events;
-      counts = holds.size ∙ h.sized.counts;
+      held = rows_set h.sized.held s h.site row wide;
+      needs = h.sized.needs;
     };
-    clear = record {
-      puts = λ e l. ap (λ (r : List ℕ). has r e) puts-kept ∙ h.clear.puts e (omega (arith, after_holds.count));
-      events = λ e l. h.clear.events e (omega (arith, after_holds.count));
-      sees = λ i l. h.clear.sees i (omega (arith, after_holds.count));
-      counts = λ i l.
-          row_kept holds (i / 8) (i % 8) i (omega arith) (omega arith) (λ q. omega (arith, h.site)) ∙ h.clear.counts i (omega (arith, after_holds.count));
-    };
+    clear = record { puts = h.clear.puts; events = h.clear.events; sees = h.clear.sees; needs = h.clear.needs };
     store = λ t.
-        site-store t z after s h.site (after_delivery ((store_in t z).site s) w ((store_in t z).event w))
-        (after-here ∙ ap₂ (λ (u : Site) (e : Event). after_delivery u w e) (sym (site-at t z s h.site)) (sym (event_at_lem t z w h.event)))
-        after-other after_holds.count after-events;
+        site-store t z carried s h.site (after_delivery ((store_in t z).site s) w ((store_in t z).event w))
+        (carried_here ∙ ap₂ (λ (u : Site) (e : Event). after_delivery u w e) (sym (site-at t z s h.site)) (sym (event_at_lem t z w h.event)))
+        carried_other refl (λ e l. refl);
   }

@@ -1,18 +1,17 @@
--- A close on the slices: the lowest put that some site lacks comes to all sites that lack it, until there is none. Assumes nothing.
+-- A close on the arrays: the lowest put that some site lacks comes to all sites that lack it, until there is none. Assumes nothing.
 use mathlib.Core.Path.{◌≡◌, refl, sym, ap, ap₂, ◌∙◌}
 use mathlib.Core.Logic.{◌⊎◌, inl, inr}
 use mathlib.Core.Bool.{Bool, true, false, not, ◌&&◌, and-false}
-use mathlib.Core.List.{List}
 use Prim.Native.Nat.{ℕ, ◌+◌, ◌*◌, ◌≤◌, ◌<◌}
 use native.Mathlib.Nat.{mul-le-mul}
 use native.Mathlib.Omega.{arith}
 use lib.Dec.{ltb}
 use borrow.Author.Tests.{ltb-true, ltb-false}
 use Rattle.rows.specs.Lowest.{lowest, some}
-use Rattle.rows.specs.Row.{has, row_at}
+use Rattle.rows.specs.Row.{has}
 use Rattle.rows.proofs.Tests.{split, tell, and_left}
 use Rattle.rows.proofs.LowestLaws.{Low, lowest_low, some-none, none-some}
-use Rattle.record.specs.Layout.{most_events, row_words}
+use Rattle.record.specs.Layout.{most_events}
 use Rattle.record.specs.Terms.{Terms}
 use Rattle.store.specs.Store.{Site, Event, Store}
 use Rattle.store.specs.Rules.{after_delivery, with_copy}
@@ -21,7 +20,7 @@ use Rattle.store.proofs.UpdateLaws.{upd_elim, upd_same, lt_suc_elim}
 use Rattle.store.proofs.DeliverKeeps.{still_known, put-known}
 use Rattle.store.proofs.OutstandingLaws.{outstanding-most, known-put, not-lacking}
 use Rattle.store.proofs.CloseSites.{Closing, closing-none, closing_join, closing_doable, closing-more, closing-store, closing-copies}
-use Rattle.calls.specs.Lent.{Lent, lent, puts_in, count_in, store_in, lacked_by_some}
+use Rattle.calls.specs.Lent.{Lent, row_in, store_in, lacked_by_some}
 use Rattle.calls.specs.Done.{Copyable, Came, Closes}
 use Rattle.calls.proofs.LentLaws.{store-count, site-at, put-told}
 use Rattle.calls.proofs.FitLaws.{Fit, copyable}
@@ -32,74 +31,70 @@ module _ (n : ℕ) (n≤8 : n ≤ 8) (t : Terms) (z : Lent) (fit : Fit n t z) wh
   abbrev st : Store
   st = store_in t z
 
-  pub known-told : (u x : ℕ) → u < 8 → (st.site u).known x ≡ has (row_at z.known row_words u) x
+  pub known-told : (u x : ℕ) → u < 8 → (st.site u).known x ≡ has (row_in z.known u) x
   known-told u x l = ap (λ (a : Site). a.known x) (site-at t z u l)
 
-  lacks-told : (u x : ℕ) → u < 8 → lacks st u x ≡ has (puts_in z.known) x && not (has (row_at z.known row_words u) x)
+  lacks-told : (u x : ℕ) → u < 8 → lacks st u x ≡ has z.puts x && not (has (row_in z.known u) x)
   lacks-told u x l = ap₂ (λ (p k : Bool). p && not k) (put-told t z fit.clear x) (known-told u x l)
 
   abbrev lacking : ℕ → ℕ → Bool
-  lacking x u = not (has (row_at z.known row_words u) x)
+  lacking x u = not (has (row_in z.known u) x)
 
   -- no site lacks x
-  by-none : (x : ℕ) → lacked_by_some z.known n x ≡ false → (u : ℕ) → u < n → lacks st u x ≡ false
-  by-none x e u l = lacks-told u x (omega arith) ∙ elim (either (has (puts_in z.known) x) (some n (lacking x)) e) [
+  by-none : (x : ℕ) → lacked_by_some z n x ≡ false → (u : ℕ) → u < n → lacks st u x ≡ false
+  by-none x e u l = lacks-told u x (omega arith) ∙ elim (either (has z.puts x) (some n (lacking x)) e) [
     | inl p ↦ ap (λ (b : Bool). b && lacking x u) p
-    | inr q ↦ ap (λ (b : Bool). has (puts_in z.known) x && b) (some-none n (lacking x) q u l) ∙ and-false (has (puts_in z.known) x)
+    | inr q ↦ ap (λ (b : Bool). has z.puts x && b) (some-none n (lacking x) q u l) ∙ and-false (has z.puts x)
   ]
     where
       either : (p s : Bool) → p && s ≡ false → p ≡ false ⊎ s ≡ false
       either true s e = inr e
       either false s e = inl refl
 
-  none-by : (x : ℕ) → ((u : ℕ) → u < n → lacks st u x ≡ false) → lacked_by_some z.known n x ≡ false
+  none-by : (x : ℕ) → ((u : ℕ) → u < n → lacks st u x ≡ false) → lacked_by_some z n x ≡ false
   none-by x none =
-      split (has (puts_in z.known) x)
+      split (has z.puts x)
       (λ p. rw p (none-some n (lacking x) (λ u l. sym (ap (λ (b : Bool). b && lacking x u) p) ∙ sym (lacks-told u x (omega arith)) ∙ none u l)))
       (λ p. rw p refl)
 
   -- w is the lowest that some site lacks
-  module _ (w : ℕ) (told : w ≡ lowest most_events (lacked_by_some z.known n)) where
-    first : Low most_events (lacked_by_some z.known n) w
-    first = rw told (lowest_low most_events (lacked_by_some z.known n))
+  module _ (w : ℕ) (told : w ≡ lowest most_events (lacked_by_some z n)) where
+    first : Low most_events (lacked_by_some z n) w
+    first = rw told (lowest_low most_events (lacked_by_some z n))
 
     pub none-lower : (e u : ℕ) → e < w → u < n → lacks st u e ≡ false
     none-lower e u l m = by-none e (first.below e l) u m
 
     pub lacked_put : w < most_events → (st.event w).is_put ≡ true
-    lacked_put few = put-told t z fit.clear w ∙ and_left (has (puts_in z.known) w) (some n (lacking w)) (first.at few)
+    lacked_put few = put-told t z fit.clear w ∙ and_left (has z.puts w) (some n (lacking w)) (first.at few)
 
   -- where no put up to w lacks anywhere, the lowest is higher
-  pub lowest_higher : (w v : ℕ) → w < most_events → v ≡ lowest most_events (lacked_by_some z.known n) → ((e u : ℕ) → e ≤ w → u < n → lacks st u e ≡ false) → w < v
+  pub lowest_higher : (w v : ℕ) → w < most_events → v ≡ lowest most_events (lacked_by_some z n) → ((e u : ℕ) → e ≤ w → u < n → lacks st u e ≡ false) → w < v
   lowest_higher w v few told none =
       split (ltb w v) (λ k. ltb-true w v k)
       (λ k.
       let most : v ≤ w = ltb-false w v k in
-      absurd (tell (lacked_by_some z.known n v) ((first v told).at (omega arith)) (none-by v (λ u l. none v u most l))))
+      absurd (tell (lacked_by_some z n v) ((first v told).at (omega arith)) (none-by v (λ u l. none v u most l))))
 
 -- ---- copies
 
--- the slices of z with what is the sites'
-abbrev pub with_sites : Lent → List ℕ → List ℕ → List ℕ → Lent
-with_sites z known cells counts = lent known z.sees cells z.events counts
-
--- since the close began, in z, so many copies were delivered
-pub record ClosingIn (n : ℕ) (t : Terms) (z : Lent) (known cells counts : List ℕ) (copies : ℕ) : Type 0 where
-  pub fit : Fit n t (with_sites z known cells counts)
-  pub closing : Closing n (store_in t z) (store_in t (with_sites z known cells counts)) copies
+-- since the close began, in z, so many copies were delivered, up to now
+pub record ClosingIn (n : ℕ) (t : Terms) (z now : Lent) (copies : ℕ) : Type 0 where
+  pub fit : Fit n t now
+  pub closing : Closing n (store_in t z) (store_in t now) copies
 
 -- the copies of event w, begun in z after `before` others, for the first u sites: no site lacks a lower put, and these do not lack w
-pub record Copying (n : ℕ) (t : Terms) (z : Lent) (w before : ℕ) (known cells counts : List ℕ) (copies u : ℕ) : Type 0 where
+pub record Copying (n : ℕ) (t : Terms) (z : Lent) (w before : ℕ) (now : Lent) (copies u : ℕ) : Type 0 where
   pub brought : ℕ
   pub sum : copies ≡ before + brought
-  pub here : ClosingIn n t z known cells counts brought
-  pub below : (e i : ℕ) → e < w → i < n → lacks (store_in t (with_sites z known cells counts)) i e ≡ false
-  pub done : (i : ℕ) → i < u → lacks (store_in t (with_sites z known cells counts)) i w ≡ false
+  pub here : ClosingIn n t z now brought
+  pub below : (e i : ℕ) → e < w → i < n → lacks (store_in t now) i e ≡ false
+  pub done : (i : ℕ) → i < u → lacks (store_in t now) i w ≡ false
 
 -- the loop's variables may be given by equations
-pub copying_carried : {n : ℕ} {t : Terms} {z : Lent} {w before : ℕ} {known known' cells cells' counts counts' : List ℕ} {copies copies' u : ℕ}
-    → known ≡ known' → cells ≡ cells' → counts ≡ counts' → copies ≡ copies' → Copying n t z w before known' cells' counts' copies' u → Copying n t z w before known cells counts copies u
-copying_carried p q r s h = rw (p, q, r, s) h
+pub copying_carried : {n : ℕ} {t : Terms} {z : Lent} {w before : ℕ} {now now' : Lent} {copies copies' u : ℕ} → now ≡ now' → copies ≡ copies'
+    → Copying n t z w before now' copies' u → Copying n t z w before now copies u
+copying_carried p q h = rw (p, q) h
 
 -- what does not lack after a copy of w to t
 still : (st : Store) (w t i e : ℕ) → lacks st i e ≡ false → lacks (with_copy st w t) i e ≡ false
@@ -115,10 +110,10 @@ copied-there st w t =
     (λ p. ap (λ (a : Site). a.known w) (upd_same st.site t (after_delivery (st.site t) w (st.event w))) ∙ put-known (st.site t) w (st.event w))
 
 module _ (n : ℕ) (n≤8 : n ≤ 8) (t : Terms) (z : Lent) (fit : Fit n t z) where
-  pub closing-start : ClosingIn n t z z.known z.cells z.counts 0
+  pub closing-start : ClosingIn n t z z 0
   closing-start = record { fit = fit; closing = closing-none n (store_in t z) }
 
-  pub copying_start : (w before : ℕ) → w ≡ lowest most_events (lacked_by_some z.known n) → Copying n t z w before z.known z.cells z.counts before 0
+  pub copying_start : (w before : ℕ) → w ≡ lowest most_events (lacked_by_some z n) → Copying n t z w before z before 0
   copying_start w before told = record {
     brought = 0;
     sum = omega arith;
@@ -127,21 +122,18 @@ module _ (n : ℕ) (n≤8 : n ≤ 8) (t : Terms) (z : Lent) (fit : Fit n t z) wh
     done = λ u l. absurd (omega arith);
   }
 
-  module _ (known cells counts : List ℕ) (copies : ℕ) where
-    abbrev now : Lent
-    now = with_sites z known cells counts
-
+  module _ (now : Lent) (copies : ℕ) where
     -- few copies were delivered
-    pub closing-most : ClosingIn n t z known cells counts copies → copies ≤ 8 * most_events
+    pub closing-most : ClosingIn n t z now copies → copies ≤ 8 * most_events
     closing-most h = omega (arith, h.closing.counted, outstanding-most n (store_in t z), mul-le-mul n≤8 fit.limits.count)
 
     -- the copy of w for site u
-    module _ (w before : ℕ) (few : w < most_events) (is_put : ((store_in t z).event w).is_put ≡ true) (u : ℕ) (h : Copying n t z w before known cells counts copies u) (l : u < n) where
+    module _ (w before : ℕ) (few : w < most_events) (is_put : ((store_in t z).event w).is_put ≡ true) (u : ℕ) (h : Copying n t z w before now copies u) (l : u < n) where
       is_put-now : ((store_in t now).event w).is_put ≡ true
       is_put-now = ap (λ (f : ℕ → Event). (f w).is_put) h.here.closing.event ∙ is_put
 
       -- it is known there
-      pub copying_pass : has (row_at known row_words u) w ≡ true → Copying n t z w before known cells counts copies (u + 1)
+      pub copying_pass : has (row_in now.known u) w ≡ true → Copying n t z w before now copies (u + 1)
       copying_pass known-w = record {
         brought = h.brought;
         sum = h.sum;
@@ -153,12 +145,12 @@ module _ (n : ℕ) (n≤8 : n ≤ 8) (t : Terms) (z : Lent) (fit : Fit n t z) wh
       }
 
       -- or it is delivered
-      module _ (lacked : has (row_at known row_words u) w ≡ false) where
+      module _ (lacked : has (row_in now.known u) w ≡ false) where
         event : w < (store_in t now).count
         event =
             rw (store-count t now)
-            (split (ltb w (count_in cells)) (λ k. ltb-true w (count_in cells) k)
-            (λ k. absurd (tell (has (puts_in known) w) (sym (put-told t now h.here.fit.clear w) ∙ is_put-now) (h.here.fit.clear.puts w (ltb-false w (count_in cells) k)))))
+            (split (ltb w now.count) (λ k. ltb-true w now.count k)
+            (λ k. absurd (tell (has now.puts w) (sym (put-told t now h.here.fit.clear w) ∙ is_put-now) (h.here.fit.clear.puts w (ltb-false w now.count k)))))
 
         lacks_w : lacks (store_in t now) u w ≡ true
         lacks_w = ap₂ (λ (p k : Bool). p && not k) is_put-now (known-told n n≤8 t now h.here.fit u w (omega arith) ∙ lacked)
@@ -168,9 +160,9 @@ module _ (n : ℕ) (n≤8 : n ≤ 8) (t : Terms) (z : Lent) (fit : Fit n t z) wh
             copyable n n≤8 t now h.here.fit w u
             (closing_doable n n≤8 (store_in t z) (store_in t now) fit.keeps h.brought h.here.closing u l w event lacks_w (λ e k. h.below e u k l))
 
-        pub copying_copy : (known' cells' counts' : List ℕ) → Came now (with_sites z known' cells' counts') u w → Copying n t z w before known' cells' counts' (copies + 1) (u + 1)
-        copying_copy known' cells' counts' came =
-            let stepped : store_in t (with_sites z known' cells' counts') ≡ with_copy (store_in t now) w u = came.store t in
+        pub copying_copy : (z' : Lent) → Came now z' u w → Copying n t z w before z' (copies + 1) (u + 1)
+        copying_copy z' came =
+            let stepped : store_in t z' ≡ with_copy (store_in t now) w u = came.store t in
             let more : Closing n (store_in t z) (with_copy (store_in t now) w u) (h.brought + 1) =
             closing-more n n≤8 (store_in t z) (store_in t now) fit.keeps h.brought h.here.closing u l w event lacks_w (λ e k. h.below e u k l) in
             record {
@@ -193,23 +185,23 @@ module _ (n : ℕ) (n≤8 : n ≤ 8) (t : Terms) (z : Lent) (fit : Fit n t z) wh
             }
 
     -- all sites are passed: the lowest that some site lacks is higher
-    pub copied_higher : (w before u v : ℕ) → Copying n t z w before known cells counts copies u → n ≤ u → w < most_events → v ≡ lowest most_events (lacked_by_some known n) → w < v
+    pub copied_higher : (w before u v : ℕ) → Copying n t z w before now copies u → n ≤ u → w < most_events → v ≡ lowest most_events (lacked_by_some now n) → w < v
     copied_higher w before u v h all few told =
         lowest_higher n n≤8 t now h.here.fit w v few told
         (λ e i k l. lt_suc_elim e w (omega arith) (λ q. h.below e i q l) (λ q. rw q (h.done i (omega arith))))
 
     -- and what came before the copies of w is joined to them
-    pub copied_join : (known' cells' counts' : List ℕ) (w copies' u : ℕ) → ClosingIn n t z known cells counts copies
-        → Copying n t now w copies known' cells' counts' copies' u → ClosingIn n t z known' cells' counts' copies'
-    copied_join known' cells' counts' w copies' u h i = record {
+    pub copied_join : (z' : Lent) (w copies' u : ℕ) → ClosingIn n t z now copies
+        → Copying n t now w copies z' copies' u → ClosingIn n t z z' copies'
+    copied_join z' w copies' u h i = record {
       fit = i.here.fit;
       closing =
           rw i.sum
-          (closing_join n (store_in t z) (store_in t now) (store_in t (with_sites z known' cells' counts')) copies i.brought h.closing i.here.closing);
+          (closing_join n (store_in t z) (store_in t now) (store_in t z') copies i.brought h.closing i.here.closing);
     }
 
     -- no event is lacking
-    pub closing-closes : ClosingIn n t z known cells counts copies → (w : ℕ) → w ≡ lowest most_events (lacked_by_some known n) → most_events ≤ w → Closes n t z now copies
+    pub closing-closes : ClosingIn n t z now copies → (w : ℕ) → w ≡ lowest most_events (lacked_by_some now n) → most_events ≤ w → Closes n t z now copies
     closing-closes h w told past =
         let none : (e u : ℕ) → e < (store_in t now).count → u < n → lacks (store_in t now) u e ≡ false = λ e u k l.
         none-lower n n≤8 t now h.fit w told e u (omega (arith, h.fit.limits.count)) l in
@@ -220,10 +212,15 @@ module _ (n : ℕ) (n≤8 : n ≤ 8) (t : Terms) (z : Lent) (fit : Fit n t z) wh
           counted = closing-copies n n≤8 (store_in t z) (store_in t now) copies h.closing none fit.keeps;
         }
 
--- from whatever terms
+-- from whatever terms, with the same events
 module _ (n : ℕ) (z : Lent) where
-  abbrev pub ClosingFrom : List ℕ → List ℕ → List ℕ → ℕ → Type 0
-  ClosingFrom known cells counts copies = (t : Terms) → Fit n t z → ClosingIn n t z known cells counts copies
+  abbrev pub SameEvents : Lent → Type 0
+  SameEvents now = (now.sees ≡ z.sees) × (now.events ≡ z.events)
 
-  abbrev pub CopyingFrom : ℕ → ℕ → List ℕ → List ℕ → List ℕ → ℕ → ℕ → Type 0
-  CopyingFrom w before known cells counts copies u = (t : Terms) → Fit n t z → Copying n t z w before known cells counts copies u
+  pub record ClosingFrom (now : Lent) (copies : ℕ) : Type 0 where
+    pub turn : (t : Terms) → Fit n t z → ClosingIn n t z now copies
+    pub events : SameEvents now
+
+  pub record CopyingFrom (w before : ℕ) (now : Lent) (copies u : ℕ) : Type 0 where
+    pub turn : (t : Terms) → Fit n t z → Copying n t z w before now copies u
+    pub events : SameEvents now

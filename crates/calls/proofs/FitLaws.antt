@@ -1,10 +1,9 @@
--- Slices that stand for a store: its invariant and its limits hold, so that what a call needs is there. Assumes nothing.
+-- Arrays that stand for a store: its invariant and its limits hold, so that what a call needs is there. Assumes nothing.
 use mathlib.Core.Path.{◌≡◌, refl, sym, ap, ◌∙◌}
 use mathlib.Core.Bool.{Bool, true, false}
-use Prim.Native.Nat.{ℕ, ◌+◌, ◌≤◌, ◌<◌}
+use Prim.Native.Nat.{ℕ, ◌≤◌, ◌<◌}
 use native.Mathlib.Omega.{arith}
 use lib.ListN.{get_or}
-use Rattle.rows.specs.Row.{row_at}
 use Rattle.record.specs.Layout.{most_events}
 use Rattle.record.specs.Terms.{value, Terms}
 use Rattle.store.specs.Store.{Site, Event, Store}
@@ -16,12 +15,12 @@ use Rattle.store.proofs.RunKeeps.{Doable, deliverable, delivery_site, every-run}
 use Rattle.store.proofs.Sizes.{Limits, every_limits, every_stamped, sizes}
 use Rattle.store.proofs.OtherPut.{other-put}
 use Rattle.calls.specs.Mirror.{shown_of, word_value, word_present, word_site, word_stamp}
-use Rattle.calls.specs.Lent.{Lent, clocks_at, count_in, event_in, store_in, Sized, Clear, Stands}
+use Rattle.calls.specs.Lent.{Lent, row_in, event_in, store_in, Sized, Clear, Stands}
 use Rattle.calls.specs.Done.{Makable, Copyable}
 use Rattle.calls.proofs.WordLaws.{full-cell}
 use Rattle.calls.proofs.LentLaws.{store-count, site-at, event_at_lem, cell_at}
 
--- what a call may use of the slices
+-- what a call may use of the arrays
 pub record Fit (n : ℕ) (t : Terms) (z : Lent) : Type 0 where
   pub sized : Sized z
   pub clear : Clear z
@@ -46,13 +45,13 @@ module _ (n : ℕ) (n≤8 : n ≤ 8) (t : Terms) (z : Lent) (h : Fit n t z) wher
   abbrev st : Store
   st = store_in t z
 
-  pub few : count_in z.cells ≤ most_events
+  pub few : z.count ≤ most_events
   few = rw (store-count t z) at h.limits.count
 
-  held-few : (s i : ℕ) → s < 8 → get_or (row_at z.counts 8 s) i 0 ≤ most_events
+  held-few : (s i : ℕ) → s < 8 → get_or (row_in z.held s) i 0 ≤ most_events
   held-few s i l = omega (arith, (sizes n n≤8 st h.keeps).held s i, ap (λ (x : Site). x.held i) (site-at t z s l), h.limits.count)
 
-  clock_few : (s : ℕ) → s < 8 → get_or z.cells (clocks_at + s) 0 ≤ most_events
+  clock_few : (s : ℕ) → s < 8 → get_or z.clocks s 0 ≤ most_events
   clock_few s l = omega (arith, (sizes n n≤8 st h.keeps).clock s, ap (λ (x : Site). x.clock) (site-at t z s l), h.limits.count)
 
   -- a put or a get that is not refused
@@ -74,7 +73,7 @@ module _ (n : ℕ) (n≤8 : n ≤ 8) (t : Terms) (z : Lent) (h : Fit n t z) wher
   copyable w s r =
       let d : Deliverable st w s (st.event w) = deliverable n st w s r in
       let low : s < 8 = omega (arith, delivery_site n st w s r) in
-      let done : w < count_in z.cells = rw (store-count t z) at d.done in
+      let done : w < z.count = rw (store-count t z) at d.done in
       let at : st.event w ≡ event_in z w = event_at_lem t z w done in
       let object : (event_in z w).object ≤ 31 = omega (arith, h.limits.object w d.done, ap (λ (x : Event). x.object) at) in
       let stamp : 1 ≤ (event_in z w).stamp = omega (arith, h.stamps w d.done, ap (λ (x : Event). x.stamp) at) in

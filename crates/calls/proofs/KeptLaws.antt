@@ -2,7 +2,7 @@
 use mathlib.Core.Path.{◌≡◌, refl, sym, ap, ◌∙◌, fun_ext}
 use mathlib.Core.Bool.{Bool, true, false, cond, ◌||◌, and-false, or_comm, and-true}
 use mathlib.Core.List.{List}
-use Prim.Native.Nat.{ℕ, suc, ◌+◌, ◌*◌, ◌/◌, ◌≤◌, ◌<◌}
+use Prim.Native.Nat.{ℕ, suc, ◌+◌, ◌/◌, ◌≤◌, ◌<◌}
 use native.Mathlib.Numerals.{add-one}
 use native.Mathlib.Omega.{arith}
 use lib.Dec.{eqb, leb, ltb}
@@ -10,13 +10,11 @@ use lib.ListN.{length, get_or, set}
 use lib.Seq.{get_or-set_same, get_or-set_other}
 use mir.Val.{bool_byte}
 use borrow.Author.Tests.{eq-eqb, ne_eqb, ltb-true, ltb-false}
-use Rattle.rows.specs.Row.{has, insert, or_row, or_part, row_at, RowPut, RowChanged}
+use Rattle.rows.specs.Row.{has, insert, or_row}
 use Rattle.rows.proofs.Tests.{split}
-use Rattle.rows.proofs.RowLaws.{has-insert, has-or, length-or, length-insert}
-use Rattle.rows.proofs.TableLaws.{length-row, has-row, row-insert-same, row-insert-other, length-or_part, row-or-same, row-or-other}
+use Rattle.rows.proofs.RowLaws.{has-insert, has-or, length-or}
 use Rattle.rows.proofs.StoredLaws.{Stored}
-use Rattle.rows.proofs.SliceLaws.{slice_at, slice_row}
-use Rattle.record.specs.Layout.{most_events, row_words}
+use Rattle.record.specs.Layout.{most_events}
 use Rattle.store.specs.Store.{upd}
 use Rattle.store.specs.Rules.{reached}
 use Rattle.calls.specs.Mirror.{OneMore}
@@ -96,41 +94,3 @@ module _ (k : ℕ) (needs held : ℕ → ℕ) where
   pub reached_less : leb (needs k) (held k) ≡ false → false ≡ reached (k + 1) needs held
   unfolding reached
   reached_less e = sym (rw (add-one, e) (and-false (reached k needs held)))
-
--- ---- rows of known events
-
--- bit w of row s
-bit_place : (s w : ℕ) → most_events * s + w ≡ 64 * (s * row_words) + w
-bit_place s w = omega arith
-
-pub known-row : (known : List ℕ) (s w : ℕ) → w < most_events → has known (most_events * s + w) ≡ has (row_at known row_words s) w
-known-row known s w h = ap (has known) (bit_place s w) ∙ sym (has-row known row_words s w (omega arith))
-
-pub changed : {w c : ℕ} {m old new : List ℕ} → RowPut w c m old new → RowChanged w c m old new
-changed p = record { size = p.size; same = p.same; other = p.other }
-
--- w joins row s
-pub know_row : (known : List ℕ) (s w : ℕ) → w < most_events → RowChanged row_words s (insert (row_at known row_words s) w) known (insert known (most_events * s + w))
-know_row known s w small =
-    let place = bit_place s w in
-    record {
-      size = length-insert known (most_events * s + w);
-      same = ap (λ (p : ℕ). row_at (insert known p) row_words s) place ∙ row-insert-same known row_words s w (omega arith);
-      other = λ d ne. ap (λ (p : ℕ). row_at (insert known p) row_words d) place ∙ row-insert-other known row_words s w (omega arith) d ne;
-    }
-
--- so do w and what w saw
-pub learn_row : (known sees : List ℕ) (s w : ℕ) (joined after : List ℕ) → s * row_words + row_words ≤ length known → w * row_words + row_words ≤ length sees → w < most_events
-    → joined ≡ or_part known (s * row_words) (slice_at sees row_words w) → after ≡ insert joined (most_events * s + w)
-    → RowChanged row_words s (insert (or_row (row_at known row_words s) (row_at sees row_words w)) w) known after
-learn_row known sees s w joined after room from small e f =
-    let m : List ℕ = row_at sees row_words w in
-    let wide : length m ≡ row_words = length-row sees row_words w from in
-    let union : List ℕ = or_part known (s * row_words) m in
-    let made : after ≡ insert union (most_events * s + w) = f ∙ ap (λ (l : List ℕ). insert l (most_events * s + w)) (e ∙ ap (or_part known (s * row_words)) (slice_row sees row_words w)) in
-    let put = know_row union s w small in
-    record {
-      size = ap length made ∙ put.size ∙ length-or_part known row_words s m wide room;
-      same = ap (λ (l : List ℕ). row_at l row_words s) made ∙ put.same ∙ ap (λ (l : List ℕ). insert l w) (row-or-same known row_words s m wide room);
-      other = λ d ne. ap (λ (l : List ℕ). row_at l row_words d) made ∙ put.other d ne ∙ row-or-other known row_words s m wide room d ne;
-    }

@@ -1,6 +1,5 @@
 -- Laws of one call, which the proofs of functions, here and in the rehearsal, cite.
 pub mod CallLaws
-pub mod SetsLaws
 pub mod KeptLaws
 pub mod WordLaws
 pub mod LentLaws

@@ -1,16 +1,17 @@
 -- Words of events and cells: what one has that is put together, and the larger of two. Assumes nothing.
-use mathlib.Core.Path.{◌≡◌, refl, ap, ap₂}
+use mathlib.Core.Path.{◌≡◌, refl, sym, ap, ap₂, ◌∙◌}
 use mathlib.Core.Bool.{Bool, true, false, not, cond}
 use Prim.Native.Nat.{ℕ, suc, ◌+◌, ◌*◌, ◌/◌, ◌%◌, ◌^◌, ◌≤◌, ◌<◌, max}
 use native.Mathlib.Omega.{arith}
 use lib.Dec.{eqb}
-use mir.Val.{bool_byte}
 use borrow.Author.Tests.{eq-eqb, ne_eqb, eqb-true, eqb-false}
+use Rattle.std.specs.Bool.{then_some}
+use Rattle.std.specs.Prelude.{Option}
 use Rattle.rows.proofs.Tests.{split}
 use Rattle.record.specs.Terms.{value}
 use Rattle.store.specs.Store.{full, cell_value, before, merge}
 use Rattle.store.proofs.Invariant.{before_key, not-before_key}
-use Rattle.calls.specs.Mirror.{shown_of, word_value, word_object, word_site, word_stamp, word_shown, cell_of}
+use Rattle.calls.specs.Mirror.{held_of, shown_of, shown_bits, word_value, word_object, word_site, word_stamp, word_shown, cell_of}
 
 last_bit : (h y d : ℕ) → d ≡ 2 * h + y → d % 2 ≡ y % 2
 last_bit h y d e = omega arith
@@ -35,19 +36,12 @@ module _ (clock s o x : ℕ) (site : s < 8) (object : o ≤ 31) (low : x < 2 ^ 3
       let p : word / 2 ^ 32 % 2 ≡ x / 2 ^ 32 % 2 = last_bit high (x / 2 ^ 32) (word / 2 ^ 32) bits in
       ap₂ (λ (b v : ℕ). shown_of (eqb b 1) v) p v
 
--- a value with its bit, or none
-pub shown-bit : (t : Bool) (v : ℕ) → v < 2 ^ 32 → word_shown (bool_byte t * 2 ^ 32 + v) ≡ shown_of t v
-shown-bit true v l =
-    let p : (1 * 2 ^ 32 + v) / 2 ^ 32 % 2 ≡ 1 = omega arith in
-    let low : (1 * 2 ^ 32 + v) % 2 ^ 32 ≡ v = omega arith in
+-- a value with its bit
+pub shown-bit : (v : ℕ) → v < 2 ^ 32 → word_shown (2 ^ 32 + v) ≡ value v
+shown-bit v l =
+    let p : (2 ^ 32 + v) / 2 ^ 32 % 2 ≡ 1 = omega arith in
+    let low : (2 ^ 32 + v) % 2 ^ 32 ≡ v = omega arith in
     rw (eq-eqb _ _ p) (ap value low)
-shown-bit false v l =
-    let p : (0 * 2 ^ 32 + v) / 2 ^ 32 % 2 ≡ 1 → ⊥ = λ q. omega arith in
-    rw (ne_eqb _ _ p) refl
-
-pub shown_low : (t : Bool) (v : ℕ) → v < 2 ^ 32 → bool_byte t * 2 ^ 32 + v < 2 ^ 33
-shown_low true v l = omega arith
-shown_low false v l = omega arith
 
 -- ---- cells
 
@@ -59,6 +53,18 @@ pub cell_value_lem : (x : ℕ) → cell_value (cell_of x) ≡ shown_of (not (eqb
 cell_value_lem x =
     split (eqb (word_stamp x) 0) (λ t. rw t refl)
     (λ t. let some : word_stamp x ≡ 0 → ⊥ = eqb-false (word_stamp x) 0 t in rw (t, ne_eqb x 0 (λ q. some (ap word_stamp q))) refl)
+
+-- what a get finds in a cell
+pub record Finds (x : ℕ) (found : Option ℕ) : Type 0 where
+  pub held : held_of found ≡ cell_value (cell_of x)
+  pub shown : word_shown (shown_bits found) ≡ held_of found
+  pub low : shown_bits found < 2 ^ 33
+
+pub finds : (x : ℕ) → Finds x (then_some (not (eqb x 0)) (word_value x))
+finds x =
+    split (eqb x 0)
+    (λ t. rw t (record { held = sym (cell_value_lem x ∙ rw t refl); shown = refl; low = omega arith }))
+    (λ t. rw t (record { held = sym (cell_value_lem x ∙ rw t refl); shown = shown-bit (word_value x) (omega arith); low = omega arith }))
 
 -- the later put's word is the larger
 pub merged : (x w : ℕ) → 1 ≤ word_stamp w → (word_stamp x ≡ word_stamp w → word_site x ≡ word_site w → ⊥)

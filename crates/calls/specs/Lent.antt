@@ -1,111 +1,118 @@
--- The five slices that a store is kept in, and the store that they stand for. Only contracts of inner functions cite this.
-use Rattle.std.specs.Prelude.{◌≡◌, Bool, false, not, cond, ◌&&◌, List, ℕ, ◌+◌, ◌*◌, ◌≤◌, ltb, length, get_or}
+-- The arrays of a store, and the store that they stand for. Only contracts of inner functions cite this.
+use Rattle.std.specs.Prelude.{◌≡◌, Bool, false, not, cond, ◌&&◌, List, [], ℕ, ◌≤◌, ◌<◌, ltb, length, get_or}
 use Rattle.rows.specs.Lowest.{some}
-use Rattle.rows.specs.Row.{has, row_at}
-use Rattle.record.specs.Layout.{most_events, row_words, work_words}
+use Rattle.rows.specs.Row.{has}
+use Rattle.record.specs.Layout.{most_events, row_words}
 use Rattle.record.specs.Terms.{none, Terms}
 use Rattle.store.specs.Store.{Cell, untouched, Site, Event, Store, fresh_site, no_event, fresh}
 use Rattle.store.specs.Calls.{Call}
 use Rattle.store.specs.Rules.{run}
-use Rattle.calls.specs.declared.Kept.{Kept}
-use Rattle.calls.specs.Mirror.{word_object, word_site, word_stamp, word_shown, cell_of, site_of}
+use Rattle.calls.specs.declared.lent.Store as kept
+use Rattle.calls.specs.Mirror.{word_object, word_site, word_stamp, word_shown, cell_of}
 
--- ---- where things stand
+-- the arrays: what each of eight sites knows; the events that are puts; what each event sees; the cells of each site, and its clock; the count of events; a word
+-- for each event; what each site holds of each; and what each event needs
+abbrev pub Lent : Type 0
+Lent = kept.Store
 
--- clocks behind 32 cells for each of eight sites, and the count of events behind them
-abbrev pub clocks_at : ℕ
-clocks_at = 8 * 32
+-- row i of an array of rows
+abbrev pub row_in : List (List ℕ) → ℕ → List ℕ
+row_in rows i = get_or rows i []
 
-abbrev pub count_at : ℕ
-count_at = clocks_at + 8
+-- with these in place of what its events see and of their words
+abbrev pub with_events : Lent → List (List ℕ) → List ℕ → Lent
+with_events z sees events = record {
+  known = z.known;
+  puts = z.puts;
+  sees = sees;
+  cells = z.cells;
+  clocks = z.clocks;
+  count = z.count;
+  events = events;
+  held = z.held;
+  needs = z.needs;
+}
 
-abbrev pub cells_length : ℕ
-cells_length = count_at + 1
-
-abbrev pub known_length : ℕ
-known_length = 9 * row_words
-
-abbrev pub counts_length : ℕ
-counts_length = (8 + most_events) * 8
-
--- the slices
-pub record Lent : Type 0 where
-  -- nine rows: what each of eight sites knows, and which events are puts
-  pub known : List ℕ
-  -- a row for each event: what it sees
-  pub sees : List ℕ
-  -- cells, clocks and the count of events
-  pub cells : List ℕ
-  -- a word for each event
-  pub events : List ℕ
-  -- rows of eight: what each site holds of each, and behind them what each event needs
-  pub counts : List ℕ
-
-abbrev pub lent : List ℕ → List ℕ → List ℕ → List ℕ → List ℕ → Lent
-lent known sees cells events counts = record { known = known; sees = sees; cells = cells; events = events; counts = counts }
+-- with these in place of what is held and needed
+abbrev pub with_counts : Lent → List (List ℕ) → List (List ℕ) → Lent
+with_counts z held needs = record {
+  known = z.known;
+  puts = z.puts;
+  sees = z.sees;
+  cells = z.cells;
+  clocks = z.clocks;
+  count = z.count;
+  events = z.events;
+  held = held;
+  needs = needs;
+}
 
 -- ---- what they stand for
 
-abbrev pub count_in : List ℕ → ℕ
-count_in cells = get_or cells count_at 0
+-- a row of cells: those of 32 objects
+abbrev pub cells_of : List ℕ → ℕ → Cell
+cells_of row o = cond (ltb o 32) (cell_of (get_or row o 0)) (untouched none)
 
-abbrev pub kept_in : List ℕ → List ℕ → ℕ → Kept
-kept_in cells counts s = record { clock = get_or cells (clocks_at + s) 0; counts = row_at counts 8 s }
-
--- the cells of site s: those of its 32 objects, from 32 × s on
-abbrev pub cells_in : List ℕ → ℕ → ℕ → Cell
-cells_in cells s o = cond (ltb o 32) (cell_of (get_or cells (32 * s + o) 0)) (untouched none)
+-- the cells of site s
+abbrev pub cells_in : List (List ℕ) → ℕ → ℕ → Cell
+cells_in cells s = cells_of (row_in cells s)
 
 abbrev pub site_in : Lent → ℕ → Site
-site_in z s = site_of (kept_in z.cells z.counts s) (has (row_at z.known row_words s)) (cells_in z.cells s)
-
-abbrev pub puts_in : List ℕ → List ℕ
-puts_in known = row_at known row_words 8
-
--- what event e needs
-abbrev pub needs_in : List ℕ → ℕ → List ℕ
-needs_in counts e = row_at counts 8 (8 + e)
+site_in z s = record {
+  clock = get_or z.clocks s 0;
+  held = λ i. get_or (row_in z.held s) i 0;
+  known = has (row_in z.known s);
+  cell = cells_in z.cells s;
+}
 
 abbrev pub event_in : Lent → ℕ → Event
 event_in z e = record {
   site = word_site (get_or z.events e 0);
-  is_put = has (puts_in z.known) e;
+  is_put = has z.puts e;
   object = word_object (get_or z.events e 0);
   shown = word_shown (get_or z.events e 0);
   stamp = word_stamp (get_or z.events e 0);
-  sees = has (row_at z.sees row_words e);
-  needs = λ i. get_or (needs_in z.counts e) i 0;
+  sees = has (row_in z.sees e);
+  needs = λ i. get_or (row_in z.needs e) i 0;
 }
 
 -- the whole store. Sites from 8 on are as they started
 unfoldable pub store_in : Terms → Lent → Store
 store_in t z = record {
-  count = count_in z.cells;
-  event = λ e. cond (ltb e (count_in z.cells)) (event_in z e) no_event;
+  count = z.count;
+  event = λ e. cond (ltb e z.count) (event_in z e) no_event;
   site = λ s. cond (ltb s 8) (site_in z s) (fresh_site t);
 }
 
 -- event x is a put, and one of the first n sites lacks it
-abbrev pub lacked_by_some : List ℕ → ℕ → ℕ → Bool
-lacked_by_some known n x = has (puts_in known) x && some n (λ s. not (has (row_at known row_words s) x))
+abbrev pub lacked_by_some : Lent → ℕ → ℕ → Bool
+lacked_by_some z n x = has z.puts x && some n (λ s. not (has (row_in z.known s) x))
 
 -- ---- when they stand for one
 
+-- n rows of w numbers
+pub record Rows (n w : ℕ) (rows : List (List ℕ)) : Type 0 where
+  pub long : length rows ≡ n
+  pub wide : (i : ℕ) → i < n → length (row_in rows i) ≡ w
+
 pub record Sized (z : Lent) : Type 0 where
-  pub known : length z.known ≡ known_length
-  pub sees : length z.sees ≡ work_words
-  pub cells : length z.cells ≡ cells_length
+  pub known : Rows 8 row_words z.known
+  pub puts : length z.puts ≡ row_words
+  pub sees : Rows most_events row_words z.sees
+  pub cells : Rows 8 32 z.cells
+  pub clocks : length z.clocks ≡ 8
   pub events : length z.events ≡ most_events
-  pub counts : length z.counts ≡ counts_length
+  pub held : Rows 8 8 z.held
+  pub needs : Rows most_events 8 z.needs
 
 -- from the count of events on nothing is told of any
 pub record Clear (z : Lent) : Type 0 where
-  pub puts : (e : ℕ) → count_in z.cells ≤ e → has (puts_in z.known) e ≡ false
-  pub events : (e : ℕ) → count_in z.cells ≤ e → get_or z.events e 0 ≡ 0
-  pub sees : (i : ℕ) → count_in z.cells * row_words ≤ i → get_or z.sees i 0 ≡ 0
-  pub counts : (i : ℕ) → (8 + count_in z.cells) * 8 ≤ i → get_or z.counts i 0 ≡ 0
+  pub puts : (e : ℕ) → z.count ≤ e → has z.puts e ≡ false
+  pub events : (e : ℕ) → z.count ≤ e → get_or z.events e 0 ≡ 0
+  pub sees : (e i : ℕ) → z.count ≤ e → get_or (row_in z.sees e) i 0 ≡ 0
+  pub needs : (e i : ℕ) → z.count ≤ e → get_or (row_in z.needs e) i 0 ≡ 0
 
--- the slices stand for the store that some calls leave at n sites, from these terms
+-- the arrays stand for the store that some calls leave at n sites, from these terms
 pub record Stands (n : ℕ) (t : Terms) (z : Lent) : Type 0 where
   pub sized : Sized z
   pub clear : Clear z

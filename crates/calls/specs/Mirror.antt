@@ -1,18 +1,39 @@
 -- What the structs and the words of the code stand for in the store. Only contracts of inner functions cite this.
-use Rattle.std.specs.Prelude.{◌≡◌, Bool, not, cond, List, ℕ, suc, ◌/◌, ◌%◌, ◌^◌, eqb, get_or}
+use Rattle.std.specs.Prelude.{◌≡◌, Bool, not, cond, List, ℕ, suc, ◌+◌, ◌/◌, ◌%◌, ◌^◌, eqb, get_or, ⊤, Option, Some, None, Result, Ok, Err}
 use Rattle.record.specs.Terms.{Held, none, value}
-use Rattle.store.specs.Store.{upd, Cell, untouched, full, Site}
+use Rattle.store.specs.Store.{upd, Cell, untouched, full}
 use Rattle.store.specs.Calls.{Call, put, get, deliver, close, malformed}
-use Rattle.calls.specs.declared.Asked.{Asked}
-use Rattle.calls.specs.declared.Kept.{Kept}
+use Rattle.calls.specs.declared.refuse.Refusal.{Refusal}
+use Rattle.calls.specs.declared.refuse.Refusal.TheVariants.{IllFormed, NoSuchSite, NoSuchObject, NoSuchPut, Full, AlreadyKnown, NeedsUnmet}
+use Rattle.calls.specs.declared.script.Call as script
+use Rattle.calls.specs.declared.script.Call.TheVariants.{Put, Get, Deliver, Close, Malformed}
 
--- a call as it was decoded: kind 1 put, 2 get, 3 deliver, 4 close, 0 malformed
-abbrev pub call_of : Asked → Call
-call_of c =
-    cond (eqb c.kind 1) (put c.site c.object c.value)
-    (cond (eqb c.kind 2) (get c.site c.object)
-    (cond (eqb c.kind 3) (deliver c.event c.site)
-    (cond (eqb c.kind 4) close malformed)))
+-- a call as it was decoded
+abbrev pub call_of : script.Call → Call
+call_of (Put site object v) = put site object v
+call_of (Get site object) = get site object
+call_of (Deliver event site) = deliver event site
+call_of Close = close
+call_of Malformed = malformed
+
+-- the number of a refusal, and 0 where nothing refuses
+abbrev pub refused_number : Refusal → ℕ
+refused_number IllFormed = 31
+refused_number NoSuchSite = 32
+refused_number NoSuchObject = 33
+refused_number NoSuchPut = 33
+refused_number Full = 34
+refused_number AlreadyKnown = 35
+refused_number NeedsUnmet = 36
+
+abbrev pub number_in : Result ⊤ Refusal → ℕ
+number_in (Ok u) = 0
+number_in (Err r) = refused_number r
+
+-- a value, where there is one
+abbrev pub held_of : Option ℕ → Held
+held_of None = none
+held_of (Some v) = value v
 
 -- a value, where one is present
 abbrev pub shown_of : Bool → ℕ → Held
@@ -43,21 +64,17 @@ word_order x = x / 2 ^ 40
 abbrev pub word_shown : ℕ → Held
 word_shown x = shown_of (word_present x) (word_value x)
 
+-- a value with its bit above it, or 0
+abbrev pub shown_bits : Option ℕ → ℕ
+shown_bits None = 0
+shown_bits (Some v) = 2 ^ 32 + v
+
 -- a cell is a put's word. Until a put comes its stamp is 0, and it is 0 where there is no opening
 abbrev pub cell_of : ℕ → Cell
 cell_of x = cond (eqb (word_stamp x) 0) (untouched (shown_of (not (eqb x 0)) (word_value x))) (full (word_value x) (word_stamp x) (word_site x))
 
 -- ---- sites
 
--- a site that knows these events and has these cells
-abbrev pub site_of : Kept → (ℕ → Bool) → (ℕ → Cell) → Site
-site_of a known cell = record { clock = a.clock; held = λ i. get_or a.counts i 0; known = known; cell = cell }
-
 -- the counts with one more held of site s
 abbrev pub OneMore : List ℕ → List ℕ → ℕ → Type 0
 OneMore counts all s = (λ (i : ℕ). get_or all i 0) ≡ upd (λ (i : ℕ). get_or counts i 0) s (suc (get_or counts s 0))
-
--- b is a with one more held of site s, and with that clock
-pub record Raised (a b : Kept) (time s : ℕ) : Type 0 where
-  pub clock : b.clock ≡ time
-  pub counts : OneMore a.counts b.counts s

@@ -1,28 +1,25 @@
 // The put w comes to site s: a delivery, and each copy of a close.
-ghost use Rattle.calls.specs.Lent.{lent};
+ghost use Rattle.std.specs.Prelude.{◌≡◌};
 ghost use Rattle.calls.specs.Done.{Copyable, Came};
 
-use super::{lent, sites};
+use super::lent::{Store, Word};
+use super::sites;
 
-pub fn deliver(
-    s: usize,
-    w: usize,
-    known: &mut [u64],
-    sees: &[u64],
-    cells: &mut [u64],
-    events: &[u64],
-    counts: &mut [u16],
-)
-    requires { Copyable (lent known.old sees.now cells.old events.now counts.old) s w }
-    ensures { Came (lent known.old sees.now cells.old events.now counts.old) (lent known.new sees.now cells.new events.now counts.new) s w }
-{
-    let word = events[w];
-    let at = lent::OBJECTS * s + lent::object(word) as usize;
-    let x = cells[at];
-    cells[at] = lent::later(x, word);
-    sites::learn(known, s, sees, w);
-    let a = sites::site_at(cells, counts, s);
-    let clock = lent::later(a.clock, lent::stamp(word));
-    let b = sites::raised(a, clock, lent::site(word));
-    sites::keep(cells, counts, s, b);
+impl Store {
+    // The site knows the put and all that it saw from now on, and holds one more of its site.
+    pub fn deliver(&mut self, s: usize, w: usize)
+        requires { Copyable self.old s w }
+        ensures came { Came self.old self.new s w }
+        ensures same_events { (self.new.sees ≡ self.old.sees) × (self.new.events ≡ self.old.events) }
+    {
+        let word = Word(self.events[w]);
+        let o = word.object() as usize;
+        self.cells[s][o] = self.cells[s][o].max(word.0);
+        let saw = self.sees[w];
+        let known = &mut self.known[s];
+        rows::union(known, &saw);
+        rows::set(known, w);
+        self.clocks[s] = self.clocks[s].max(word.stamp());
+        self.held[s] = sites::with_held(self.held[s], word.site());
+    }
 }

@@ -1,120 +1,74 @@
 // A done put or get: the event that it becomes, what it changes at its site, and its answer.
-ghost use Rattle.std.specs.Prelude.{◌≡◌, ◌∷◌, ◌++◌, ◌<◌, ◌^◌, length, replicate};
-ghost use Rattle.record.specs.Layout.{most_events, work_words};
+ghost use Rattle.std.specs.Prelude.{◌≡◌, ◌∷◌, ◌++◌, ◌≤◌, ◌<◌, ◌^◌, get_or, replicate};
+ghost use Rattle.record.specs.Layout.{most_events};
 ghost use Rattle.record.specs.Encode.{little_bytes};
 ghost use Rattle.record.specs.Terms.{value_or0};
 ghost use Rattle.store.specs.Calls.{put, get};
 ghost use Rattle.store.specs.Rules.{is_found};
-ghost use Rattle.calls.specs.Mirror.{shown_of};
-ghost use Rattle.calls.specs.Lent.{known_length, counts_length, lent};
+ghost use Rattle.calls.specs.Mirror.{held_of};
 ghost use Rattle.calls.specs.Done.{Entered, Makable, Made};
 
-use super::{Asked, lent, sites};
-use record::layout;
+use super::lent::{Store, Word};
+use super::sites;
 
-// The answer of a done put or get, which found a value where one is present.
-fn answer(event: usize, present: bool, value: u32) -> [u8; 8]
+// The answer of a done put or get, with the value that it found: its eight bytes as one number, which stays in a register.
+fn answer(event: usize, found: Option<u32>) -> u64
     requires { event < 2 ^ 16 }
-    ensures { result ≡ 0 ∷ is_found (shown_of present value) ∷ (little_bytes 2 event ++ little_bytes 4 (value_or0 (shown_of present value))) }
+    ensures { little_bytes 8 result ≡ 0 ∷ is_found (held_of found) ∷ (little_bytes 2 event ++ little_bytes 4 (value_or0 (held_of found))) }
 {
-    let low = (event % 0x100) as u8;
-    let high = (event / 0x100 % 0x100) as u8;
-    if !present {
-        return [0, 0, low, high, 0, 0, 0, 0];
-    }
-    let v1 = value / 0x100;
-    let v2 = v1 / 0x100;
-    let v3 = v2 / 0x100;
-    [
-        0,
-        1,
-        low,
-        high,
-        (value % 0x100) as u8,
-        (v1 % 0x100) as u8,
-        (v2 % 0x100) as u8,
-        (v3 % 0x100) as u8,
-    ]
+    let value = found.unwrap_or(0);
+    0x100 * found.is_some() as u64 + 0x1_0000 * event as u64 + 0x1_0000_0000 * value as u64
 }
 
 // The answer of a close, which delivered so many copies. Its bytes stand as those of a get that found a value.
-pub fn closed(copies: u32) -> [u8; 8]
-    ensures { result ≡ 0 ∷ 1 ∷ (replicate 2 0 ++ little_bytes 4 copies) }
+pub fn closed(copies: u32) -> u64
+    ensures { little_bytes 8 result ≡ 0 ∷ 1 ∷ (replicate 2 0 ++ little_bytes 4 copies) }
 {
-    answer(0, true, copies)
+    answer(0, Some(copies))
 }
 
-// Event k, with its word, at site s: it needs what the site holds.
-fn enter(
-    s: usize,
-    k: usize,
-    word: u64,
-    known: &mut [u64],
-    sees: &mut [u64],
-    events: &mut [u64],
-    counts: &mut [u16],
-)
-    requires { (length known.old ≡ known_length) × (length sees.old ≡ work_words) × (length events.old ≡ most_events) × (length counts.old ≡ counts_length) × (s < 8) × (k < most_events) }
-    ensures { Entered s k word known.old sees.old events.old counts.old known.new sees.new events.new counts.new }
-{
-    events[k] = word;
-    sites::see(known, s, sees, k);
-    let needs = sites::eight(counts, s);
-    sites::put_eight(counts, lent::SITES + k, needs);
-}
+impl Store {
+    // The next event, with its word, at site s, whose clock it raises: it sees what the site knows, and the site knows it from now on; it needs what the site
+    // holds. The result is its number.
+    fn enter(&mut self, s: usize, word: Word) -> usize
+        requires { (s < 8) × (self.old.count < most_events) × (get_or self.old.clocks s 0 ≤ most_events) }
+        ensures entered { Entered s word.0 self.old self.new }
+        ensures number { result ≡ self.old.count }
+        ensures rest { (self.new.puts ≡ self.old.puts) × (self.new.cells ≡ self.old.cells) × (self.new.held ≡ self.old.held) }
+    {
+        let k = self.count;
+        self.events[k] = word.0;
+        self.sees[k] = self.known[s];
+        rows::set(&mut self.known[s], k);
+        self.needs[k] = self.held[s];
+        self.clocks[s] += 1;
+        self.count += 1;
+        k
+    }
 
-pub fn put(
-    c: Asked,
-    known: &mut [u64],
-    sees: &mut [u64],
-    cells: &mut [u64],
-    events: &mut [u64],
-    counts: &mut [u16],
-) -> [u8; 8]
-    requires { Makable (lent known.old sees.old cells.old events.old counts.old) c.site c.object }
-    ensures { Made (put c.site c.object c.value) (lent known.old sees.old cells.old events.old counts.old) (lent known.new sees.new cells.new events.new counts.new) result }
-{
-    let s = c.site as usize;
-    let at = lent::OBJECTS * s + c.object as usize;
-    let k = cells[lent::COUNT];
-    let a = sites::site_at(cells, counts, s);
-    let clock = a.clock;
-    let word = lent::word(clock, c.site, c.object, lent::PRESENT + c.value as u64);
-    enter(s, k as usize, word, known, sees, events, counts);
-    rows::set(known, layout::EVENTS * lent::SITES + k as usize);
-    cells[at] = word;
-    cells[lent::COUNT] = k + 1;
-    let b = sites::raised(a, clock + 1, c.site as u16);
-    sites::keep(cells, counts, s, b);
-    answer(k as usize, false, 0)
-}
+    pub fn put(&mut self, site: u8, object: u8, value: u32) -> u64
+        requires { Makable self.old site object }
+        ensures { Made (put site object value) self.old self.new (little_bytes 8 result) }
+    {
+        let s = site as usize;
+        let word = Word::made(self.clocks[s], site, object, Some(value));
+        let k = self.enter(s, word);
+        rows::set(&mut self.puts, k);
+        self.cells[s][object as usize] = word.0;
+        self.held[s] = sites::with_held(self.held[s], site as u16);
+        answer(k, None)
+    }
 
-// It finds the object's cell.
-pub fn get(
-    c: Asked,
-    known: &mut [u64],
-    sees: &mut [u64],
-    cells: &mut [u64],
-    events: &mut [u64],
-    counts: &mut [u16],
-) -> [u8; 8]
-    requires { Makable (lent known.old sees.old cells.old events.old counts.old) c.site c.object }
-    ensures { Made (get c.site c.object) (lent known.old sees.old cells.old events.old counts.old) (lent known.new sees.new cells.new events.new counts.new) result }
-{
-    let s = c.site as usize;
-    let x = cells[lent::OBJECTS * s + c.object as usize];
-    let k = cells[lent::COUNT];
-    let clock = cells[lent::CLOCKS + s];
-    let found = x != 0;
-    let value = lent::value(x);
-    let word = lent::word(
-        clock,
-        c.site,
-        c.object,
-        found as u64 * lent::PRESENT + value as u64,
-    );
-    enter(s, k as usize, word, known, sees, events, counts);
-    cells[lent::CLOCKS + s] = clock + 1;
-    cells[lent::COUNT] = k + 1;
-    answer(k as usize, found, value)
+    // It finds the object's cell, which is 0 where there is no value.
+    pub fn get(&mut self, site: u8, object: u8) -> u64
+        requires { Makable self.old site object }
+        ensures { Made (get site object) self.old self.new (little_bytes 8 result) }
+    {
+        let s = site as usize;
+        let cell = self.cells[s][object as usize];
+        let found = (cell != 0).then_some(Word(cell).value());
+        let word = Word::made(self.clocks[s], site, object, found);
+        let k = self.enter(s, word);
+        answer(k, found)
+    }
 }

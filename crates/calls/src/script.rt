@@ -3,46 +3,42 @@ ghost use Rattle.std.specs.Prelude.{◌≡◌, ◌+◌, ◌≤◌, length};
 ghost use Rattle.store.specs.Calls.{call_at};
 ghost use Rattle.calls.specs.Mirror.{call_of};
 
-use super::Asked;
 use rows::octets;
 
-// The call's eight bytes are read as one word.
-pub fn asked_at(s: &[u8], at: usize) -> Asked
+// A call as it was decoded.
+#[derive(Clone, Copy)]
+pub enum Call {
+    Put { site: u8, object: u8, value: u32 },
+    Get { site: u8, object: u8 },
+    // Put `event` to a site.
+    Deliver { event: u16, site: u8 },
+    Close,
+    Malformed,
+}
+
+// The call's eight bytes are read as one word. A close is told by itself: over four kinds the match compiles to a jump by a table, which is slower.
+pub fn asked_at(s: &[u8], at: usize) -> Call
     requires { at + 8 ≤ length s.now }
-    ensures result_value { call_of result ≡ call_at s.now at }
-    ensures kind_bound { result.kind ≤ 4 }
+    ensures { call_of result ≡ call_at s.now at }
 {
     let x = octets::u64_at(s, at);
-    let mut c = Asked {
-        kind: 0,
-        site: (x / 0x100 % 0x100) as u8,
-        object: (x / 0x1_0000 % 0x100) as u8,
-        value: (x / 0x1_0000_0000) as u32,
-        event: (x / 0x1_0000_0000 % 0x1_0000) as u16,
-    };
-    let kind = x % 0x100;
-    if kind == 1 {
-        if x / 0x100_0000 % 0x100 == 0 {
-            c.kind = 1;
-        }
-        return c;
-    }
-    if kind == 2 {
-        if x / 0x100_0000 == 0 {
-            c.kind = 2;
-        }
-        return c;
-    }
-    if kind == 3 {
-        if x / 0x1_0000 % 0x1_0000 == 0 {
-            if x / 0x1_0000_0000_0000 == 0 {
-                c.kind = 3;
-            }
-        }
-        return c;
-    }
     if x == 4 {
-        c.kind = 4;
+        return Call::Close;
     }
-    c
+    let site = (x / 0x100 % 0x100) as u8;
+    let object = (x / 0x1_0000 % 0x100) as u8;
+    let value = (x / 0x1_0000_0000) as u32;
+    match x % 0x100 {
+        1 if x / 0x100_0000 % 0x100 == 0 => Call::Put {
+            site,
+            object,
+            value,
+        },
+        2 if x / 0x100_0000 == 0 => Call::Get { site, object },
+        3 if x / 0x1_0000 % 0x1_0000 == 0 && x / 0x1_0000_0000_0000 == 0 => Call::Deliver {
+            event: value as u16,
+            site,
+        },
+        _ => Call::Malformed,
+    }
 }

@@ -3,12 +3,12 @@
 use mathlib.Core.Path.{◌≡◌, refl, sym, ap, ap₂, ◌∙◌}
 use mathlib.Core.Bool.{true, false, ◌||◌}
 use mathlib.Core.List.{List}
-use Prim.Native.Nat.{ℕ, suc, ◌+◌, ◌*◌, ◌<◌}
+use Prim.Native.Nat.{ℕ, suc, ◌+◌, ◌<◌}
 use native.Mathlib.Omega.{arith}
 use native.Mathlib.Decide.{ℕ_discrete}
 use borrow.Author.Tests.{ltb-true, ltb-false}
 use lib.Dec.{ltb}
-use lib.ListN.{length, take, drop, replicate, length-replicate}
+use lib.ListN.{length, replicate, length-replicate}
 use Rattle.rows.specs.Row.{has, or_row, row_at, Row, RowPut}
 use Rattle.rows.specs.Relation.{reaches, related, Graph}
 use Rattle.rows.specs.Shortest.{leads, distance}
@@ -31,12 +31,11 @@ pub record Filling (g : List ℕ) (n w a b : ℕ) (near₀ near done next : List
   pub far : within n (related g w) b k a ≡ false
 
 module _ {g : List ℕ} {n w a b : ℕ} (graph : Graph g n w) (right : b < n) where
-  pub filling_begin : {near₀ near done z next : List ℕ} → done ≡ replicate w 0 → z ≡ replicate w 0 → RowPut w 0 (row_at done w 0) near₀ near
-      → next ≡ or_row z (take (length z) (drop (b * w) g)) → Filling g n w a b near near done next 0
-  filling_begin {done} {z} {next} e f p q =
+  pub filling_begin : {near₀ near done z m next : List ℕ} → done ≡ replicate w 0 → z ≡ replicate w 0 → RowPut w 0 (row_at done w 0) near₀ near
+      → m ≡ row_at g w b → next ≡ or_row z m → Filling g n w a b near near done next 0
+  filling_begin {done} {next} e f p s q =
       let deep : length done ≡ w = ap length e ∙ length-replicate w 0 in
-      let flat : length z ≡ w = ap length f ∙ length-replicate w 0 in
-      let joined : next ≡ or_row (replicate w 0) (row_at g w b) = q ∙ ap₂ (λ (y : List ℕ) (k : ℕ). or_row y (take k (drop (b * w) g))) f flat in
+      let joined : next ≡ or_row (replicate w 0) (row_at g w b) = q ∙ ap₂ or_row f s in
       record {
         long = refl;
         deep = deep;

@@ -1,20 +1,29 @@
 -- Laws of joining the rows of those members of `near` that a row lacks, one after the other: `done` has those whose rows are in. Assumes nothing.
-use mathlib.Core.Path.{◌≡◌, sym, ◌∙◌}
+use mathlib.Core.Path.{◌≡◌, refl, sym, ◌∙◌}
 use mathlib.Core.Bool.{Bool, true, ◌&&◌, ◌||◌}
 use mathlib.Core.List.{List}
-use Prim.Native.Nat.{ℕ, ◌*◌, ◌≤◌}
+use Prim.Native.Nat.{ℕ, ◌*◌, ◌<◌}
 use native.Mathlib.Omega.{arith}
 use borrow.Author.Tests.{eqb-true}
 use lib.Dec.{eqb}
-use lib.ListN.{length, take, drop}
-use Rattle.rows.specs.Lowest.{lowest, some}
+use lib.ListN.{length}
+use Rattle.std.specs.Prelude.{Some, None}
+use Rattle.rows.specs.Lowest.{lowest, some, found}
 use Rattle.rows.specs.Row.{has, insert, or_row, only_first, row_at}
 use Rattle.rows.specs.Relation.{related}
-use Rattle.rows.proofs.Tests.{tell, same_test, or_elim, or_left, or_right, and_both, and_left, and_right}
+use Rattle.rows.proofs.Tests.{same_test, or_elim, or_left, or_right, and_both, and_left, and_right}
+use Rattle.rows.proofs.FoundLaws.{below-some, below-none}
 use Rattle.rows.proofs.LowestLaws.{some_of, some_at}
 use Rattle.rows.proofs.RowLaws.{has-or, has_within, length-insert, length-or, only-some, only_below}
 use Rattle.rows.proofs.TableLaws.{length-row_le}
-use Rattle.rows.proofs.FreshLaws.{Fresh, fresh-first, has-fresh}
+use Rattle.rows.proofs.FreshLaws.{Fresh, fresh, fresh-first, has-fresh}
+
+-- the member that is found is a new one
+pub fresh_found : {n w : ℕ} {near done : List ℕ} {x : ℕ} → ((x : ℕ) → has near x ≡ true → x < n) → length near ≡ w
+    → found (64 * length near) (only_first near done) ≡ Some x → Fresh n near done x
+fresh_found {near} {done} {x} small long e =
+    let p = below-some (64 * length near) (lowest (64 * length near) (only_first near done)) x e in
+    fresh small long p.0 (omega (arith, p.0, p.1, long))
 
 -- the rows of those members of l that m lacks have x
 abbrev pub brought : List ℕ → ℕ → ℕ → List ℕ → List ℕ → ℕ → Bool
@@ -28,17 +37,6 @@ pub record Joining (g : List ℕ) (n w : ℕ) (near done₀ next₀ done next : 
   pub still : (x : ℕ) → has done₀ x ≡ true → has done x ≡ true
   pub inside : (x : ℕ) → has done x ≡ true → has done₀ x || has near x ≡ true
   pub taken : (a x : ℕ) → only_first near done₀ a ≡ true → has done a ≡ true → related g w x a ≡ true → has next x ≡ true
-
-pub joining_begin : {g : List ℕ} {n w : ℕ} (near done next : List ℕ) → length next ≡ w → length done ≡ w → Joining g n w near done next done next
-joining_begin {g} {n} {w} near done next p q = record {
-  wide = p;
-  deep = q;
-  kept = λ x e. e;
-  sound = λ x e. or_left (has next x) (brought g n w near done x) e;
-  still = λ x e. e;
-  inside = λ x e. or_left (has done x) (has near x) e;
-  taken = λ a x e f. absurd (tell (has done a) f (only-some near done a e).1);
-}
 
 module _ {g : List ℕ} {n w : ℕ} {near done₀ next₀ done next : List ℕ} (i : Joining g n w near done₀ next₀ done next) (long : length near ≡ w) where
   with_row : (a x : ℕ) → has (or_row next (row_at g w a)) x ≡ has next x || related g w x a
@@ -69,15 +67,17 @@ module _ {g : List ℕ} {n w : ℕ} {near done₀ next₀ done next : List ℕ} 
       with_a : (x : ℕ) → has (insert done a) x ≡ eqb a x || has done x
       with_a = has-fresh p long i.deep
 
-  pub joining_turn : {done' next' : List ℕ} {a : ℕ} → Fresh n near done a → next' ≡ or_row next (take (length next) (drop (a * w) g)) → done' ≡ insert done a
+  pub joining_turn : {done' next' m : List ℕ} {a : ℕ} → Fresh n near done a → m ≡ row_at g w a → next' ≡ or_row next m → done' ≡ insert done a
       → Joining g n w near done₀ next₀ done' next'
-  joining_turn p e q = rw (e, q, i.wide) (grown p)
+  joining_turn p f e q = rw (e, f, q) (grown p)
 
   -- ---- the end: no member of `near` is left
 
-  module _ {x : ℕ} (q : x ≡ lowest (64 * length near) (only_first near done)) (h : 64 * w ≤ x) where
+  module _ (q : found (64 * length near) (only_first near done) ≡ None) where
     in_done : (a : ℕ) → has near a ≡ true → has done a ≡ true
-    in_done a m = only_below near done (64 * length near) x q a (omega (arith, has_within near a m)) m
+    in_done a m =
+        let k : ℕ = lowest (64 * length near) (only_first near done) in
+        only_below near done (64 * length near) k refl a (omega (arith, has_within near a m, below-none (64 * length near) k q)) m
 
     pub joined_next : (y : ℕ) → has next y ≡ has next₀ y || brought g n w near done₀ y
     joined_next y = same_test (has next y) (has next₀ y || brought g n w near done₀ y) (i.sound y)

@@ -6,13 +6,14 @@ use Prim.Native.Nat.{ℕ, suc, ◌+◌, ◌-◌, ◌<◌, ◌≤◌}
 use native.Mathlib.Omega.{arith}
 use lib.ListN.{length, get_or, set, take, drop, length-set}
 use lib.Seq.{take_all, length-take-le, get_or-drop, drop-drop}
-use Rattle.rows.specs.Lowest.{lowest}
-use Rattle.rows.specs.Row.{has, only_first, row_at, Row}
+use Rattle.std.specs.Prelude.{Some}
+use Rattle.rows.specs.Lowest.{if_below, found}
+use Rattle.rows.specs.Row.{only_first, row_at, Row}
 use Rattle.rows.specs.Relation.{Rel, reaches, related, Graph}
 use Rattle.rows.specs.Shortest.{leads, distance, steps_from, shortest_chain, next_of}
 use Rattle.rows.proofs.Tests.{tell, never}
+use Rattle.rows.proofs.FoundLaws.{some-below}
 use Rattle.rows.proofs.LowestLaws.{none-some}
-use Rattle.rows.proofs.RowLaws.{row_in}
 use Rattle.rows.proofs.FrontLaws.{front-more, take_more}
 use Rattle.rows.proofs.ShortestLaws.{leads-before, from_one, from_more, from_length, Onward, go_on, reached_near, at-distance, none_nearer}
 use Rattle.chains.specs.Near.{within, Near}
@@ -80,6 +81,9 @@ module _ {n : ℕ} {r : Rel} {a b last : ℕ} {out₀ out : List ℕ} {e i : ℕ
       next-rest : drop i chain ≡ next_of n r b k e ∷ steps_from n r b k (next_of n r b k e)
       next-rest = w.rest ∙ ap (λ (j : ℕ). steps_from n r b j e) more ∙ from_more n r b k e
 
+      pub next_below : next_of n r b k e < n
+      next_below = onward.below
+
       pub next_far : within n r b (suc k) e ≡ false
       next_far = none-some (suc k) (λ j. leads n r j e b) (λ j l. w.fewer j (omega (arith, more)))
 
@@ -113,13 +117,11 @@ module _ {n : ℕ} {r : Rel} {a b last : ℕ} {out₀ out : List ℕ} {e i : ℕ
 -- ---- the next event as code finds it, in rows k and k + 1 of near events
 
 module _ {g : List ℕ} {n w b : ℕ} (graph : Graph g n w) (right : b < n) {last : ℕ} (near : List ℕ) (rows : Near g n w b last near) (k : ℕ) (h : k + 1 ≤ last) where
-  pub row_below : (x : ℕ) → has (row_at near w (k + 1)) x ≡ true → x < n
-  row_below x t = (row_in n (within n (related g w) b (k + 1)) (row_at near w (k + 1)) (rows (k + 1) h) x t).0
-
-  pub next_is : (e : ℕ) {x : ℕ} → within n (related g w) b (suc k) e ≡ false
-      → x ≡ lowest n (λ m. only_first (row_at near w (k + 1)) (row_at near w k) m && related g w e m) → x ≡ next_of n (related g w) b k e
-  next_is e far found =
+  pub next-found : (e : ℕ) → within n (related g w) b (suc k) e ≡ false → next_of n (related g w) b k e < n
+      → found n (λ m. only_first (row_at near w (k + 1)) (row_at near w k) m && related g w e m) ≡ Some (next_of n (related g w) b k e)
+  next-found e far below =
       let one : k + 1 ≡ suc k = omega arith in
       let after : Row n (within n (related g w) b (suc k)) (row_at near w (k + 1)) =
       subst (λ (j : ℕ). Row n (within n (related g w) b j) (row_at near w (k + 1))) one (rows (k + 1) h) in
-      found ∙ next_on graph b right k (row_at near w (k + 1)) (row_at near w k) after (rows k (omega arith)) e far
+      ap (if_below n) (next_on graph b right k (row_at near w (k + 1)) (row_at near w k) after (rows k (omega arith)) e far)
+      ∙ some-below n (next_of n (related g w) b k e) below

@@ -5,6 +5,7 @@ use mathlib.Core.List.{List, [], ◌∷◌}
 use Prim.Native.Nat.{ℕ, ◌≤◌}
 use lib.Dec.{eqb, leb, ltb}
 use lib.ListN.{length, take}
+use Rattle.std.specs.Prelude.{Some, None}
 use Rattle.rows.specs.Relation.{Rel}
 use Rattle.record.specs.Layout.{Layout, GCR1, gcr1, gcr2, gcr3, edition_of, count_in, sites_in, zeros, same}
 use Rattle.record.specs.Terms.{Held, none, value, Terms}
@@ -15,10 +16,8 @@ use Rattle.record.proofs.LayoutLaws.{letters-name, edition-first}
 use Rattle.record.proofs.BeforeHarvest.{length-kept}
 use Rattle.consistency.specs.FirstPair.{first}
 use Rattle.consistency.specs.Relations.{rb, ar, write, read, from}
-use Rattle.consistency.specs.Reads.{last_write, same_held, held, left_by, expected, wrong_read, last_or, wrong}
+use Rattle.consistency.specs.Reads.{last_write, same_held, held, left_by, expected, wrong_read, last_or, wrong, Last}
 use Rattle.consistency.specs.Predicates.{rule, outside, breaks, verdict}
-use Rattle.consistency.specs.declared.Last.{Last}
-use Rattle.consistency.specs.declared.Last.TheVariants.{Nothing, At}
 use Rattle.consistency.specs.declared.Predicate.{Predicate}
 use Rattle.consistency.specs.declared.Predicate.TheVariants.{RVal, RealTime, RealTimeWrites}
 use Rattle.consistency.proofs.FirstPairLaws.{first-same}
@@ -40,8 +39,8 @@ rb_before h a b = cond (h.is_pending a) false (ltb (h.return a) (h.start b))
 
 -- none where it sees no write
 abbrev pub left_before : History → Last → Held
-left_before h Nothing = none
-left_before h (At w) = value (h.value w)
+left_before h None = none
+left_before h (Some w) = value (h.value w)
 
 abbrev pub wrong_before : History → Rel
 wrong_before h e w =
@@ -68,8 +67,8 @@ pub record AsBefore (s : List ℕ) : Type 0 where
   pub others : (p : Predicate) (t : Terms) → SameFor p t (history_of (edition_of s) s).terms → verdict p (under t (history_of (edition_of s) s)) ≡ verdict p (history_of (edition_of s) s)
 
 left-before : (h : History) → ((o : ℕ) → h.terms.opening o ≡ none) → (e : ℕ) (l : Last) → left_by h e l ≡ left_before h l
-left-before h so e Nothing = so (h.object e)
-left-before h so e (At w) = refl
+left-before h so e None = so (h.object e)
+left-before h so e (Some w) = refl
 
 wrong-before : (h : History) → ((o : ℕ) → h.terms.opening o ≡ none) → (e w : ℕ) → wrong h e w ≡ wrong_before h e w
 unfolding wrong wrong_read expected

@@ -8,23 +8,21 @@ use Prim.Native.Nat.{ℕ, ◌<◌}
 use native.Mathlib.Omega.{arith}
 use lib.Dec.{eqb}
 use borrow.Author.Tests.{eqb-true, eq-eqb, not-true}
+use Rattle.std.specs.Prelude.{Some, None}
+use Rattle.std.proofs.lemmas.Option.{same_Some}
 use Rattle.rows.specs.Lowest.{some}
 use Rattle.rows.specs.Relation.{Rel}
 use Rattle.rows.proofs.LowestLaws.{some-none, none-some}
 use Rattle.rows.proofs.Tests.{tell, never, and_both, and_left, and_right, not_of}
 use Rattle.record.specs.History.{History}
+use Rattle.consistency.specs.FirstPair.{Verdict}
 use Rattle.consistency.specs.Relations.{read}
-use Rattle.consistency.specs.Reads.{candidate, last_write, same_held, held, expected, last_or, wrong_read, wrong}
+use Rattle.consistency.specs.Reads.{candidate, last_write, same_held, held, expected, last_or, wrong_read, wrong, Last}
 use Rattle.consistency.specs.Predicates.{Rule, last-value, ◌within◌, ◌fits◌, rule, excused, differ, misfit, breaks, verdict, numbered}
 use Rattle.consistency.specs.Holds.{DistinctPositions}
 use Rattle.consistency.specs.Breaks.{LastOrItself, none_seen, last-seen, WrongRead, EventFits, alike, unseen, Misplaced, Breaks, FirstBreak, AllHold, FirstNot, here, after}
-use Rattle.consistency.specs.Models.{or_else, first_broken}
-use Rattle.consistency.specs.declared.Last.{Last}
-use Rattle.consistency.specs.declared.Last.TheVariants.{Nothing, At}
-use Rattle.consistency.specs.declared.Verdict.{Verdict}
-use Rattle.consistency.specs.declared.Verdict.TheVariants.{Met, Broken}
-use Rattle.consistency.specs.declared.Outcome.{Outcome}
-use Rattle.consistency.specs.declared.Outcome.TheVariants.{AllMet, BrokenAt}
+use Rattle.consistency.specs.Models.{or_else, first_broken, Outcome, broken_at}
+use Rattle.consistency.specs.declared.Break.{Break}
 use Rattle.consistency.proofs.LastWriteLaws.{LastSays, write-says, expected-right, right-expected}
 use Rattle.consistency.proofs.MetIffHolds.{same_held_lem, held_same, met_holds, holds-met, broken-first, first_broken_lem}
 
@@ -35,18 +33,18 @@ module _ (h : History) (d : DistinctPositions h) (e : ℕ) where
   last_itself = go (last_write h e) (write-says h e)
     where
       go : (l : Last) → LastSays h e h.count l → LastOrItself h e (last_or e l)
-      go Nothing s = none_seen s
-      go (At w) s = last-seen (record { below = s.below; seen = s.seen; last = s.last })
+      go None s = none_seen s
+      go (Some w) s = last-seen (record { below = s.below; seen = s.seen; last = s.last })
 
   -- there is only one
   itself_last : (w : ℕ) → LastOrItself h e w → w ≡ last_or e (last_write h e)
   itself_last w k = go (last_write h e) (write-says h e) w k
     where
       go : (l : Last) → LastSays h e h.count l → (w : ℕ) → LastOrItself h e w → w ≡ last_or e l
-      go Nothing s w (none_seen f) = refl
-      go Nothing s w (last-seen t) = absurd (tell (candidate h e w) t.seen (s w t.below))
-      go (At u) s w (none_seen f) = absurd (tell (candidate h e u) s.seen (f u s.below))
-      go (At u) s w (last-seen t) = d w u t.below s.below (omega (arith, t.last u s.below s.seen, s.last w t.below t.seen))
+      go None s w (none_seen f) = refl
+      go None s w (last-seen t) = absurd (tell (candidate h e w) t.seen (s w t.below))
+      go (Some u) s w (none_seen f) = absurd (tell (candidate h e u) s.seen (f u s.below))
+      go (Some u) s w (last-seen t) = d w u t.below s.below (omega (arith, t.last u s.below s.seen, s.last w t.below t.seen))
 
   wrong-breaks : (w : ℕ) → wrong h e w ≡ true → WrongRead h e w
   unfolding wrong wrong_read
@@ -131,7 +129,7 @@ module _ (h : History) (d : DistinctPositions h) where
     abbrev u : Rule
     u = rule (numbered p) h
 
-    broken_break : verdict (numbered p) h ≡ Broken a b → FirstBreak p h a b
+    broken_break : verdict (numbered p) h ≡ Some (a, b) → FirstBreak p h a b
     broken_break e =
         let f = broken-first (numbered p) h a b e in
         record {
@@ -142,7 +140,7 @@ module _ (h : History) (d : DistinctPositions h) where
           least_b = λ y l t. tell (breaks h u a y) (is_breaks u a y (omega (arith, f.right)) t) (f.least_b y l);
         }
 
-    break_broken : FirstBreak p h a b → verdict (numbered p) h ≡ Broken a b
+    break_broken : FirstBreak p h a b → verdict (numbered p) h ≡ Some (a, b)
     break_broken f =
         first_broken_lem (numbered p) h a b
         (record {
@@ -153,58 +151,59 @@ module _ (h : History) (d : DistinctPositions h) where
           least_b = λ y l. never (breaks h u a y) (λ t. f.least_b y l (breaks_is u a y (omega (arith, f.right)) t));
         })
 
-    pub broken_iff : (verdict (numbered p) h ≡ Broken a b) ↔ FirstBreak p h a b
+    pub broken_iff : (verdict (numbered p) h ≡ Some (a, b)) ↔ FirstBreak p h a b
     broken_iff = (broken_break, break_broken)
 
   -- ---- lists
 
-  apart : {p a b : ℕ} {o : Outcome} → o ≡ AllMet → o ≡ BrokenAt p a b → ⊥
+  apart : {p a b : ℕ} {o : Outcome} → o ≡ None → o ≡ broken_at p (a, b) → ⊥
   apart e f = let z : ◌≡◌ {A = ℕ} 0 1 = cc in omega arith
 
-  met-broken : {v : Verdict} {a b : ℕ} → v ≡ Met → v ≡ Broken a b → ⊥
+  met-broken : {v : Verdict} {a b : ℕ} → v ≡ None → v ≡ Some (a, b) → ⊥
   met-broken e f = let z : ◌≡◌ {A = ℕ} 0 1 = cc in omega arith
 
-  met_all : (ps : List ℕ) → first_broken ps h ≡ AllMet → AllHold ps h
+  met_all : (ps : List ℕ) → first_broken ps h ≡ None → AllHold ps h
   unfolding first_broken
   met_all [] e = tt
   met_all (p ∷ ps) e = go (met_all ps) (verdict (numbered p) h) refl e
     where
-      go : (first_broken ps h ≡ AllMet → AllHold ps h) → (v : Verdict) → verdict (numbered p) h ≡ v → or_else p v (first_broken ps h) ≡ AllMet → AllHold (p ∷ ps) h
-      go rest Met v e = (met_holds (numbered p) h v, rest e)
-      go rest (Broken a b) v e = absurd (apart e refl)
+      go : (first_broken ps h ≡ None → AllHold ps h) → (v : Verdict) → verdict (numbered p) h ≡ v → or_else p v (first_broken ps h) ≡ None → AllHold (p ∷ ps) h
+      go rest None v e = (met_holds (numbered p) h v, rest e)
+      go rest (Some (a, b)) v e = absurd (apart e refl)
 
-  all_met : (ps : List ℕ) → AllHold ps h → first_broken ps h ≡ AllMet
+  all_met : (ps : List ℕ) → AllHold ps h → first_broken ps h ≡ None
   unfolding first_broken
   all_met [] a = refl
   all_met (p ∷ ps) a = rw (holds-met (numbered p) h d a.0) (all_met ps a.1)
 
   -- a list is met exactly if each of its predicates holds
-  pub list_met_iff : (ps : List ℕ) → (first_broken ps h ≡ AllMet) ↔ AllHold ps h
+  pub list_met_iff : (ps : List ℕ) → (first_broken ps h ≡ None) ↔ AllHold ps h
   list_met_iff ps = (met_all ps, all_met ps)
 
-  broken-not : (ps : List ℕ) (p a b : ℕ) → first_broken ps h ≡ BrokenAt p a b → FirstNot h ps p × FirstBreak p h a b
+  broken-not : (ps : List ℕ) (p a b : ℕ) → first_broken ps h ≡ broken_at p (a, b) → FirstNot h ps p × FirstBreak p h a b
   unfolding first_broken
   broken-not [] p a b e = absurd (apart refl e)
   broken-not (q ∷ ps) p a b e = go (broken-not ps p a b) (verdict (numbered q) h) refl e
     where
-      go : (first_broken ps h ≡ BrokenAt p a b → FirstNot h ps p × FirstBreak p h a b) → (v : Verdict) → verdict (numbered q) h ≡ v
-          → or_else q v (first_broken ps h) ≡ BrokenAt p a b → FirstNot h (q ∷ ps) p × FirstBreak p h a b
-      go rest Met v e = let r = rest e in (after (met_holds (numbered q) h v) r.0, r.1)
-      go rest (Broken x y) v e =
-          let same : q ≡ p = cc in
-          let left : x ≡ a = cc in
-          let right : y ≡ b = cc in
-          let at : verdict (numbered q) h ≡ Broken a b = v ∙ ap (λ (z : ℕ). Broken z y) left ∙ ap (Broken a) right in (
+      go : (first_broken ps h ≡ broken_at p (a, b) → FirstNot h ps p × FirstBreak p h a b) → (v : Verdict) → verdict (numbered q) h ≡ v
+          → or_else q v (first_broken ps h) ≡ broken_at p (a, b) → FirstNot h (q ∷ ps) p × FirstBreak p h a b
+      go rest None v e = let r = rest e in (after (met_holds (numbered q) h v) r.0, r.1)
+      go rest (Some (x, y)) v e =
+          let k = same_Some _ _ e in
+          let same : q ≡ p = ap (λ (z : Break). z.predicate) k in
+          let left : x ≡ a = ap (λ (z : Break). z.first) k in
+          let right : y ≡ b = ap (λ (z : Break). z.second) k in
+          let at : verdict (numbered q) h ≡ Some (a, b) = v ∙ ap (λ (z : ℕ). Some (z, y)) left ∙ ap (λ (z : ℕ). Some (a, z)) right in (
             subst (FirstNot h (q ∷ ps)) same (here (λ k. met-broken (holds-met (numbered q) h d k) at)),
             subst (λ (z : ℕ). FirstBreak z h a b) same (broken_break q a b at),
           )
 
-  not-broken : (ps : List ℕ) (p a b : ℕ) → FirstNot h ps p → FirstBreak p h a b → first_broken ps h ≡ BrokenAt p a b
+  not-broken : (ps : List ℕ) (p a b : ℕ) → FirstNot h ps p → FirstBreak p h a b → first_broken ps h ≡ broken_at p (a, b)
   unfolding first_broken
   not-broken [] p a b x k = elim x [ ]
   not-broken (q ∷ ps) p a b (here f) k = rw (break_broken q a b k)
   not-broken (q ∷ ps) p a b (after m f) k = rw (holds-met (numbered q) h d m) (not-broken ps p a b f k)
 
   -- and broken at the first that does not, with the first pair that breaks it
-  pub list_broken_iff : (ps : List ℕ) (p a b : ℕ) → (first_broken ps h ≡ BrokenAt p a b) ↔ (FirstNot h ps p × FirstBreak p h a b)
+  pub list_broken_iff : (ps : List ℕ) (p a b : ℕ) → (first_broken ps h ≡ broken_at p (a, b)) ↔ (FirstNot h ps p × FirstBreak p h a b)
   list_broken_iff ps p a b = (broken-not ps p a b, λ k. not-broken ps p a b k.0 k.1)

@@ -5,6 +5,7 @@ use mathlib.Core.List.{List, [], ◌∷◌}
 use Prim.Native.Nat.{ℕ, ◌<◌, ◌≤◌}
 use native.Mathlib.Omega.{arith}
 use lib.ListN.{length}
+use Rattle.std.specs.Prelude.{Some}
 use Rattle.rows.specs.Lowest.{lowest}
 use Rattle.rows.specs.Shortest.{shortest_chain}
 use Rattle.rows.proofs.Tests.{tell, and_both, and_left, and_right}
@@ -14,7 +15,6 @@ use Rattle.record.specs.History.{History, vis, SameEvents}
 use Rattle.consistency.specs.Relations.{so, ar, step, hb, read, write, from, to, through}
 use Rattle.consistency.specs.Predicates.{rule, breaks, verdict}
 use Rattle.consistency.specs.Explained.{telling, middle_of, told_by, explained, Middle, LowestMiddle, lowest-middle, Tells, Explains}
-use Rattle.consistency.specs.declared.Verdict.TheVariants.{Broken}
 use Rattle.consistency.specs.declared.Predicate.{Predicate}
 use Rattle.consistency.specs.declared.Predicate.TheVariants.{RVal, SingleOrder, RealTime, RealTimeWrites, MonotonicReads, ReadYourWrites, MonotonicWrites, WritesFollowReads, Pram, CausalVisibility, CausalArbitration, PerObjectPram, PerObjectSingleOrder}
 use Rattle.consistency.specs.declared.Telling.{Telling}
@@ -54,10 +54,10 @@ pub record Broke (p : Predicate) (h : History) (a b : ℕ) : Type 0 where
   pub right : b < h.count
   pub has : Has (telling p) h a b
 
-pub broke : (p : Predicate) (h : History) (a b : ℕ) → verdict p h ≡ Broken a b → Broke p h a b
+pub broke : (p : Predicate) (h : History) (a b : ℕ) → verdict p h ≡ Some (a, b) → Broke p h a b
 unfolding verdict
 broke p h a b e =
-    let f : FirstPair h.count (breaks h (rule p h)) a b = says_of h.count (breaks h (rule p h)) (Broken a b) e in
+    let f : FirstPair h.count (breaks h (rule p h)) a b = says_of h.count (breaks h (rule p h)) (Some (a, b)) e in
     record { left = f.left; right = f.right; has = has_it h a b p f.holds }
 
 module _ (h : History) (a b : ℕ) (left : a < h.count) (right : b < h.count) where
@@ -121,7 +121,7 @@ module _ (h : History) (a b : ℕ) (left : a < h.count) (right : b < h.count) wh
 
 -- ---- of the pair that the judge names
 
-module _ (p : Predicate) (h : History) (a b : ℕ) (e : verdict p h ≡ Broken a b) where
+module _ (p : Predicate) (h : History) (a b : ℕ) (e : verdict p h ≡ Some (a, b)) where
   abbrev pair : Broke p h a b
   pair = broke p h a b e
 

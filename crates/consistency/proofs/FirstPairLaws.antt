@@ -3,12 +3,11 @@ use mathlib.Core.Path.{◌≡◌, refl, ◌∙◌, subst}
 use mathlib.Core.Bool.{Bool, true, false}
 use Prim.Native.Nat.{ℕ, ◌<◌}
 use native.Mathlib.Omega.{arith}
+use Rattle.std.specs.Prelude.{Some, None}
 use Rattle.rows.specs.Lowest.{lowest, some}
 use Rattle.rows.specs.Relation.{Rel}
 use Rattle.rows.proofs.LowestLaws.{lowest_low, lowest_hit, some_of, some_at, some-none, none-some}
-use Rattle.consistency.specs.FirstPair.{first_left, broken_if, first}
-use Rattle.consistency.specs.declared.Verdict.{Verdict}
-use Rattle.consistency.specs.declared.Verdict.TheVariants.{Met, Broken}
+use Rattle.consistency.specs.FirstPair.{first_left, broken_if, first, Verdict}
 
 -- (a, b) is the first pair below n at which f holds
 pub record FirstPair (n : ℕ) (f : Rel) (a b : ℕ) : Type 0 where
@@ -19,8 +18,8 @@ pub record FirstPair (n : ℕ) (f : Rel) (a b : ℕ) : Type 0 where
   pub least_b : (y : ℕ) → y < b → f a y ≡ false
 
 -- f holds at no pair below n
-abbrev pub None : ℕ → Rel → Type 0
-None n f = (x y : ℕ) → x < n → y < n → f x y ≡ false
+abbrev pub NoPair : ℕ → Rel → Type 0
+NoPair n f = (x y : ℕ) → x < n → y < n → f x y ≡ false
 
 -- f and g agree on the pairs below n
 abbrev pub Alike : ℕ → Rel → Rel → Type 0
@@ -28,8 +27,8 @@ Alike n f g = (a b : ℕ) → a < n → b < n → f a b ≡ g a b
 
 -- what a verdict says of the pairs at which f holds
 abbrev pub Says : ℕ → Rel → Verdict → Type 0
-Says n f Met = None n f
-Says n f (Broken a b) = FirstPair n f a b
+Says n f None = NoPair n f
+Says n f (Some (a, b)) = FirstPair n f a b
 
 module _ (n : ℕ) (f : Rel) where
   -- some b below n has f a b
@@ -53,7 +52,7 @@ module _ (n : ℕ) (f : Rel) where
           }
       go false e = λ x y h l. some-none n (f x) (some-none n rows e x h) y l
 
-  pub first-at : (a b : ℕ) → FirstPair n f a b → first n f ≡ Broken a b
+  pub first-at : (a b : ℕ) → FirstPair n f a b → first n f ≡ Some (a, b)
   unfolding first first_left rows
   first-at a b p =
       let here : rows a ≡ true = some_of n (f a) b p.right p.holds in
@@ -62,7 +61,7 @@ module _ (n : ℕ) (f : Rel) where
       let eb : lowest n (f a) ≡ b = lowest_hit n (f a) b p.right p.least_b p.holds in
       rw (any, ea, eb)
 
-  pub first-none : None n f → first n f ≡ Met
+  pub first-none : NoPair n f → first n f ≡ None
   unfolding first rows
   first-none h =
       let s : some n rows ≡ false = none-some n rows (λ x l. none-some n (f x) (λ y k. h x y l k)) in
@@ -70,16 +69,16 @@ module _ (n : ℕ) (f : Rel) where
 
   -- a verdict that says so is the first
   pub first_is : (v : Verdict) → Says n f v → first n f ≡ v
-  first_is Met s = first-none s
-  first_is (Broken a b) s = first-at a b s
+  first_is None s = first-none s
+  first_is (Some (a, b)) s = first-at a b s
 
   -- and the first says so
   pub says_of : (v : Verdict) → first n f ≡ v → Says n f v
   says_of v e = subst (Says n f) e first_says
 
 says_same : (n : ℕ) (f g : Rel) → Alike n f g → (v : Verdict) → Says n g v → Says n f v
-says_same n f g e Met s = λ x y l j. e x y l j ∙ s x y l j
-says_same n f g e (Broken a b) s = record {
+says_same n f g e None s = λ x y l j. e x y l j ∙ s x y l j
+says_same n f g e (Some (a, b)) s = record {
   left = s.left;
   right = s.right;
   holds = e a b s.left s.right ∙ s.holds;

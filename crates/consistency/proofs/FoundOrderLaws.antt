@@ -7,6 +7,7 @@ use Prim.Native.Nat.{ℕ, ◌<◌, ◌≤◌}
 use native.Mathlib.Omega.{arith}
 use borrow.Author.Tests.{lt-ltb, ltb-true, ltb-false, eqb-true, eqb-false, eq-eqb, not-true}
 use lib.Dec.{eqb, ltb}
+use Rattle.std.specs.Prelude.{Some, None}
 use Rattle.rows.specs.Lowest.{lowest, some}
 use Rattle.rows.specs.Placing.{all_placed, Orders}
 use Rattle.rows.proofs.Tests.{tell, split, never, or_elim, or_left, or_right, not_of, and_both, and_left, and_right}
@@ -15,6 +16,7 @@ use Rattle.rows.proofs.PlacingLaws.{ringless-placed, placed_orders, orders_ringl
 use Rattle.record.specs.Terms.{value, value_or0}
 use Rattle.record.specs.History.{History, vis}
 use Rattle.record.specs.Positioned.{positioned}
+use Rattle.consistency.specs.FirstPair.{Verdict}
 use Rattle.consistency.specs.Relations.{ss, ob, rb, so, ar, step, hb, write, read}
 use Rattle.consistency.specs.Reads.{candidate, held, same_held}
 use Rattle.consistency.specs.Predicates.{rule, verdict, numbered}
@@ -23,8 +25,6 @@ use Rattle.consistency.specs.Breaks.{AllHold}
 use Rattle.consistency.specs.Models.{list_of}
 use Rattle.consistency.specs.Lattice.{causal}
 use Rattle.consistency.specs.FoundOrder.{same_written, repeats, returned_read, holds_of, readable, unreadable, value_puts, puts, met, has_order, found_positions, Unambiguous, Readable, opening-held, write-held, Readables, Orderable, MakesCausal, FirstCausal}
-use Rattle.consistency.specs.declared.Verdict.{Verdict}
-use Rattle.consistency.specs.declared.Verdict.TheVariants.{Met, Broken}
 use Rattle.consistency.specs.declared.Predicate.TheVariants.{CausalVisibility}
 use Rattle.consistency.proofs.MetIffHolds.{same_held_lem, held_same, within-met, met_holds}
 
@@ -207,12 +207,12 @@ module _ (h : History) (all : Readables h) (within : Within h.count (value_puts 
 
 -- ---- what it takes, as a test
 
-met_is : (v : Verdict) → met v ≡ true → v ≡ Met
-met_is Met e = refl
-met_is (Broken a b) e = absurd (tell false e refl)
+met_is : (v : Verdict) → met v ≡ true → v ≡ None
+met_is None e = refl
+met_is (Some (a, b)) e = absurd (tell false e refl)
 
 module _ (h : History) where
-  visibility-met : Holds CausalVisibility h → verdict CausalVisibility h ≡ Met
+  visibility-met : Holds CausalVisibility h → verdict CausalVisibility h ≡ None
   unfolding Holds Obeys rule
   visibility-met w = within-met CausalVisibility h (hb h) (vis h) refl w
 

@@ -7,14 +7,13 @@ use native.Mathlib.Omega.{arith}
 use native.Mathlib.Nat.{le_refl}
 use lib.Dec.{ltb}
 use borrow.Author.Tests.{ltb-true, ltb-false}
+use Rattle.std.specs.Prelude.{Some, None}
 use Rattle.rows.proofs.Tests.{split, tell}
 use Rattle.record.specs.History.{History}
 use Rattle.consistency.specs.Relations.{ar}
 use Rattle.record.specs.Terms.{value}
-use Rattle.consistency.specs.Reads.{candidate, later, last_below, last_write, held, left_by, expected, last_or}
+use Rattle.consistency.specs.Reads.{candidate, later, last_below, last_write, held, left_by, expected, last_or, Last}
 use Rattle.consistency.specs.Holds.{RightRead, sees-none, sees-last, DistinctPositions}
-use Rattle.consistency.specs.declared.Last.{Last}
-use Rattle.consistency.specs.declared.Last.TheVariants.{Nothing, At}
 
 -- w is the last in ar of the candidates below k
 pub record LastOf (h : History) (e k w : ℕ) : Type 0 where
@@ -24,13 +23,13 @@ pub record LastOf (h : History) (e k w : ℕ) : Type 0 where
 
 -- what a last write says of the candidates below k
 abbrev pub LastSays : History → ℕ → ℕ → Last → Type 0
-LastSays h e k Nothing = (x : ℕ) → x < k → candidate h e x ≡ false
-LastSays h e k (At w) = LastOf h e k w
+LastSays h e k None = (x : ℕ) → x < k → candidate h e x ≡ false
+LastSays h e k (Some w) = LastOf h e k w
 
 -- a last write is below k
 abbrev pub LastIn : ℕ → Last → Type 0
-LastIn k Nothing = Unit
-LastIn k (At w) = w < k
+LastIn k None = Unit
+LastIn k (Some w) = w < k
 
 -- below one more
 below_more : {C : Type 0} (x k : ℕ) → x < suc k → (x < k → C) → (x ≡ k → C) → C
@@ -40,14 +39,14 @@ module _ (h : History) (e : ℕ) where
   -- one candidate more
   later-says : (k : ℕ) (l : Last) → LastSays h e k l → candidate h e k ≡ true → LastSays h e (suc k) (later h l k)
   unfolding ar
-  later-says k Nothing s c = record {
+  later-says k None s c = record {
     below = le_refl (suc k);
     seen = c;
     last = λ x l q. below_more x k l (λ i. absurd (tell (candidate h e x) q (s x i))) (λ i. omega (arith, ap h.position i));
   }
-  later-says k (At w) s c = go (ltb (h.position w) (h.position k)) refl
+  later-says k (Some w) s c = go (ltb (h.position w) (h.position k)) refl
     where
-      go : (t : Bool) → ltb (h.position w) (h.position k) ≡ t → LastSays h e (suc k) (cond t (At k) (At w))
+      go : (t : Bool) → ltb (h.position w) (h.position k) ≡ t → LastSays h e (suc k) (cond t (Some k) (Some w))
       go true t =
           let p = ltb-true (h.position w) (h.position k) t in
           record {
@@ -65,8 +64,8 @@ module _ (h : History) (e : ℕ) where
 
   -- no candidate more
   same-says : (k : ℕ) (l : Last) → LastSays h e k l → candidate h e k ≡ false → LastSays h e (suc k) l
-  same-says k Nothing s c = λ x l. below_more x k l (s x) (λ i. rw i c)
-  same-says k (At w) s c = record {
+  same-says k None s c = λ x l. below_more x k l (s x) (λ i. rw i c)
+  same-says k (Some w) s c = record {
     below = omega (arith, s.below);
     seen = s.seen;
     last = λ x l q. below_more x k l (λ i. s.last x i q) (λ i. absurd (tell (candidate h e x) q (rw i c)));
@@ -85,8 +84,8 @@ module _ (h : History) (e : ℕ) where
   last_in k = go (last_below h e k) (last_says k)
     where
       go : (l : Last) → LastSays h e k l → LastIn k l
-      go Nothing s = tt
-      go (At w) s = s.below
+      go None s = tt
+      go (Some w) s = s.below
 
   pub write-says : LastSays h e h.count (last_write h e)
   unfolding last_write
@@ -101,8 +100,8 @@ module _ (h : History) (e : ℕ) where
   last_or_lt i = go (last_write h e) write_in
     where
       go : (l : Last) → LastIn h.count l → last_or e l < h.count
-      go Nothing s = i
-      go (At w) s = s
+      go None s = i
+      go (Some w) s = s
 
   -- a read that holds what it should hold is right
   pub expected-right : held h e ≡ expected h e → RightRead h e
@@ -110,8 +109,8 @@ module _ (h : History) (e : ℕ) where
   expected-right = go (last_write h e) write-says
     where
       go : (l : Last) → LastSays h e h.count l → held h e ≡ left_by h e l → RightRead h e
-      go Nothing s q = sees-none s q
-      go (At w) s q = sees-last (record { below = s.below; seen = s.seen; last = s.last }) q
+      go None s q = sees-none s q
+      go (Some w) s q = sees-last (record { below = s.below; seen = s.seen; last = s.last }) q
 
   -- and the other way, where no two events have one position: then the last write is the only one
   pub right-expected : DistinctPositions h → RightRead h e → held h e ≡ expected h e
@@ -119,9 +118,9 @@ module _ (h : History) (e : ℕ) where
   right-expected d r = go (last_write h e) write-says r
     where
       go : (l : Last) → LastSays h e h.count l → RightRead h e → held h e ≡ left_by h e l
-      go Nothing s (sees-none n q) = q
-      go Nothing s (sees-last {w} t q) = absurd (tell (candidate h e w) t.seen (s w t.below))
-      go (At u) s (sees-none n q) = absurd (tell (candidate h e u) s.seen (n u s.below))
-      go (At u) s (sees-last {w} t q) =
+      go None s (sees-none n q) = q
+      go None s (sees-last {w} t q) = absurd (tell (candidate h e w) t.seen (s w t.below))
+      go (Some u) s (sees-none n q) = absurd (tell (candidate h e u) s.seen (n u s.below))
+      go (Some u) s (sees-last {w} t q) =
           let same : w ≡ u = d w u t.below s.below (omega (arith, t.last u s.below s.seen, s.last w t.below t.seen)) in
           q ∙ ap (λ (x : ℕ). value (h.value x)) same

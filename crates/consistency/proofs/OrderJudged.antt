@@ -6,6 +6,7 @@ use Prim.Native.Nat.{ℕ, ◌<◌}
 use native.Mathlib.Omega.{arith}
 use borrow.Author.Tests.{eqb-true, eq-eqb}
 use lib.Dec.{eqb}
+use Rattle.std.specs.Prelude.{None}
 use Rattle.rows.specs.Lowest.{lowest}
 use Rattle.rows.specs.Placing.{all_placed, positions}
 use Rattle.rows.proofs.Tests.{same_test, or_right}
@@ -17,11 +18,9 @@ use Rattle.record.specs.Positioned.{positioned}
 use Rattle.consistency.specs.Relations.{so, step, hb}
 use Rattle.consistency.specs.Predicates.{rule}
 use Rattle.consistency.specs.Holds.{Obeys, Holds}
-use Rattle.consistency.specs.Models.{list_of, first_broken}
+use Rattle.consistency.specs.Models.{list_of, first_broken, Outcome}
 use Rattle.consistency.specs.Lattice.{causal}
 use Rattle.consistency.specs.FoundOrder.{holds_of, value_puts, puts, seen_puts, has_order, found_positions, Unambiguous, MakesCausal}
-use Rattle.consistency.specs.declared.Outcome.{Outcome}
-use Rattle.consistency.specs.declared.Outcome.TheVariants.{AllMet}
 use Rattle.consistency.specs.declared.Predicate.TheVariants.{CausalVisibility}
 use Rattle.consistency.proofs.FirstPairLaws.{Alike}
 use Rattle.consistency.proofs.BrokenIff.{list_met_iff}
@@ -67,17 +66,17 @@ module _ (h : History) where
   unfolding found_positions
   found-seen t = positions-same h.count (puts h) (seen_puts h) (puts_seen h (has_orderable h t).visibility)
 
-  causal-judged : has_order h ≡ true → judged ≡ AllMet
+  causal-judged : has_order h ≡ true → judged ≡ None
   causal-judged t =
       let m : MakesCausal h seen_positions = rw (found-seen t) at (found-causal h t) in
       (list_met_iff (positioned seen_positions h) m.arbitration.distinct (list_of causal)).1 m.holds
 
   module _ (u : Unambiguous h) where
-    judged-causal : all_placed h.count (seen_puts h) ≡ true → judged ≡ AllMet → MakesCausal h seen_positions
+    judged-causal : all_placed h.count (seen_puts h) ≡ true → judged ≡ None → MakesCausal h seen_positions
     judged-causal t e =
         let o = placed_orders h.count (seen_puts h) t in
         record { arbitration = record { below = o.below; distinct = o.distinct }; holds = (list_met_iff (positioned seen_positions h) o.distinct (list_of causal)).0 e }
 
     -- there is an order exactly if all are placed, and the record judged with their positions is causal
-    pub has_iff_judged : (has_order h ≡ true) ↔ ((all_placed h.count (seen_puts h) ≡ true) × (judged ≡ AllMet))
+    pub has_iff_judged : (has_order h ≡ true) ↔ ((all_placed h.count (seen_puts h) ≡ true) × (judged ≡ None))
     has_iff_judged = (λ t. (found-placed t, causal-judged t), λ c. orderable_has h (causal_orderable h u (judged-causal c.0 c.1)))

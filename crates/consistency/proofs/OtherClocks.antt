@@ -6,15 +6,14 @@ use mathlib.Core.List.{List, [], ◌∷◌}
 use Prim.Native.Nat.{ℕ, ◌-◌, ◌<◌, ◌≤◌}
 use native.Mathlib.Omega.{arith}
 use borrow.Author.Tests.{lt-ltb, ltb-true}
+use Rattle.std.specs.Prelude.{Some, None}
 use Rattle.rows.proofs.Tests.{split, or_elim, or_left, or_right, and_both, and_left, and_right}
 use Rattle.record.specs.History.{History, SameEvents}
+use Rattle.consistency.specs.FirstPair.{Verdict}
 use Rattle.consistency.specs.Relations.{rb, so, ar, write, from}
 use Rattle.consistency.specs.Predicates.{rule, by_clocks, verdict, numbered}
 use Rattle.consistency.specs.Holds.{Holds, Obeys, Within}
 use Rattle.consistency.specs.Models.{timed, or_else, first_broken}
-use Rattle.consistency.specs.declared.Verdict.{Verdict}
-use Rattle.consistency.specs.declared.Verdict.TheVariants.{Met, Broken}
-use Rattle.consistency.specs.declared.Outcome.TheVariants.{AllMet}
 use Rattle.consistency.specs.declared.Predicate.{Predicate}
 use Rattle.consistency.specs.declared.Predicate.TheVariants.{RVal, SingleOrder, RealTime, RealTimeWrites, MonotonicReads, ReadYourWrites, MonotonicWrites, WritesFollowReads, Pram, CausalVisibility, CausalArbitration, PerObjectPram, PerObjectSingleOrder}
 use Rattle.consistency.proofs.ClockLaws.{returned, rb_far}
@@ -77,7 +76,7 @@ module _ (h k : History) (s : SameEvents h k) (o : SameFor RVal h.terms k.terms)
         sym (ar-same h k s a b i' j')
         ∙ w a b i' j' (and_both (f a) (rb h a b) (same a i' ∙ and_left (g a) (rb k a b) e) (rb_less a b i' j' (and_right (g a) (rb k a b) e)))
 
-    pub met-larger : (p : Predicate) → verdict p h ≡ Met → verdict p k ≡ Met
+    pub met-larger : (p : Predicate) → verdict p h ≡ None → verdict p k ≡ None
     unfolding Holds Obeys rule
     met-larger RVal e = sym (other_eleven RVal refl) ∙ e
     met-larger SingleOrder e = sym (other_eleven SingleOrder refl) ∙ e
@@ -93,12 +92,12 @@ module _ (h k : History) (s : SameEvents h k) (o : SameFor RVal h.terms k.terms)
     met-larger PerObjectPram e = sym (other_eleven PerObjectPram refl) ∙ e
     met-larger PerObjectSingleOrder e = sym (other_eleven PerObjectSingleOrder refl) ∙ e
 
-    pub list_larger : (ps : List ℕ) → first_broken ps h ≡ AllMet → first_broken ps k ≡ AllMet
+    pub list_larger : (ps : List ℕ) → first_broken ps h ≡ None → first_broken ps k ≡ None
     unfolding first_broken
     list_larger [] e = refl
     list_larger (p ∷ ps) e = go (list_larger ps) (verdict (numbered p) h) refl e
       where
-        go : (first_broken ps h ≡ AllMet → first_broken ps k ≡ AllMet) → (v : Verdict) → verdict (numbered p) h ≡ v → or_else p v (first_broken ps h) ≡ AllMet
-            → or_else p (verdict (numbered p) k) (first_broken ps k) ≡ AllMet
-        go rest Met q f = ap₂ (or_else p) (met-larger (numbered p) q) (rest f)
-        go rest (Broken a b) q f = let z : ◌≡◌ {A = ℕ} 0 1 = cc in absurd (omega arith)
+        go : (first_broken ps h ≡ None → first_broken ps k ≡ None) → (v : Verdict) → verdict (numbered p) h ≡ v → or_else p v (first_broken ps h) ≡ None
+            → or_else p (verdict (numbered p) k) (first_broken ps k) ≡ None
+        go rest None q f = ap₂ (or_else p) (met-larger (numbered p) q) (rest f)
+        go rest (Some (a, b)) q f = let z : ◌≡◌ {A = ℕ} 0 1 = cc in absurd (omega arith)

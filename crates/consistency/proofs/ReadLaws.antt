@@ -5,12 +5,11 @@ use Prim.Native.Nat.{ℕ, ◌<◌}
 use native.Mathlib.Omega.{arith}
 use lib.Dec.{eqb}
 use borrow.Author.Tests.{eq-eqb, ne_eqb, not-true, not-false}
+use Rattle.std.specs.Prelude.{Some, None}
 use Rattle.record.specs.History.{History}
 use Rattle.consistency.specs.FirstPair.{first}
 use Rattle.record.specs.Terms.{Held, none, value}
-use Rattle.consistency.specs.Reads.{last_write, same_held, held, left_by, expected, wrong_read, last_or, wrong}
-use Rattle.consistency.specs.declared.Verdict.TheVariants.{Met, Broken}
-use Rattle.consistency.specs.declared.Last.{Last}
+use Rattle.consistency.specs.Reads.{last_write, same_held, held, left_by, expected, wrong_read, last_or, wrong, Last}
 use Rattle.consistency.proofs.FirstPairLaws.{first-at, first-none}
 use Rattle.consistency.proofs.LastWriteLaws.{last_or_lt}
 
@@ -49,13 +48,13 @@ module _ (h : History) (e : ℕ) (s : Bool) (wrote : s ≡ h.is_write e) where
 
 -- ---- the lowest wrong read
 
-pub reads-right : (h : History) (n : ℕ) → ((x : ℕ) → x < n → wrong_read h x ≡ false) → Met ≡ first n (wrong h)
+pub reads-right : (h : History) (n : ℕ) → ((x : ℕ) → x < n → wrong_read h x ≡ false) → None ≡ first n (wrong h)
 unfolding wrong
 reads-right h n r = sym (first-none n (wrong h) (λ x y i j. ap (λ (t : Bool). t && eqb y (last_or x (last_write h x))) (r x i)))
 
 -- e is wrong and no event below it; b is the last write that e sees, or e
 pub read-wrong : (h : History) (e b : ℕ) (x : Last) → e < h.count → ((y : ℕ) → y < e → wrong_read h y ≡ false) → wrong_read h e ≡ true → x ≡ last_write h e → b ≡ last_or e x
-    → Broken e b ≡ first h.count (wrong h)
+    → Some (e, b) ≡ first h.count (wrong h)
 unfolding wrong
 read-wrong h e b x i r t q p = sym (first-at h.count (wrong h) e b (record {
   left = i;

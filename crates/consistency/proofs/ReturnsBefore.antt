@@ -8,12 +8,11 @@ use lib.Dec.{ltb}
 use Rattle.rows.proofs.Tests.{split}
 use Rattle.rows.specs.Relation.{Rel, reaches}
 use Rattle.record.specs.History.{History, vis}
-use Rattle.consistency.specs.FirstPair.{first}
+use Rattle.consistency.specs.FirstPair.{first, Verdict}
 use Rattle.consistency.specs.Relations.{ss, ob, rb, so, ar, step, hb, write, read, from, to, both, through}
 use Rattle.consistency.specs.Predicates.{Rule, ◌within◌, rule, breaks, verdict}
 use Rattle.consistency.specs.declared.Predicate.{Predicate}
 use Rattle.consistency.specs.declared.Predicate.TheVariants.{RVal, SingleOrder, RealTime, RealTimeWrites, MonotonicReads, ReadYourWrites, MonotonicWrites, WritesFollowReads, Pram, CausalVisibility, CausalArbitration, PerObjectPram, PerObjectSingleOrder}
-use Rattle.consistency.specs.declared.Verdict.{Verdict}
 use Rattle.consistency.specs.ReturnsBefore.{ByCases}
 
 -- ---- the three cases

@@ -7,6 +7,7 @@ use Prim.Native.Nat.{ℕ, zero, suc, ◌+◌, ◌<◌, ◌≤◌}
 use native.Mathlib.Omega.{arith}
 use native.Mathlib.Nat.{le_refl}
 use lib.Dec.{ltb, eqb}
+use Rattle.std.specs.Prelude.{Some, None}
 use Rattle.rows.specs.Lowest.{some}
 use Rattle.rows.specs.Relation.{Rel, reaches}
 use Rattle.rows.proofs.Tests.{split}
@@ -16,11 +17,9 @@ use Rattle.record.specs.Terms.{none, value, Terms, SameTerms}
 use Rattle.record.specs.History.{History, under, vis, SameEvents, Agree}
 use Rattle.consistency.specs.FirstPair.{first}
 use Rattle.consistency.specs.Relations.{ss, ob, rb, so, ar, step, hb, read, from, to, both, through}
-use Rattle.consistency.specs.Reads.{candidate, later, last_below, last_write, same_held, held, left_by, expected, wrong_read, last_or, wrong}
+use Rattle.consistency.specs.Reads.{candidate, later, last_below, last_write, same_held, held, left_by, expected, wrong_read, last_or, wrong, Last}
 use Rattle.consistency.specs.Predicates.{Rule, last-value, ◌within◌, ◌fits◌, rule, differ, breaks, verdict, numbered}
 use Rattle.consistency.specs.Models.{or_else, first_broken}
-use Rattle.consistency.specs.declared.Last.{Last}
-use Rattle.consistency.specs.declared.Last.TheVariants.{Nothing, At}
 use Rattle.consistency.specs.declared.Predicate.{Predicate}
 use Rattle.consistency.specs.declared.Predicate.TheVariants.{RVal, SingleOrder, RealTime, RealTimeWrites, MonotonicReads, ReadYourWrites, MonotonicWrites, WritesFollowReads, Pram, CausalVisibility, CausalArbitration, PerObjectPram, PerObjectSingleOrder}
 use Rattle.consistency.proofs.FirstPairLaws.{Alike, first-same}
@@ -82,8 +81,8 @@ data AlikeRule (n : ℕ) (openings : Type 0) : Rule → Rule → Type 0 where
   fitses : {q r q' r' : Rel} → Alike n q q' → Alike n r r' → AlikeRule n openings (q fits r) (q' fits r')
 
 wider : (m n : ℕ) (l : Last) → m ≤ n → LastIn m l → LastIn n l
-wider m n Nothing h s = tt
-wider m n (At w) h s = omega arith
+wider m n None h s = tt
+wider m n (Some w) h s = omega arith
 
 -- a pending event is before nothing, whatever would be asked of its return
 unless_pending : {p q x y : Bool} → p ≡ q → (p ≡ false → x ≡ y) → cond p false x ≡ cond q false y
@@ -156,8 +155,8 @@ module _ (h k : History) (s : SameEvents h k) where
   candidate-same e w i j = ap₂ ◌&&◌ (vis-same w e j i) (ap₂ ◌&&◌ (s.is_write w j) (ob-same w e j i))
 
   later_same : (l : Last) (w : ℕ) → LastIn h.count l → w < h.count → later h l w ≡ later k l w
-  later_same Nothing w i j = refl
-  later_same (At v) w i j = ap (λ (t : Bool). cond t (At w) (At v)) (ar-same v w i j)
+  later_same None w i j = refl
+  later_same (Some v) w i j = ap (λ (t : Bool). cond t (Some w) (Some v)) (ar-same v w i j)
 
   last-same : (e m : ℕ) → e < h.count → m ≤ h.count → last_below h e m ≡ last_below k e m
   unfolding last_below
@@ -175,8 +174,8 @@ module _ (h k : History) (s : SameEvents h k) where
   held_same e i = ap₂ (λ (t : Bool) (v : ℕ). cond t (value v) none) (s.is_present e i) (s.value e i)
 
   left-same : SameFor RVal h.terms k.terms → (e : ℕ) (l : Last) → e < h.count → LastIn h.count l → left_by h e l ≡ left_by k e l
-  left-same o e Nothing j i = o (h.object e) ∙ ap k.terms.opening (s.object e j)
-  left-same o e (At w) j i = ap value (s.value w i)
+  left-same o e None j i = o (h.object e) ∙ ap k.terms.opening (s.object e j)
+  left-same o e (Some w) j i = ap value (s.value w i)
 
   expected-same : SameFor RVal h.terms k.terms → (e : ℕ) → e < h.count → expected h e ≡ expected k e
   unfolding expected

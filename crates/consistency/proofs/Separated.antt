@@ -6,6 +6,7 @@ use Prim.Native.Nat.{ℕ, ◌+◌, ◌-◌, ◌<◌, ◌≤◌}
 use native.Mathlib.Omega.{arith}
 use borrow.Author.Tests.{not-true, not-false, ltb-true, eqb-true}
 use lib.Dec.{ltb, eqb}
+use Rattle.std.specs.Prelude.{Some, None}
 use Rattle.rows.specs.Lowest.{search_from, lowest, some}
 use Rattle.rows.specs.Relation.{via, reaches}
 use Rattle.rows.proofs.LowestLaws.{some-none, lowest_low}
@@ -18,17 +19,15 @@ use Rattle.consistency.specs.FirstPair.{first_left, first}
 use Rattle.consistency.specs.Relations.{ss, ob, rb, so, ar, step, hb, through}
 use Rattle.consistency.specs.Reads.{candidate, last_below, last_write, expected, wrong_read, wrong}
 use Rattle.consistency.specs.Predicates.{rule, differ, breaks, verdict, numbered}
-use Rattle.consistency.specs.Models.{list_of, first_broken}
+use Rattle.consistency.specs.Models.{list_of, first_broken, Outcome}
 use Rattle.consistency.specs.Lattice.{listed, follows}
 use Rattle.consistency.specs.Separating.{numbered_record, separating_history, tells, separator}
-use Rattle.consistency.specs.declared.Outcome.{Outcome}
-use Rattle.consistency.specs.declared.Outcome.TheVariants.{AllMet, BrokenAt}
 use Rattle.consistency.proofs.BrokenIff.{differ_same}
 use Rattle.consistency.proofs.ChainLaws.{chain, follows-chain}
 
 abbrev pub is_met : Outcome → Bool
-is_met AllMet = true
-is_met (BrokenAt p a b) = false
+is_met None = true
+is_met (Some x) = false
 
 -- a test of the first n numbers from 1 on
 abbrev pub every : ℕ → (ℕ → Bool) → Bool

@@ -1,5 +1,5 @@
 -- 'Sites that log no order': of a record whose events have no positions, the order that is found, and the arbitrations that make the record causal.
-use Rattle.std.specs.Prelude.{◌≡◌, Bool, true, false, not, cond, ◌&&◌, ◌||◌, ℕ, ◌<◌, eqb}
+use Rattle.std.specs.Prelude.{◌≡◌, Bool, true, false, not, cond, ◌&&◌, ◌||◌, ℕ, ◌<◌, eqb, Some, None}
 use Rattle.rows.specs.Lowest.{lowest, some}
 use Rattle.rows.specs.Relation.{Rel}
 use Rattle.rows.specs.Shortest.{NotLater}
@@ -9,13 +9,12 @@ use Rattle.record.specs.History.{History, vis}
 use Rattle.record.specs.Positioned.{Arbitration, positioned}
 use Rattle.consistency.specs.Relations.{ob, hb, write, read}
 use Rattle.consistency.specs.Reads.{candidate, held, same_held}
+use Rattle.consistency.specs.FirstPair.{Verdict}
 use Rattle.consistency.specs.Predicates.{verdict}
 use Rattle.consistency.specs.Holds.{Holds}
 use Rattle.consistency.specs.Breaks.{AllHold}
 use Rattle.consistency.specs.Models.{list_of}
 use Rattle.consistency.specs.Lattice.{causal}
-use Rattle.consistency.specs.declared.Verdict.{Verdict}
-use Rattle.consistency.specs.declared.Verdict.TheVariants.{Met, Broken}
 use Rattle.consistency.specs.declared.Predicate.TheVariants.{CausalVisibility}
 
 -- ---- 47: values that do not tell writes apart
@@ -63,8 +62,8 @@ unfoldable pub seen_puts : History → Rel
 seen_puts h a b = vis h a b || value_puts h a b
 
 abbrev pub met : Verdict → Bool
-met Met = true
-met (Broken a b) = false
+met None = true
+met (Some x) = false
 
 -- 10 is met, every returned read can be right, and every event is placed
 unfoldable pub has_order : History → Bool

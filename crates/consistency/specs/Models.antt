@@ -1,11 +1,9 @@
 -- 'Models': the table of models to their predicates, and the first broken predicate of a list.
-use Rattle.std.specs.Prelude.{Bool, false, ◌||◌, List, [], ◌∷◌, ℕ, ◌-◌, get_or}
+use Rattle.std.specs.Prelude.{Bool, false, ◌||◌, List, [], ◌∷◌, ℕ, ◌-◌, get_or, Option, Some, None}
 use Rattle.record.specs.History.{History}
+use Rattle.consistency.specs.FirstPair.{Verdict}
 use Rattle.consistency.specs.Predicates.{numbered, by_clocks, verdict}
-use Rattle.consistency.specs.declared.Verdict.{Verdict}
-use Rattle.consistency.specs.declared.Verdict.TheVariants.{Met, Broken}
-use Rattle.consistency.specs.declared.Outcome.{Outcome}
-use Rattle.consistency.specs.declared.Outcome.TheVariants.{AllMet, BrokenAt}
+use Rattle.consistency.specs.declared.Break.{Break}
 
 -- 1 linearizable, 2 regular, 3 sequential, 4 causal, 5 real-time causal, 6 processor, 7 per-object sequential, 8 Pram,
 -- 9–12 predicates 5–8, 13 slow memory
@@ -35,12 +33,18 @@ abbrev pub timed : List ℕ → Bool
 timed [] = false
 timed (p ∷ ps) = by_clocks (numbered p) || timed ps
 
+-- the first broken predicate of a list, with its pair, if any is broken
+abbrev pub Outcome : Type 0
+Outcome = Option Break
+
+abbrev pub broken_at : ℕ → ℕ × ℕ → Outcome
+broken_at p x = Some (record { predicate = p; first = x.0; second = x.1 })
+
 -- a predicate's break, or what comes after it
 abbrev pub or_else : ℕ → Verdict → Outcome → Outcome
-or_else p Met next = next
-or_else p (Broken a b) next = BrokenAt p a b
+or_else p None next = next
+or_else p (Some x) next = broken_at p x
 
--- the first broken predicate of a list, with its pair
 unfoldable pub first_broken : List ℕ → History → Outcome
-first_broken [] h = AllMet
+first_broken [] h = None
 first_broken (p ∷ ps) h = or_else p (verdict (numbered p) h) (first_broken ps h)

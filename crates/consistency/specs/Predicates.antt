@@ -3,10 +3,9 @@ use Rattle.std.specs.Prelude.{Bool, true, false, not, ◌&&◌, List, [], ◌∷
 use Rattle.rows.specs.Lowest.{some}
 use Rattle.rows.specs.Relation.{Rel}
 use Rattle.record.specs.History.{History, vis}
-use Rattle.consistency.specs.FirstPair.{first}
+use Rattle.consistency.specs.FirstPair.{Verdict, first}
 use Rattle.consistency.specs.Relations.{rb, ob, so, ar, hb, write, read, from, to, both, through}
 use Rattle.consistency.specs.Reads.{wrong}
-use Rattle.consistency.specs.declared.Verdict.{Verdict}
 use Rattle.consistency.specs.declared.Predicate.{Predicate}
 use Rattle.consistency.specs.declared.Predicate.TheVariants.{RVal, SingleOrder, RealTime, RealTimeWrites, MonotonicReads, ReadYourWrites, MonotonicWrites, WritesFollowReads, Pram, CausalVisibility, CausalArbitration, PerObjectPram, PerObjectSingleOrder}
 

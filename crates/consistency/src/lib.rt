@@ -19,26 +19,22 @@ pub enum Predicate {
     PerObjectSingleOrder,
 }
 
-// Whether a predicate is met, or the first pair that breaks it.
+// The first pair that breaks a predicate, if it is not met.
+pub type Verdict = Option<(usize, usize)>;
+
+// The last write that a read sees, if it sees any.
+pub type Last = Option<usize>;
+
+// A broken predicate, by its number, and the first pair that breaks it.
 #[derive(Clone, Copy)]
-pub enum Verdict {
-    Met,
-    Broken(usize, usize),
+pub struct Break {
+    pub predicate: usize,
+    pub first: usize,
+    pub second: usize,
 }
 
-// The last write that a read sees.
-#[derive(Clone, Copy)]
-pub enum Last {
-    Nothing,
-    At(usize),
-}
-
-// Whether all predicates of a list are met, or the first that is broken, by its number, and its pair.
-#[derive(Clone, Copy)]
-pub enum Outcome {
-    AllMet,
-    BrokenAt(usize, usize, usize),
-}
+// The first broken predicate of a list, if not all are met.
+pub type Outcome = Option<Break>;
 
 // How the break of a predicate is told: by a chain of events, by the one in the middle, or by its pair alone.
 #[derive(Clone, Copy)]

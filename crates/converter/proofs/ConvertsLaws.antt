@@ -1,44 +1,38 @@
 -- What each answer of the converting call means: what was written is the record in the other edition; it passes there, says the same, is judged the same, and moved
 -- back it is the original. Assumes nothing.
 use mathlib.Core.Path.{◌≡◌, refl, sym, ap, ap₂, ◌∙◌, subst}
-use mathlib.Core.Logic.{◌≢◌}
 use mathlib.Core.Bool.{Bool, true, false, true≢false}
 use mathlib.Core.List.{List, [], ◌∷◌, ◌++◌}
 use Prim.Native.Nat.{ℕ, zero, suc, ◌*◌, ◌<◌, ◌≤◌}
 use native.Mathlib.Omega.{arith}
 use native.Mathlib.Decide.{dec_lt}
-use borrow.Author.Tests.{le-leb, lt-leb, leb-true, leb-false, eq-eqb, ne_eqb, eqb-true, eqb-false}
-use lib.Dec.{leb, eqb}
+use borrow.Author.Tests.{le-leb, lt-leb, leb-true, leb-false}
+use lib.Dec.{leb}
 use lib.ListN.{length, drop, take}
 use Rattle.rows.proofs.Tests.{tell}
 use Rattle.record.specs.Layout.{Layout, EditionName, GCR1, GCR2, GCR3, edition, named_by, edition_of, count_in, sites_in}
 use Rattle.record.specs.History.{History, history_of, Agree}
 use Rattle.record.specs.Answers.{Passes}
-use Rattle.record.specs.Questions.{number_of, ask, questions}
+use Rattle.std.specs.Prelude.{Ok, Err}
+use Rattle.record.specs.Questions.{Reading, ask, if_passed, questions}
 use Rattle.record.specs.WellFormed.{WellFormed}
 use Rattle.record.specs.Encode.{blocks_for, record_bytes}
 use Rattle.record.specs.Converted.{is_edition, edition_number, edition_number_of, named, numbered, can_stand, StandsIn, converted, length_in}
-use Rattle.record.specs.declared.Reading.{Reading}
-use Rattle.record.specs.declared.Reading.TheVariants.{Passed, ShortWork}
+use Rattle.record.specs.declared.Refusal.{Refusal}
 use Rattle.record.proofs.StoresLaws.{Bytes}
 use Rattle.record.proofs.SoundLayout.{edition-sound, sound_of}
 use Rattle.record.proofs.SaidAgain.{again, laid_length}
 use Rattle.record.proofs.PassedWellFormed.{laid_out, passes_well_formed}
 use Rattle.record.proofs.EncodedPasses.{Encoded, encoded, edition-back}
-use Rattle.record.proofs.QuestionsAnswered.{answered, answer-only, passed-right, number_passed}
+use Rattle.record.proofs.QuestionsAnswered.{answer_of, answer-only, passed-right}
 use Rattle.record.proofs.ConvertedLaws.{can_stand_lem, stands_can, stands_well_formed, later-stands, said_stands, converted-back}
 use Rattle.consistency.proofs.SameVerdict.{first_broken-same}
-use Rattle.judge.specs.Judgments.{admission, admit, judged_list, judged, said_by, predicate_judgment, predicate_judgment_of, model_judgment, model_judgment_of}
-use Rattle.judge.specs.declared.Judgment.{Judgment}
-use Rattle.judge.specs.declared.Judgment.TheVariants.{NoSuchNumber}
-use Rattle.judge.specs.declared.Judgment.TheVariants as judgment
+use Rattle.judge.specs.Judgments.{Judgment, admission, admit, judged_list, judged, said_by, predicate_judgment, predicate_judgment_of, model_judgment, model_judgment_of}
 use Rattle.consistency.specs.Models.{list_of}
-use Rattle.judge.proofs.JudgmentLaws.{list_judged}
 use Rattle.converter.proofs.MovingLaws.{moved_written}
-use Rattle.converter.specs.Conversions.{moved_to, read_and_moved, conversion, converted_to, written_to, target_after}
+use Rattle.converter.specs.Conversions.{Conversion, moved_to, read_and_moved, conversion, converted_to, written_to, target_after}
 use Rattle.converter.specs.Means.{Moved, Converts, written, no_such_edition, refused, cannot_stand, short_target}
-use Rattle.converter.specs.declared.Conversion.{Conversion}
-use Rattle.converter.specs.declared.Conversion.TheVariants.{Written, NoSuchEdition, CannotStand, ShortTarget, Refused}
+use Rattle.converter.specs.declared.Unconverted.TheVariants.{NoSuchEdition, CannotStand, ShortTarget, Refused}
 
 -- ---- editions by number
 
@@ -130,13 +124,13 @@ module _ (k : ℕ) (s : List ℕ) (bytes : Bytes s) (right : Passes (edition_of 
     -- ---- it is judged alike
 
     list-alike : (ps : List ℕ) → judged_list (edition_of (converted_to k s)) (converted_to k s) ps ≡ judged_list (edition_of s) s ps
+    unfolding judged_list
     list-alike ps =
-        sym (list_judged t ps Passed (sym (answer-only (edition_of t) t Passed passes-there)) refl _ (first_broken-same h (said_by t) says-there ps))
-        ∙ list_judged s ps Passed (sym (answer-only L s Passed right)) refl _ refl
+        rw (answer-only (edition_of t) t (Ok tt) passes-there, answer-only L s (Ok tt) right) (ap Ok (sym (first_broken-same h (said_by t) says-there ps)))
 
     alike : (words number : ℕ) (ps : List ℕ) → judged (edition_of (converted_to k s)) words number (converted_to k s) ps ≡ judged (edition_of s) words number s ps
     unfolding judged
-    alike words number ps = ap (λ (j : Judgment). admit (admission words number) (judgment.Refused ShortWork) NoSuchNumber j) (list-alike ps)
+    alike words number ps = ap (λ (j : Judgment). admit (admission words number) Err j) (list-alike ps)
 
     predicates-alike : (words p : ℕ) → predicate_judgment_of words p (converted_to k s) ≡ predicate_judgment_of words p s
     unfolding predicate_judgment
@@ -171,15 +165,15 @@ module _ (k : ℕ) (s : List ℕ) (bytes : Bytes s) (right : Passes (edition_of 
     length-back : length_in (edition_of s) (converted_to k s) ≡ length s
     length-back = ap (λ (n : ℕ). 512 * blocks_for L n) count-there ∙ sym own-length
 
-    back-moved : (room : ℕ) → length s ≤ room → moved_to (edition_of (converted_to k s)) (edition_of s) room (converted_to k s) ≡ Written (length s)
+    back-moved : (room : ℕ) → length s ≤ room → moved_to (edition_of (converted_to k s)) (edition_of s) room (converted_to k s) ≡ Ok (length s)
     back-moved room l = sym (moved_written (edition_of t) L room t stands-back (omega (arith, length-back)) (length s) (sym length-back))
 
-    back-answer : (room : ℕ) → length s ≤ room → conversion (edition_number_of s) room (converted_to k s) ≡ Written (length s)
+    back-answer : (room : ℕ) → length s ≤ room → conversion (edition_number_of s) room (converted_to k s) ≡ Ok (length s)
     unfolding conversion read_and_moved
     back-answer room l =
-        rw (is_edition-back (named_by (take 4 s)), numbered-back (named_by (take 4 s)), answer-only (edition_of t) t Passed passes-there) (back-moved room l)
+        rw (is_edition-back (named_by (take 4 s)), numbered-back (named_by (take 4 s)), answer-only (edition_of t) t (Ok tt) passes-there) (back-moved room l)
 
-    back-target : (target : List ℕ) → target_after (Written (length s)) (edition_number_of s) (converted_to k s) target ≡ s ++ drop (length s) target
+    back-target : (target : List ℕ) → target_after (Ok (length s)) (edition_number_of s) (converted_to k s) target ≡ s ++ drop (length s) target
     unfolding target_after written_to
     back-target target =
         ap (λ (E : Layout). converted (edition_of t) E t ++ drop (length_in E t) target) (numbered-back (named_by (take 4 s)))
@@ -231,28 +225,28 @@ module _ (k : ℕ) (s target : List ℕ) (bytes : Bytes s) where
   to = numbered k
 
   written_means : is_edition k ≡ true → (right : Passes (edition_of s) s) → StandsIn (numbered k) (history_of (edition_of s) s) → length_in (numbered k) s ≤ length target
-      → Converts k s target (Written (length_in (numbered k) s)) (target_after (Written (length_in (numbered k) s)) k s target)
+      → Converts k s target (Ok (length_in (numbered k) s)) (target_after (Ok (length_in (numbered k) s)) k s target)
   unfolding target_after written_to
   written_means q right so room =
       let e = length-there k s bytes right so in
-      subst (λ (n : ℕ). Converts k s target (Written n) (converted_to k s ++ drop n target)) e
+      subst (λ (n : ℕ). Converts k s target (Ok n) (converted_to k s ++ drop n target)) e
       (written (converted_to k s) q right (moved k s bytes right so) (omega (arith, e)))
 
   short_means : is_edition k ≡ true → (right : Passes (edition_of s) s) → StandsIn (numbered k) (history_of (edition_of s) s) → length target < length_in (numbered k) s
-      → Converts k s target ShortTarget (target_after ShortTarget k s target)
+      → Converts k s target (Err ShortTarget) (target_after (Err ShortTarget) k s target)
   unfolding target_after
   short_means q right so l = short_target (converted_to k s) q right (moved k s bytes right so) (omega (arith, length-there k s bytes right so))
 
   fits_means : is_edition k ≡ true → (right : Passes (edition_of s) s) → StandsIn (numbered k) (history_of (edition_of s) s)
-      → Converts k s target (ask (leb (length_in (numbered k) s) (length target)) ShortTarget (Written (length_in (numbered k) s)))
-      (target_after (ask (leb (length_in (numbered k) s) (length target)) ShortTarget (Written (length_in (numbered k) s))) k s target)
+      → Converts k s target (ask (leb (length_in (numbered k) s) (length target)) (Err ShortTarget) (Ok (length_in (numbered k) s)))
+      (target_after (ask (leb (length_in (numbered k) s) (length target)) (Err ShortTarget) (Ok (length_in (numbered k) s))) k s target)
   fits_means q right so =
-      ask_into Says (leb (length_in to s) (length target)) ShortTarget (Written (length_in to s))
+      ask_into Says (leb (length_in to s) (length target)) (Err ShortTarget) (Ok (length_in to s))
       (λ f. short_means q right so (leb-false (length_in to s) (length target) f))
       (λ e. written_means q right so (leb-true (length_in to s) (length target) e))
 
   cannot_means : is_edition k ≡ true → (right : Passes (edition_of s) s) → can_stand (numbered k) (history_of (edition_of s) s) ≡ false
-      → Converts k s target CannotStand (target_after CannotStand k s target)
+      → Converts k s target (Err CannotStand) (target_after (Err CannotStand) k s target)
   unfolding target_after
   cannot_means q right f = cannot_stand q right (none-says k s bytes right f) (earlier k s bytes right q f)
 
@@ -261,33 +255,31 @@ module _ (k : ℕ) (s target : List ℕ) (bytes : Bytes s) where
       → Converts k s target (moved_to (edition_of s) (numbered k) (length target) s) (target_after (moved_to (edition_of s) (numbered k) (length target) s) k s target)
   unfolding moved_to
   moved_means q right =
-      ask_into Says (can_stand to (history_of from s)) CannotStand (ask (leb (length_in to s) (length target)) ShortTarget (Written (length_in to s)))
+      ask_into Says (can_stand to (history_of from s)) (Err CannotStand) (ask (leb (length_in to s) (length target)) (Err ShortTarget) (Ok (length_in to s)))
       (cannot_means q right) (λ e. fits_means q right (can-stands k s bytes right e))
 
-  refused_means : is_edition k ≡ true → eqb (number_of (questions (edition_of s) s)) 0 ≡ false
-      → Converts k s target (Refused (questions (edition_of s) s)) (target_after (Refused (questions (edition_of s) s)) k s target)
+  refused_means : is_edition k ≡ true → (r : Refusal) → questions (edition_of s) s ≡ Err r → Converts k s target (Err (Refused r)) (target_after (Err (Refused r)) k s target)
   unfolding target_after
-  refused_means q f =
-      let r : Reading = questions from s in
-      rw f (refused q (λ z. eqb-false (number_of r) 0 f (ap number_of z)) (answered from s))
+  refused_means q r e = refused q (answer_of from s (Err r) e)
 
   -- 3 to 10 before them
   read_means : is_edition k ≡ true
       → Converts k s target (read_and_moved (edition_of s) (numbered k) (length target) s) (target_after (read_and_moved (edition_of s) (numbered k) (length target) s) k s target)
   unfolding read_and_moved
-  read_means q =
-      let r : Reading = questions from s in
-      ask_into Says (eqb (number_of r) 0) (Refused r) (moved_to from to (length target) s) (refused_means q)
-      (λ e. moved_means q (passed-right from s (number_passed r (eqb-true (number_of r) 0 e))))
+  read_means q = go (questions from s) refl
+    where
+      go : (r : Reading) → questions (edition_of s) s ≡ r → Says (if_passed r (λ r. Err (Refused r)) (moved_to (edition_of s) (numbered k) (length target) s))
+      go (Ok u) e = moved_means q (passed-right from s e)
+      go (Err r) e = refused_means q r e
 
-  no_such_means : is_edition k ≡ false → Converts k s target NoSuchEdition (target_after NoSuchEdition k s target)
+  no_such_means : is_edition k ≡ false → Converts k s target (Err NoSuchEdition) (target_after (Err NoSuchEdition) k s target)
   unfolding target_after
   no_such_means f = no_such_edition f
 
   -- and 43 first
   answer-means : Converts k s target (conversion k (length target) s) (target_after (conversion k (length target) s) k s target)
   unfolding conversion
-  answer-means = ask_into Says (is_edition k) NoSuchEdition (read_and_moved from to (length target) s) no_such_means read_means
+  answer-means = ask_into Says (is_edition k) (Err NoSuchEdition) (read_and_moved from to (length target) s) no_such_means read_means
 
   -- the same of an answer that code gives, and of what it leaves in the buffer
   pub converts_of : {c : Conversion} {after : List ℕ} → c ≡ conversion k (length target) s → after ≡ target_after c k s target → Converts k s target c after
@@ -296,25 +288,15 @@ module _ (k : ℕ) (s target : List ℕ) (bytes : Bytes s) where
 -- ---- the questions one after the other
 
 module _ (k room : ℕ) (s : List ℕ) where
-  pub no_edition : is_edition k ≡ false → NoSuchEdition ≡ conversion k room s
+  pub no_edition : is_edition k ≡ false → Err NoSuchEdition ≡ conversion k room s
   unfolding conversion
   no_edition f = rw f refl
 
--- 3 to 10, r being what the reader answered
-module _ (s : List ℕ) (r : Reading) (asked : r ≡ questions (edition_of s) s) where
-  pub read_passed : number_of r ≡ 0 → Passes (edition_of s) s
-  read_passed e = passed-right (edition_of s) s (sym asked ∙ number_passed r e)
-
-  module _ (k room : ℕ) (is : is_edition k ≡ true) where
-    pub read_refused : number_of r ≢ 0 → Refused r ≡ conversion k room s
+  module _ (is : is_edition k ≡ true) where
+    pub read_refused : (r : Refusal) → questions (edition_of s) s ≡ Err r → Err (Refused r) ≡ conversion k room s
     unfolding conversion read_and_moved
-    read_refused f = rw (is, ← asked, ne_eqb (number_of r) 0 f) refl
+    read_refused r e = rw (is, e) refl
 
-    pub read_moved : number_of r ≡ 0 → {c : Conversion} → c ≡ moved_to (edition_of s) (numbered k) room s → c ≡ conversion k room s
+    pub read_moved : questions (edition_of s) s ≡ Ok tt → {c : Conversion} → c ≡ moved_to (edition_of s) (numbered k) room s → c ≡ conversion k room s
     unfolding conversion read_and_moved
-    read_moved e m = rw (is, ← asked, eq-eqb (number_of r) 0 e) m
-
--- and a refusal leaves the buffer
-pub refused_leaves : (r : Reading) → number_of r ≢ 0 → (k : ℕ) (s target : List ℕ) → target ≡ target_after (Refused r) k s target
-unfolding target_after
-refused_leaves r f k s target = rw (ne_eqb (number_of r) 0 f) refl
+    read_moved e m = rw (is, e) m

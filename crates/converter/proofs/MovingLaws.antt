@@ -14,7 +14,7 @@ use Rattle.record.specs.Layout.{Layout, edition_of, count_in, sites_in, slot_at,
 use Rattle.record.specs.Terms.{Terms}
 use Rattle.record.specs.History.{History, history_of}
 use Rattle.record.specs.Answers.{Passes}
-use Rattle.record.specs.declared.Reading.TheVariants.{Passed}
+use Rattle.std.specs.Prelude.{Ok, Err}
 use Rattle.record.specs.LaidOut.{LaidOut}
 use Rattle.record.specs.Encode.{terms_bytes, blocks_for, header_bytes, with_terms, with_slots, sealed, record_bytes}
 use Rattle.record.specs.Converted.{named, numbered, says_none, can_stand, length_in}
@@ -26,7 +26,7 @@ use Rattle.record.proofs.QuestionsAnswered.{answer-only, passed-count}
 use Rattle.record.proofs.SaidAgain.{laid_length}
 use Rattle.record.proofs.PassedWellFormed.{laid_out}
 use Rattle.converter.specs.Conversions.{moved_to, written_to}
-use Rattle.converter.specs.declared.Conversion.TheVariants.{Written, CannotStand, ShortTarget}
+use Rattle.converter.specs.declared.Unconverted.TheVariants.{CannotStand, ShortTarget}
 use Rattle.converter.specs.Blank.{Blank}
 use Rattle.record.proofs.MovedLaws.{bare_bytes, terms-none, terms_moved, terms-zero}
 
@@ -48,18 +48,18 @@ module _ (M : Layout) (h : History) where
 -- ---- the answer: after a yes to 3 to 10
 
 module _ (L M : Layout) (room : ℕ) (s : List ℕ) where
-  pub moved_not : can_stand M (history_of L s) ≡ false → CannotStand ≡ moved_to L M room s
+  pub moved_not : can_stand M (history_of L s) ≡ false → Err CannotStand ≡ moved_to L M room s
   unfolding moved_to
   moved_not e = rw e refl
 
   module _ (stands : can_stand M (history_of L s) ≡ true) where
-    pub moved_short : room < length_in M s → ShortTarget ≡ moved_to L M room s
+    pub moved_short : room < length_in M s → Err ShortTarget ≡ moved_to L M room s
     unfolding moved_to
     moved_short l = rw (stands, lt-leb (length_in M s) room l) refl
 
-    pub moved_written : length_in M s ≤ room → (n : ℕ) → n ≡ length_in M s → Written n ≡ moved_to L M room s
+    pub moved_written : length_in M s ≤ room → (n : ℕ) → n ≡ length_in M s → Ok n ≡ moved_to L M room s
     unfolding moved_to
-    moved_written l n e = rw (stands, le-leb (length_in M s) room l) (ap Written e)
+    moved_written l n e = rw (stands, le-leb (length_in M s) room l) (ap Ok e)
 
 -- ---- of a record that passed
 
@@ -74,7 +74,7 @@ module _ (s : List ℕ) (right : Passes (edition_of s) s) where
   long = omega (arith, laid_length L s laid)
 
   pub few : count_in s ≤ most_events
-  few = passed-count s (answer-only L s Passed right)
+  few = passed-count s (answer-only L s (Ok tt) right)
 
   -- where its slots stand, in any edition
   pub near : (M : Layout) → Sound M → (e : ℕ) → e < count_in s → slot_at M e ≤ 512 * (most_events + 2)

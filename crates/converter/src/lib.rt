@@ -7,18 +7,29 @@ pub mod packing;
 ghost use Rattle.std.specs.Prelude.{◌≡◌, length};
 ghost use Rattle.converter.specs.Conversions.{conversion, target_after};
 ghost use Rattle.converter.specs.Means.{Converts};
+ghost use Rattle.converter.specs.declared.Unconverted.TheVariants.{Refused};
 
-use record::{Reading, layout};
+use record::{Refusal, layout};
 
-// The answer of a converting call: how many bytes were written, or what refused it.
+// What refused a converting call.
 #[derive(Clone, Copy)]
-pub enum Conversion {
-    Written(usize),
+pub enum Unconverted {
     NoSuchEdition,
     CannotStand,
     ShortTarget,
-    Refused(Reading),
+    Refused(Refusal),
 }
+
+impl From<Refusal> for Unconverted {
+    ghost from_gives = { λ r e. e ≡ Refused r };
+
+    fn from(r: Refusal) -> Unconverted {
+        Unconverted::Refused(r)
+    }
+}
+
+// How many bytes were written.
+pub type Conversion = Result<usize, Unconverted>;
 
 // Writes the record s as one of the edition of that number, 1 to 3, over the front of the target buffer.
 pub fn convert(edition: usize, s: &[u8], target: &mut [u8]) -> Conversion
@@ -26,16 +37,10 @@ pub fn convert(edition: usize, s: &[u8], target: &mut [u8]) -> Conversion
     ensures target_after { target.new ≡ target_after result edition s.now target.old }
     ensures converts { Converts edition s.now target.old result target.new }
 {
-    if edition < 1 {
-        return Conversion::NoSuchEdition;
-    }
-    if 3 < edition {
-        return Conversion::NoSuchEdition;
+    if edition < 1 || 3 < edition {
+        return Err(Unconverted::NoSuchEdition);
     }
     let mut work = [0u64; layout::WORK];
-    let reading = reader::ask(s, &mut work);
-    if record::number(reading) != 0 {
-        return Conversion::Refused(reading);
-    }
+    reader::ask(s, &mut work)?;
     moving::move_to(edition, s, target)
 }

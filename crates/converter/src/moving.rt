@@ -1,7 +1,7 @@
 // A record that passed, written in another edition.
-ghost use Rattle.std.specs.Prelude.{◌≡◌, ◌+◌, ◌≤◌, min, length, take, drop};
+ghost use Rattle.std.specs.Prelude.{◌≡◌, ℕ, ◌+◌, ◌<◌, ◌≤◌, length, take, drop};
 ghost use Rattle.std.proofs.lemmas.List.Edits.{sets};
-ghost use Rattle.record.specs.Layout.{edition_of, numbers_of, count_in};
+ghost use Rattle.record.specs.Layout.{byte, edition_of, numbers_of, count_in};
 ghost use Rattle.record.specs.History.{history_of};
 ghost use Rattle.record.specs.Answers.{Passes};
 ghost use Rattle.record.specs.Encode.{blocks_for, with_terms, with_slots};
@@ -9,7 +9,7 @@ ghost use Rattle.record.specs.Converted.{numbered, says_none, can_stand, length_
 ghost use Rattle.converter.specs.Conversions.{moved_to, written_to, target_after};
 ghost use Rattle.converter.specs.Blank.{Blank};
 
-use super::Conversion;
+use super::{Conversion, Unconverted};
 use reader::header;
 use record::{Edition, layout};
 
@@ -17,41 +17,11 @@ use record::{Edition, layout};
 fn by_number(k: usize) -> Edition
     ensures { result ≡ numbers_of (numbered k) }
 {
-    if k == 1 {
-        return layout::GCR1;
+    match k {
+        1 => layout::GCR1,
+        2 => layout::GCR2,
+        _ => layout::GCR3,
     }
-    if k == 2 {
-        return layout::GCR2;
-    }
-    layout::GCR3
-}
-
-// Whether a record says no difference of clocks and no opening.
-fn says_none(s: &[u8]) -> bool
-    requires { Passes (edition_of s.now) s.now }
-    ensures { result ≡ says_none (history_of (edition_of s.now) s.now).terms }
-{
-    let from = header::edition(s);
-    if !from.terms {
-        return true;
-    }
-    // The difference, and the bits of openings.
-    layout::is_zero(s, 8, 8)
-}
-
-// 44: whether what a record says can stand in edition k.
-fn stands(k: usize, s: &[u8]) -> bool
-    requires { Passes (edition_of s.now) s.now }
-    ensures { result ≡ can_stand (numbered k) (history_of (edition_of s.now) s.now) }
-{
-    let to = by_number(k);
-    if to.events < header::count(s) {
-        return false;
-    }
-    if to.terms {
-        return true;
-    }
-    says_none(s)
 }
 
 // So many bytes of s, from `here` on, over those of the target from `there` on.
@@ -59,63 +29,75 @@ fn copy_part(s: &[u8], here: usize, size: usize, target: &mut [u8], there: usize
     requires { (here + size ≤ length s.now) × (there + size ≤ length target.old) }
     ensures { target.new ≡ sets target.old there (take size (drop here s.now)) }
 {
-    let end = here + size;
-    let stop = there + size;
-    target[there..stop].copy_from_slice(&s[here..end]);
+    target[there..there + size].copy_from_slice(&s[here..here + size]);
 }
 
-// The terms, where both editions have them.
-fn put_terms(k: usize, s: &[u8], target: &mut [u8])
-    requires { Blank 7 k s.now target.old }
-    ensures { target.new ≡ with_terms (numbered k) (history_of (edition_of s.now) s.now).terms target.old }
-{
-    let from = header::edition(s);
-    let to = by_number(k);
-    if from.terms {
-        if to.terms {
-            copy_part(s, 8, 136, target, 8);
+// A record that passed.
+#[derive(Clone, Copy)]
+struct Record<'a> {
+    bytes: &'a [u8],
+    ghost passes: { Passes (edition_of bytes.now) bytes.now },
+    ghost octets: { (i : ℕ) → byte bytes.now i < 256 },
+}
+
+impl<'a> Record<'a> {
+    // Whether it says no difference of clocks and no opening.
+    fn says_none(&self) -> bool
+        ensures { result ≡ says_none (history_of (edition_of self.now.bytes.now) self.now.bytes.now).terms }
+    {
+        // The difference, and the bits of openings.
+        !header::edition(self.bytes).terms || layout::is_zero(self.bytes, 8, 8)
+    }
+
+    // 44: whether what it says can stand in edition k.
+    fn stands(&self, k: usize) -> bool
+        ensures { result ≡ can_stand (numbered k) (history_of (edition_of self.now.bytes.now) self.now.bytes.now) }
+    {
+        let to = by_number(k);
+        header::count(self.bytes) <= to.events && (to.terms || self.says_none())
+    }
+
+    // The terms, where both editions have them.
+    fn put_terms(&self, k: usize, target: &mut [u8])
+        requires { Blank 7 k self.now.bytes.now target.old }
+        ensures { target.new ≡ with_terms (numbered k) (history_of (edition_of self.now.bytes.now) self.now.bytes.now).terms target.old }
+    {
+        if header::edition(self.bytes).terms && by_number(k).terms {
+            copy_part(self.bytes, 8, 136, target, 8);
         }
     }
-}
 
-// The bytes that slots of both editions have.
-fn common(from: Edition, to: Edition) -> usize
-    ensures { result ≡ min from.slot to.slot }
-{
-    if from.slot < to.slot {
-        return from.slot;
+    // The slot of each event: what a wider one has more stays zero.
+    fn put_slots(&self, k: usize, target: &mut [u8])
+        requires { Blank 512 k self.now.bytes.now target.old }
+        ensures { target.new ≡ with_slots (numbered k) (history_of (edition_of self.now.bytes.now) self.now.bytes.now) (count_in self.now.bytes.now) target.old }
+    {
+        let s = self.bytes;
+        let from = header::edition(s);
+        let to = by_number(k);
+        let size = from.slot.min(to.slot);
+        let mut here: usize = 512;
+        let mut there: usize = 512;
+        for e in 0..header::count(s) {
+            copy_part(s, here, size, target, there);
+            here = layout::next_slot(from, here);
+            there = layout::next_slot(to, there);
+        }
     }
-    to.slot
-}
 
-// The slot of each event: what a wider one has more stays zero.
-fn put_slots(k: usize, s: &[u8], target: &mut [u8])
-    requires { Blank 512 k s.now target.old }
-    ensures { target.new ≡ with_slots (numbered k) (history_of (edition_of s.now) s.now) (count_in s.now) target.old }
-{
-    let from = header::edition(s);
-    let to = by_number(k);
-    let size = common(from, to);
-    let mut here: usize = 512;
-    let mut there: usize = 512;
-    for e in 0..header::count(s) {
-        copy_part(s, here, size, target, there);
-        here = layout::next_slot(from, here);
-        there = layout::next_slot(to, there);
+    // The whole record, in edition k; the rest of the target stays.
+    fn write(&self, k: usize, blocks: usize, target: &mut [u8])
+        requires room { length_in (numbered k) self.now.bytes.now ≤ length target.old }
+        requires blocks_value { blocks ≡ blocks_for (numbered k) (count_in self.now.bytes.now) }
+        ensures { target.new ≡ written_to k self.now.bytes.now target.old }
+    {
+        let s = self.bytes;
+        writer::clear(target, 512 * blocks);
+        writer::header(target, by_number(k), header::count(s), s[6]);
+        self.put_terms(k, target);
+        self.put_slots(k, target);
+        writer::seal(target, blocks);
     }
-}
-
-// The whole record, in edition k; the rest of the target stays.
-fn write(k: usize, s: &[u8], blocks: usize, target: &mut [u8])
-    requires passes { Passes (edition_of s.now) s.now × (length_in (numbered k) s.now ≤ length target.old) }
-    requires blocks_value { blocks ≡ blocks_for (numbered k) (count_in s.now) }
-    ensures { target.new ≡ written_to k s.now target.old }
-{
-    writer::clear(target, 512 * blocks);
-    writer::header(target, by_number(k), header::count(s), s[6]);
-    put_terms(k, s, target);
-    put_slots(k, s, target);
-    writer::seal(target, blocks);
 }
 
 // 44 and 45; where both get a yes, the record is written.
@@ -124,13 +106,14 @@ pub fn move_to(k: usize, s: &[u8], target: &mut [u8]) -> Conversion
     ensures value { result ≡ moved_to (edition_of s.now) (numbered k) (length target.old) s.now }
     ensures target_after { target.new ≡ target_after result k s.now target.old }
 {
-    if !stands(k, s) {
-        return Conversion::CannotStand;
+    let record = Record { bytes: s };
+    if !record.stands(k) {
+        return Err(Unconverted::CannotStand);
     }
     let blocks = layout::blocks(by_number(k), header::count(s));
     if target.len() < 512 * blocks {
-        return Conversion::ShortTarget;
+        return Err(Unconverted::ShortTarget);
     }
-    write(k, s, blocks, target);
-    Conversion::Written(512 * blocks)
+    record.write(k, blocks, target);
+    Ok(512 * blocks)
 }

@@ -1,5 +1,5 @@
 -- The table: a history, a record's bytes, or a script, with a question and its answer.
-use Rattle.std.specs.Prelude.{Bool, true, false, not, cond, ◌&&◌, List, [], ◌∷◌, ◌++◌, ℕ, ◌+◌, ◌*◌, ◌-◌, eqb, drop, take, replicate}
+use Rattle.std.specs.Prelude.{Bool, true, false, not, cond, ◌&&◌, List, [], ◌∷◌, ◌++◌, ℕ, ◌+◌, ◌*◌, ◌-◌, eqb, drop, take, replicate, Some, None}
 use Rattle.std.proofs.lemmas.List.Edits.{sets}
 use Rattle.rows.specs.Octets.{little}
 use Rattle.record.specs.Layout.{Layout, gcr1, gcr2, gcr3, same, work_words}
@@ -8,9 +8,7 @@ use Rattle.record.specs.Encode.{opening_bytes, sealed, unsealed, record_bytes}
 use Rattle.record.specs.Terms.{Held, none, value, Terms}
 use Rattle.consistency.specs.Relations.{rb}
 use Rattle.consistency.specs.Predicates.{numbered, verdict}
-use Rattle.consistency.specs.Models.{list_of, first_broken}
-use Rattle.consistency.specs.declared.Outcome.{Outcome}
-use Rattle.consistency.specs.declared.Outcome.TheVariants.{AllMet, BrokenAt}
+use Rattle.consistency.specs.Models.{list_of, Outcome, first_broken}
 use Rattle.judge.specs.Judgments.{packed_judgment, predicate_judgment_of, packed_judgments_of}
 use Rattle.judge.specs.Lists.{packed_verdict}
 use Rattle.explain.specs.Explanations.{events_told, explanation_of, packed_explanation}
@@ -54,8 +52,8 @@ pub data Case : Type 0 where
   counted : (sites : ℕ) (script : List ℕ) (made delivered closed left : ℕ) → Case
 
 abbrev same_break : Outcome → ℕ → ℕ → ℕ → Bool
-same_break AllMet p a b = false
-same_break (BrokenAt q x y) p a b = eqb q p && (eqb x a && eqb y b)
+same_break None p a b = false
+same_break (Some x) p a b = eqb x.predicate p && (eqb x.first a && eqb x.second b)
 
 unfoldable pub right : Case → Bool
 right (checked s a b) = eqb (little 2 s 508) a && eqb (little 2 s 510) b

@@ -1,12 +1,14 @@
-// The fields of an event, read from its words, and terms, read from block 0's. The reader loads these words, and the judge reads from them.
-// And which rows groups of events have in a slice.
+// The events of a record that passed, as the judge's code is given them. The reader loads their words, and the judge reads from them.
 #![tactic(auto)]
 
-ghost use Rattle.std.specs.Prelude.{◌≡◌, false, ◌&&◌, ◌+◌, ◌*◌, ◌≤◌, ◌<◌, ltb, length};
-ghost use Rattle.rows.specs.Row.{has};
-ghost use Rattle.record.specs.Layout.{head_length, terms_length};
-ghost use Rattle.record.specs.Words.{is_write_in, site_in, object_in, is_pending_in, value_in, is_present_in, position_in, start_in, return_in, difference_from, figure_in};
+pub mod heads;
+pub mod terms;
 
+ghost use Rattle.std.specs.Prelude.{◌≡◌, ◌<◌};
+ghost use Rattle.rows.specs.Row.{row_at};
+ghost use Rattle.events.specs.Given.{Given, group_rows, Groups};
+
+use heads::Heads;
 use record::layout;
 
 // The rows of groups: one for each object, then the writes, the reads, and all events.
@@ -18,97 +20,31 @@ pub const EVERY: usize = layout::OBJECTS + 2;
 
 pub const GROUPS: usize = layout::OBJECTS + 3;
 
-pub fn is_write(l: &[u64], e: usize) -> bool
-    requires { head_length * e + head_length ≤ length l.now }
-    ensures { result ≡ is_write_in l.now e }
-{
-    l[layout::HEAD * e] % 256 == 1
+// The heads of so many events, and rows of W words: what each sees, and the groups.
+#[derive(Clone, Copy)]
+pub struct Events<'a, const W: usize> {
+    pub count: usize,
+    pub heads: Heads<'a>,
+    pub seen: &'a [u64],
+    pub groups: &'a [u64],
+    pub ghost given: { Given count W heads.words.now seen.now },
+    pub ghost grouped: { Groups count W heads.words.now groups.now },
 }
 
-pub fn site(l: &[u64], e: usize) -> u64
-    requires { head_length * e + head_length ≤ length l.now }
-    ensures { result ≡ site_in l.now e }
-{
-    l[layout::HEAD * e] / 256 % 256
-}
-
-pub fn object(l: &[u64], e: usize) -> u64
-    requires { head_length * e + head_length ≤ length l.now }
-    ensures { result ≡ object_in l.now e }
-{
-    l[layout::HEAD * e] / 65536 % 256
-}
-
-pub fn is_pending(l: &[u64], e: usize) -> bool
-    requires { head_length * e + head_length ≤ length l.now }
-    ensures { result ≡ is_pending_in l.now e }
-{
-    l[layout::HEAD * e] / 16777216 % 256 == 1
-}
-
-pub fn value(l: &[u64], e: usize) -> u64
-    requires { head_length * e + head_length ≤ length l.now }
-    ensures { result ≡ value_in l.now e }
-{
-    l[layout::HEAD * e] / 4294967296
-}
-
-pub fn is_present(l: &[u64], e: usize) -> bool
-    requires { head_length * e + head_length ≤ length l.now }
-    ensures { result ≡ is_present_in l.now e }
-{
-    l[layout::HEAD * e + 1] % 256 == 1
-}
-
-pub fn position(l: &[u64], e: usize) -> u64
-    requires { head_length * e + head_length ≤ length l.now }
-    ensures { result ≡ position_in l.now e }
-{
-    l[layout::HEAD * e + 1] / 65536 % 65536
-}
-
-pub fn start_time(l: &[u64], e: usize) -> u64
-    requires { head_length * e + head_length ≤ length l.now }
-    ensures { result ≡ start_in l.now e }
-{
-    l[layout::HEAD * e + 2]
-}
-
-// A pending event has no return: its word is not read.
-pub fn return_time(l: &[u64], e: usize) -> u64
-    requires { (head_length * e + head_length ≤ length l.now) × (is_pending_in l.now e ≡ false) }
-    ensures { result ≡ return_in l.now e }
-{
-    l[layout::HEAD * e + 3]
-}
-
-// By how much the sites' clocks may differ, by the words of block 0's terms.
-pub fn difference(terms: &[u64]) -> u64
-    requires { terms_length ≤ length terms.now }
-    ensures { result ≡ difference_from terms.now }
-{
-    terms[0] % 4294967296
-}
-
-// Whether object o has an opening, by the words of block 0's terms.
-pub fn has_opening(terms: &[u64], o: usize) -> bool
-    requires { terms_length ≤ length terms.now }
-    ensures { result ≡ ltb o 32 && has terms.now (32 + o) }
-{
-    if 32 <= o {
-        return false;
+impl<'a, const W: usize> Events<'a, W> {
+    // What event e sees.
+    pub fn seen_by(&self, e: usize) -> &'a [u64]
+        requires { e < self.now.count }
+        ensures { result.now ≡ row_at self.now.seen.now W e }
+    {
+        &self.seen[e * W..e * W + W]
     }
-    rows::test(terms, 32 + o)
-}
 
-// The value of its opening.
-pub fn opening(terms: &[u64], o: usize) -> u64
-    requires { (terms_length ≤ length terms.now) × (o < 32) }
-    ensures { result ≡ figure_in terms.now o }
-{
-    let word = terms[1 + o / 2];
-    if o % 2 == 0 {
-        return word % 4294967296;
+    // The events of group k.
+    pub fn group(&self, k: usize) -> &'a [u64]
+        requires { k < group_rows }
+        ensures { result.now ≡ row_at self.now.groups.now W k }
+    {
+        &self.groups[k * W..k * W + W]
     }
-    word / 4294967296
 }

@@ -6,36 +6,35 @@ use Prim.Native.Nat.{ℕ, ◌+◌, ◌*◌, ◌<◌, ◌≤◌}
 use native.Mathlib.Omega.{arith}
 use native.Mathlib.Decide.{dec_lt}
 use lib.ListN.{length, set, take, drop, take-append-drop, length-take, length-drop}
-use Rattle.rows.specs.Lowest.{lowest}
-use Rattle.rows.specs.Row.{has, or_row, or_part, only_first, row_at}
+use Rattle.rows.specs.Lowest.{lowest, some, found}
+use Rattle.rows.specs.Row.{has, or_row, or_part, row_at}
 use Rattle.rows.specs.Relation.{related, reaches, Table, Graph}
 use Rattle.rows.specs.Shortest.{shortest_chain}
 use Rattle.rows.proofs.Tests.{or_elim}
 use Rattle.rows.proofs.RowLaws.{has_past, has-or, length-or, row_has}
-use Rattle.rows.proofs.LowestLaws.{same-lowest}
+use Rattle.rows.proofs.LowestLaws.{same-lowest, same_some, some_at}
+use Rattle.rows.proofs.FoundLaws.{some-below}
 use Rattle.rows.proofs.TableLaws.{row_room, row-front, length-row, length-row_le, has-row, row-or-same}
-use Rattle.rows.proofs.SliceLaws.{slice_at, slice_row}
 use Rattle.rows.proofs.ReachLaws.{reaches_same, table-related, table_graph}
 use Rattle.rows.proofs.ShortestLaws.{chain_same}
 use Rattle.record.specs.Layout.{row_words}
 use Rattle.record.specs.Terms.{Terms}
 use Rattle.record.specs.History.{History, under, vis}
 use Rattle.record.specs.Words.{is_write_in, history_from}
-use Rattle.consistency.specs.Relations.{so, step, hb, read}
+use Rattle.consistency.specs.Relations.{so, step, hb, read, through}
 use Rattle.consistency.specs.Predicates.{verdict}
 use Rattle.consistency.specs.Explained.{telling, middle_of, told_by}
 use Rattle.consistency.specs.declared.Predicate.{Predicate}
 use Rattle.consistency.specs.declared.Telling.{Telling}
 use Rattle.consistency.specs.declared.Telling.TheVariants.{ByChain, ByMiddle, ByPair}
-use Rattle.consistency.specs.declared.Verdict.TheVariants.{Met, Broken}
+use Rattle.std.specs.Prelude.{Some, None, Ok, Err}
 use Rattle.consistency.proofs.ExplainedLaws.{Has, broke}
 use Rattle.events.specs.Given.{Given, writes_row, Groups}
 use Rattle.events.proofs.GivenLaws.{seen-table}
 use Rattle.tables.specs.Tables.{part, Prepared}
-use Rattle.tables.proofs.PartLaws.{part-row}
 use Rattle.explain.specs.Explanations.{events_told, answer_to, over}
-use Rattle.explain.specs.Steps.{step_in}
-use Rattle.explain.specs.declared.Explanation.TheVariants.{Told, NoBreak}
+use Rattle.explain.specs.Steps.{step_in, between}
+use Rattle.explain.specs.declared.Unexplained.TheVariants.{NoBreak}
 
 -- ---- one event written, and two
 
@@ -48,11 +47,15 @@ set_two [] x y h = absurd (omega arith)
 set_two (u ∷ []) x y h = absurd (omega arith)
 set_two (u ∷ v ∷ l) x y h = refl
 
+-- where there is one, it is found
+pub found-there : (n : ℕ) (f : ℕ → Bool) → some n f ≡ true → found n f ≡ Some (lowest n f)
+found-there n f e = some-below n (lowest n f) (some_at n f e).0
+
 -- ---- the answer and the slice, of a predicate that is told in the way t
 
-module _ (p : Predicate) (h : History) (a b : ℕ) (broken : verdict p h ≡ Broken a b) (t : Telling) (way : t ≡ telling p) where
+module _ (p : Predicate) (h : History) (a b : ℕ) (broken : verdict p h ≡ Some (a, b)) (t : Telling) (way : t ≡ telling p) where
   pub told_as : (l : List ℕ) → l ≡ told_by t h a b → (k : ℕ) → k ≡ length l → (out out' : List ℕ) → out' ≡ l ++ drop k out
-      → (Told k ≡ answer_to p h (verdict p h)) × (out' ≡ over (events_told p h (verdict p h)) out)
+      → (Ok k ≡ answer_to p h (verdict p h)) × (out' ≡ over (events_told p h (verdict p h)) out)
   told_as l e k long out out' f =
       let q : l ≡ told_by (telling p) h a b = e ∙ ap (λ (x : Telling). told_by x h a b) way in
       (rw (broken, long, q) refl, f ∙ rw (broken, long, q) refl)
@@ -64,14 +67,10 @@ pub told_pair : (h : History) (a b : ℕ) → b ∷ [] ≡ told_by ByPair h a b
 unfolding told_by
 told_pair h a b = refl
 
-pub none_told : (p : Predicate) (h : History) → verdict p h ≡ Met → (out : List ℕ) → (NoBreak ≡ answer_to p h (verdict p h)) × (out ≡ over (events_told p h (verdict p h)) out)
+pub none_told : (p : Predicate) (h : History) → verdict p h ≡ None → (out : List ℕ) → (Err NoBreak ≡ answer_to p h (verdict p h)) × (out ≡ over (events_told p h (verdict p h)) out)
 none_told p h e out = rw e (refl, refl)
 
 -- ---- the tables
-
--- row b of so's table, as code cuts it out
-pub so_row : (n b : ℕ) (t : List ℕ) → b < n → slice_at t row_words (1 * n + b) ≡ row_at (part n row_words 1 t) row_words b
-so_row n b t h = slice_row t row_words (1 * n + b) ∙ sym (part-row n row_words 1 t b h)
 
 module _ (n : ℕ) (l v g t : List ℕ) (q : Terms) (given : Given n row_words l v) (ready : Prepared n row_words (under q (history_from n row_words l v)) t) where
   abbrev h : History
@@ -87,14 +86,20 @@ module _ (n : ℕ) (l v g t : List ℕ) (q : Terms) (given : Given n row_words l
   unfolding vis history_from
   seen = seen-table n row_words l v given
 
-  pub middle-told : (a b : ℕ) → a < n → b < n → Groups n row_words l g → lowest n (λ m. only_first (row_at sos row_words b) (row_at g row_words writes_row) m && related v row_words a m) ∷ b ∷ [] ≡ told_by ByMiddle h a b
-  unfolding told_by middle_of history_from
-  middle-told a b left right w =
-      ap (λ (m : ℕ). m ∷ b ∷ [])
-      (same-lowest n (λ m. only_first (row_at sos row_words b) (row_at g row_words writes_row) m && related v row_words a m) (λ m. vis h a m && (read h m && so h m b))
-      (λ m i.
-      ap₂ ◌&&◌ (ap₂ (λ (x y : Bool). x && not y) (table-related n row_words (so h) sos ready.timed.sos m b i right) (row_has n (is_write_in l) (row_at g row_words writes_row) w.writes m i)) (table-related n row_words (vis h) v seen a m left i)
-      ∙ and_comm (so h m b && read h m) (vis h a m) ∙ ap (λ (x : Bool). vis h a m && x) (and_comm (so h m b) (read h m))))
+  module _ (a b : ℕ) (left : a < n) (right : b < n) (w : Groups n row_words l g) where
+    middle-same : (m : ℕ) → m < n → between n v g t a b m ≡ (vis h a m && (read h m && so h m b))
+    unfolding history_from
+    middle-same m i =
+        ap₂ ◌&&◌ (ap₂ (λ (x y : Bool). x && not y) (table-related n row_words (so h) sos ready.timed.sos m b i right) (row_has n (is_write_in l) (row_at g row_words writes_row) w.writes m i)) (table-related n row_words (vis h) v seen a m left i)
+        ∙ and_comm (so h m b && read h m) (vis h a m) ∙ ap (λ (x : Bool). vis h a m && x) (and_comm (so h m b) (read h m))
+
+    pub middle-told : lowest n (between n v g t a b) ∷ b ∷ [] ≡ told_by ByMiddle h a b
+    unfolding told_by middle_of history_from
+    middle-told = ap (λ (m : ℕ). m ∷ b ∷ []) (same-lowest n (between n v g t a b) (λ m. vis h a m && (read h m && so h m b)) middle-same)
+
+    pub middle-there : Has ByMiddle h a b → some n (between n v g t a b) ≡ true
+    unfolding Has through history_from
+    middle-there has = same_some n (between n v g t a b) (λ m. vis h a m && (read h m && so h m b)) middle-same ∙ has
 
 -- ---- the steps of hb: so's table, which the visible sets joined
 

@@ -8,7 +8,7 @@ ghost use Rattle.judge.specs.Hosts.{ExactHost, ExactThirteen};
 ghost use Rattle.judge.specs.Covers.{TellsHosts};
 ghost use Rattle.judge.specs.Kept.{KeepsNumber, KeepsThirteen};
 
-use judge::{Judgment, packing};
+use judge::packing;
 use record::layout;
 
 // Judges a model, with the work memory inside.
@@ -23,7 +23,7 @@ pub extern "C" fn gcr_judge_model(model: u32, s: &[u8]) -> u64
     packing::pack(judge::judge_model(model as usize, s, &mut work))
 }
 
-// The same of one predicate.
+// The same of one predicate: C calls each by its name.
 #[unsafe(no_mangle)]
 pub extern "C" fn gcr_judge_predicate(predicate: u32, s: &[u8]) -> u64
     ensures value { result ≡ packed_judgment (predicate_judgment_of work_words predicate s.now) }
@@ -38,11 +38,8 @@ pub extern "C" fn gcr_judge_predicate(predicate: u32, s: &[u8]) -> u64
 fn put_over(v: &[u64], out: &mut [u64])
     ensures { out.new ≡ laid_over v.now out.old }
 {
-    let mut n = v.len();
-    if out.len() < n {
-        n = out.len();
-    }
-    rows::copy(out, &v[0..n]);
+    let n = v.len().min(out.len());
+    out[..n].copy_from_slice(&v[..n]);
 }
 
 // Judges all thirteen predicates: the answer is the reading's number, and the numbers of the thirteen judgments go over the front of `out`.
@@ -55,11 +52,9 @@ pub extern "C" fn gcr_judge_all(s: &[u8], out: &mut [u64]) -> u64
 {
     let mut work = [0u64; layout::WORK];
     let all = judge::judge_all(s, &mut work);
-    let reading = all.reading;
-    let judgments = all.judgments;
-    put_over(&judgments, out);
-    if record::number(reading) == 0 {
-        return 0;
+    put_over(&all.judgments, out);
+    match all.reading {
+        Ok(()) => 0,
+        Err(refusal) => packed::refusal(refusal.number(), refusal.place()),
     }
-    packing::pack(Judgment::Refused(reading))
 }

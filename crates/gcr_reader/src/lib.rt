@@ -14,10 +14,8 @@ pub extern "C" fn gcr_read(s: &[u8], work: &mut [u64]) -> u64
     ensures work_after { work.new ≡ work_after (edition_of s.now) (number_of (reading (edition_of s.now) (length work.old) s.now)) s.now work.old }
     ensures keeps_read_number { KeepsReadNumber (length work.old) s.now result }
 {
-    let r = reader::read(s, work);
-    let number = record::number(r);
-    if number == 0 {
-        return 0;
+    match reader::read(s, work) {
+        Ok(()) => 0,
+        Err(refusal) => packed::refusal(refusal.number(), refusal.place()),
     }
-    packed::refusal(number, record::place(r))
 }

@@ -1,7 +1,7 @@
 // Reads a record from standard input and says whether it passes: `passed`, or `refused` with the question's number and place.
 #![tactic(auto)]
 
-use lines::input;
+use lines::{Line, input};
 use record::layout;
 use std::io;
 
@@ -10,5 +10,6 @@ fn main(rt: HostRuntime) -> io::Result<()> {
     let mut input = [0u8; layout::LONGEST + 1];
     let length = input::read_full(&mut rt.reader(), &mut input)?;
     let mut work = [0u64; layout::WORK];
-    lines::reading(&rt, reader::read(&input[..length], &mut work))
+    let reading = reader::read(&input[..length], &mut work);
+    println!(rt; "{}", Line(reading))
 }

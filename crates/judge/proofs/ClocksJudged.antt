@@ -10,28 +10,22 @@ use borrow.Author.Tests.{lt-ltb, le-ltb}
 use lib.Dec.{eqb, ltb}
 use lib.ListN.{get_or, take, drop}
 use lib.Seq.{take-take, get_or-take, get_or-drop}
+use Rattle.std.specs.Prelude.{None, Ok, Err}
 use Rattle.rows.specs.Octets.{little, has_byte}
 use Rattle.rows.specs.Row.{bit_of}
 use Rattle.record.specs.Layout.{Layout, edition_of, byte, count_in, slot_at}
 use Rattle.record.specs.Terms.{Held, none, value, opening_in, difference_in}
 use Rattle.record.specs.History.{history_of, SameEvents}
 use Rattle.record.specs.Questions.{questions}
-use Rattle.record.specs.declared.Reading.TheVariants.{Passed, ShortWork}
 use Rattle.record.proofs.LayoutLaws.{same-letters}
 use Rattle.record.proofs.NumberBytes.{little-same}
 use Rattle.record.proofs.QuestionsAnswered.{answer-only}
-use Rattle.consistency.specs.Models.{timed, first_broken}
-use Rattle.consistency.specs.declared.Outcome.{Outcome}
-use Rattle.consistency.specs.declared.Outcome.TheVariants.{AllMet}
+use Rattle.consistency.specs.Models.{timed, Outcome, first_broken}
 use Rattle.consistency.specs.declared.Predicate.TheVariants.{RVal}
 use Rattle.consistency.proofs.SameVerdict.{SameFor}
 use Rattle.consistency.proofs.OtherClocks.{list_steady, list_larger}
-use Rattle.judge.specs.Judgments.{admission, admit, judged_list, judged}
+use Rattle.judge.specs.Judgments.{Judgment, Admission, admission, admit, judged_list, judged}
 use Rattle.judge.specs.Clocks.{OnOtherClocks, ByClocks}
-use Rattle.judge.specs.declared.Admission.{Admission}
-use Rattle.judge.specs.declared.Admission.TheVariants.{Granted, TooFewWords, OutOfRange}
-use Rattle.judge.specs.declared.Judgment.{Judgment}
-use Rattle.judge.specs.declared.Judgment.TheVariants.{Judged, NoSuchNumber, Refused}
 
 module _ (s s' : List ℕ) (c : OnOtherClocks s s') where
   -- ---- byte by byte
@@ -99,15 +93,15 @@ module _ (s s' : List ℕ) (c : OnOtherClocks s s') where
   abbrev L : Layout
   L = edition_of s
 
-  passed : questions (edition_of s) s ≡ Passed
-  passed = answer-only (edition_of s) s Passed c.passes
+  passed : questions (edition_of s) s ≡ Ok tt
+  passed = answer-only (edition_of s) s (Ok tt) c.passes
 
-  passed' : questions (edition_of s) s' ≡ Passed
-  passed' = subst (λ (K : Layout). questions K s' ≡ Passed) (sym one-edition) (answer-only (edition_of s') s' Passed c.passes')
+  passed' : questions (edition_of s) s' ≡ Ok tt
+  passed' = subst (λ (K : Layout). questions K s' ≡ Ok tt) (sym one-edition) (answer-only (edition_of s') s' (Ok tt) c.passes')
 
   -- of a record that passes
   abbrev about : ℕ → ℕ → Outcome → Judgment
-  about words number o = admit (admission words number) (Refused ShortWork) NoSuchNumber (Judged o)
+  about words number o = admit (admission words number) Err (Ok o)
 
   answer : (words number : ℕ) (ps : List ℕ) → judged (edition_of s) words number s ps ≡ about words number (first_broken ps (history_of (edition_of s) s))
   unfolding judged judged_list
@@ -123,8 +117,8 @@ module _ (s s' : List ℕ) (c : OnOtherClocks s s') where
       ∙ ap (about words number) (sym (list_steady (history_of L s) (history_of L s') (same-events L) (same_openings L) ps e))
       ∙ sym (answer words number ps)
 
-  judged-larger : (words number : ℕ) (ps : List ℕ) → difference_in (edition_of s) s ≤ difference_in (edition_of s') s' → judged (edition_of s) words number s ps ≡ Judged AllMet
-      → judged (edition_of s') words number s' ps ≡ Judged AllMet
+  judged-larger : (words number : ℕ) (ps : List ℕ) → difference_in (edition_of s) s ≤ difference_in (edition_of s') s' → judged (edition_of s) words number s ps ≡ Ok None
+      → judged (edition_of s') words number s' ps ≡ Ok None
   unfolding history_of
   judged-larger words number ps more met =
       answer' words number ps
@@ -133,11 +127,9 @@ module _ (s s' : List ℕ) (c : OnOtherClocks s s') where
       (subst (λ (K : Layout). difference_in L s ≤ difference_in K s') (sym one-edition) more) ps)
       (sym (answer words number ps) ∙ met)
     where
-      go : (x : Admission) (o o' : Outcome) → (o ≡ AllMet → o' ≡ AllMet) → admit x (Refused ShortWork) NoSuchNumber (Judged o) ≡ Judged AllMet
-          → admit x (Refused ShortWork) NoSuchNumber (Judged o') ≡ Judged AllMet
-      go TooFewWords o o' f e = e
-      go OutOfRange o o' f e = e
-      go Granted o o' f e = ap Judged (f cc)
+      go : (x : Admission) (o o' : Outcome) → (o ≡ None → o' ≡ None) → admit x Err (Ok o) ≡ Ok None → admit x Err (Ok o') ≡ Ok None
+      go (Err u) o o' f e = e
+      go (Ok u) o o' f e = ap Ok (f cc)
 
 pub by_clocks_lem : (words number : ℕ) (ps s : List ℕ) {j : Judgment} → j ≡ judged (edition_of s) words number s ps → ByClocks words number ps s j
 by_clocks_lem words number ps s e = record {

@@ -3,34 +3,32 @@ use mathlib.Core.Path.{◌≡◌, refl, sym, ap, ◌∙◌}
 use mathlib.Core.List.{List}
 use Prim.Native.Nat.{ℕ, ◌/◌}
 use native.Mathlib.Omega.{arith}
+use Rattle.std.specs.Prelude.{Some, None, Ok, Err}
 use Rattle.packed.specs.Packed.{broken_from}
 use Rattle.record.specs.Layout.{work_words}
-use Rattle.consistency.specs.declared.Outcome.TheVariants.{AllMet, BrokenAt}
-use Rattle.judge.specs.Judgments.{packed_judgment}
+use Rattle.judge.specs.Judgments.{Judgment, packed_judgment}
 use Rattle.judge.specs.Covers.{IsBroken, broken-at, answer, TellsHosts}
-use Rattle.judge.specs.declared.Judgment.{Judgment}
-use Rattle.judge.specs.declared.Judgment.TheVariants.{Judged, NoSuchNumber, Refused}
+use Rattle.judge.specs.declared.Unjudged.TheVariants.{NoSuchNumber, Refused}
 use Rattle.judge.proofs.ReadsBack.{Fitting}
 use Rattle.judge.proofs.JudgmentLaws.{model_fits}
 use Rattle.judge.proofs.CoversExactly.{tells_others}
 
-number-met : (j : Judgment) → packed_judgment j ≡ 0 → j ≡ Judged AllMet
-number-met (Judged AllMet) e = refl
-number-met (Judged (BrokenAt p a b)) e = absurd (omega arith)
-number-met NoSuchNumber e = absurd (omega arith)
-number-met (Refused r) e = absurd (omega arith)
+number-met : (j : Judgment) → packed_judgment j ≡ 0 → j ≡ Ok None
+number-met (Ok None) e = refl
+number-met (Ok (Some x)) e = absurd (omega arith)
+number-met (Err NoSuchNumber) e = absurd (omega arith)
+number-met (Err (Refused r)) e = absurd (omega arith)
 
 number-broken : (j : Judgment) → packed_judgment j / broken_from ≡ 1 → IsBroken j
-number-broken (Judged AllMet) e = absurd (omega arith)
-number-broken (Judged (BrokenAt p a b)) e = broken-at
-number-broken NoSuchNumber e = absurd (omega arith)
-number-broken (Refused r) e = absurd (omega arith)
+number-broken (Ok None) e = absurd (omega arith)
+number-broken (Ok (Some x)) e = broken-at
+number-broken (Err NoSuchNumber) e = absurd (omega arith)
+number-broken (Err (Refused r)) e = absurd (omega arith)
 
 broken-number : (j : Judgment) → IsBroken j → Fitting j → packed_judgment j / broken_from ≡ 1
-broken-number (Judged AllMet) b f = elim b [ ]
-broken-number (Judged (BrokenAt p a b)) broken-at f = omega arith
-broken-number NoSuchNumber b f = elim b [ ]
-broken-number (Refused r) b f = elim b [ ]
+broken-number (Ok None) b f = elim b [ ]
+broken-number (Ok (Some x)) broken-at f = omega arith
+broken-number (Err u) b f = elim b [ ]
 
 pub tells_hosts : (m : ℕ) (s : List ℕ) {number : ℕ} → number ≡ packed_judgment (answer s m) → TellsHosts m s number
 tells_hosts m s {number} e =

@@ -10,10 +10,9 @@ use lib.Seq.{get_or-append-add, get_or-take}
 use Rattle.rows.proofs.Tests.{split}
 use Rattle.record.specs.Layout.{edition_of}
 use Rattle.consistency.specs.Models.{list_of}
-use Rattle.judge.specs.Judgments.{judged, predicate_judgment, model_judgment, packed_judgment, packed_judgments, laid_over}
+use Rattle.judge.specs.Judgments.{Judgment, judged, predicate_judgment, model_judgment, packed_judgment, packed_judgments, laid_over}
 use Rattle.packed.specs.Packed.{unpacked}
 use Rattle.judge.specs.Hosts.{ExactHost, ExactThirteen}
-use Rattle.judge.specs.declared.Judgment.{Judgment}
 use Rattle.judge.proofs.MeansLaws.{judged-exact}
 use Rattle.judge.proofs.ReadsBack.{reads-back}
 use Rattle.judge.proofs.JudgmentLaws.{judged-fits}

@@ -3,40 +3,37 @@ use mathlib.Core.Path.{◌≡◌, refl, ap, ap₂, ◌∙◌}
 use mathlib.Core.Bool.{Bool, true, false}
 use mathlib.Core.List.{List, [], ◌∷◌}
 use Prim.Native.Nat.{ℕ, ◌-◌, ◌≤◌}
+use Rattle.std.specs.Prelude.{Ok, Err}
 use native.Mathlib.Nat.{le_refl}
 use borrow.Author.Tests.{le-leb}
-use lib.Dec.{eqb}
 use lib.ListN.{length, get_or}
 use Rattle.record.specs.Layout.{Layout, edition_of, work_words}
 use Rattle.record.specs.History.{history_of}
-use Rattle.record.specs.Questions.{number_of, ask}
+use Rattle.record.specs.Questions.{Reading, ask, if_passed}
 use Rattle.record.specs.BeforeHarvest.{edition_before, questions_before, OfBefore}
-use Rattle.record.specs.declared.Reading.{Reading}
-use Rattle.record.specs.declared.Reading.TheVariants.{ShortWork}
+use Rattle.record.specs.declared.Refusal.TheVariants.{ShortWork}
 use Rattle.record.proofs.BeforeHarvest.{edition-kept, questions-kept}
 use Rattle.consistency.specs.Models.{list_of, first_broken}
-use Rattle.judge.specs.Judgments.{is_number, admission, admit, judged_list, judged, predicate_judgment, model_judgment, predicate_judgment_of, model_judgment_of, packed_judgment}
+use Rattle.judge.specs.Judgments.{Judgment, is_number, admission, admit, judged_list, judged, predicate_judgment, model_judgment, predicate_judgment_of, model_judgment_of, packed_judgment}
 use Rattle.judge.specs.Kept.{KeepsVerdict, KeepsNumber, KeepsThirteen}
-use Rattle.judge.specs.declared.Admission.TheVariants.{Granted, TooFewWords, OutOfRange}
-use Rattle.judge.specs.declared.Judgment.{Judgment}
-use Rattle.judge.specs.declared.Judgment.TheVariants.{Judged, NoSuchNumber, Refused}
+use Rattle.judge.specs.declared.Unjudged.TheVariants.{NoSuchNumber, Refused}
 
 -- 2, and what comes after it
-number_asked : (t : Bool) (j : Judgment) → admit (ask t OutOfRange Granted) (Refused ShortWork) NoSuchNumber j ≡ ask t NoSuchNumber j
+number_asked : (t : Bool) (j : Judgment) → admit (ask t (Err NoSuchNumber) (Ok tt)) Err j ≡ ask t (Err NoSuchNumber) j
 number_asked true j = refl
 number_asked false j = refl
 
 module _ (words number : ℕ) (ps s : List ℕ) where
-  list_kept : OfBefore s → judged_list (edition_of s) s ps ≡ ask (eqb (number_of (questions_before s)) 0) (Refused (questions_before s)) (Judged (first_broken ps (history_of (edition_before s) s)))
+  list_kept : OfBefore s → judged_list (edition_of s) s ps ≡ if_passed (questions_before s) (λ r. Err (Refused r)) (Ok (first_broken ps (history_of (edition_before s) s)))
   unfolding judged_list
   list_kept old =
-      ap₂ (λ (r : Reading) (L : Layout). ask (eqb (number_of r) 0) (Refused r) (Judged (first_broken ps (history_of L s)))) (questions-kept s old) (edition-kept s old)
+      ap₂ (λ (r : Reading) (L : Layout). if_passed {A = Judgment} r (λ x. Err (Refused x)) (Ok (first_broken ps (history_of L s)))) (questions-kept s old) (edition-kept s old)
 
   pub verdict-kept : {j : Judgment} → j ≡ judged (edition_of s) words number s ps → KeepsVerdict words number ps s j
   unfolding judged admission
   verdict-kept q room old =
-      q ∙ ap (λ (t : Bool). admit (ask t TooFewWords (ask (is_number number) OutOfRange Granted)) (Refused ShortWork) NoSuchNumber (judged_list (edition_of s) s ps)) (le-leb work_words words room)
-      ∙ number_asked (is_number number) (judged_list (edition_of s) s ps) ∙ ap (ask (is_number number) NoSuchNumber) (list_kept old)
+      q ∙ ap (λ (t : Bool). admit (ask t (Err (Refused ShortWork)) (ask (is_number number) (Err NoSuchNumber) (Ok tt))) Err (judged_list (edition_of s) s ps)) (le-leb work_words words room)
+      ∙ number_asked (is_number number) (judged_list (edition_of s) s ps) ∙ ap (ask (is_number number) (Err NoSuchNumber)) (list_kept old)
 
 -- the hosts' numbers of a predicate's judgment and of a model's
 pub predicate_number-kept : (p : ℕ) (s : List ℕ) {answer : ℕ} → answer ≡ packed_judgment (predicate_judgment_of work_words p s) → KeepsNumber p (p ∷ []) s answer

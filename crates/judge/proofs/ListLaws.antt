@@ -1,93 +1,52 @@
--- Laws of lists of predicates by number: the table of models, and the first broken predicate of a list. Assumes nothing.
+-- Laws of lists of predicates: the first broken predicate of what is left of a list from place k on. Assumes nothing.
 use mathlib.Core.Path.{◌≡◌, refl, sym, ap, ◌∙◌}
-use mathlib.Core.Bool.{Bool, true, false, ◌&&◌, false≢true}
-use mathlib.Core.List.{List, [], ◌∷◌, map}
-use Prim.Native.Nat.{ℕ, zero, suc, ◌+◌, ◌-◌, ◌≤◌}
-use native.Mathlib.Numerals.{add-one}
-use native.Mathlib.Omega.{arith}
-use borrow.Author.Tests.{leb-true, eq-eqb, ne_eqb}
-use lib.Dec.{leb}
-use lib.ListN.{length, get_or, drop, replicate, get_or-replicate, get_or-map, get_or-eq_default}
-use Rattle.rows.proofs.Tests.{and_left, and_right}
+use mathlib.Core.List.{List}
+use Prim.Native.Nat.{ℕ, ◌+◌, ◌<◌, ◌≤◌}
+use lib.ListN.{length, get_or, drop, drop_of_length-le}
+use Rattle.std.specs.Prelude.{Some, None}
+use Rattle.std.proofs.lemmas.List.{drop_more}
 use Rattle.record.specs.History.{History}
-use Rattle.consistency.specs.Predicates.{numbered, verdict}
-use Rattle.consistency.specs.Models.{models, list_of, or_else, first_broken}
-use Rattle.judge.specs.Lists.{Numbers, up_to_zero}
-use Rattle.consistency.specs.declared.Verdict.{Verdict}
-use Rattle.consistency.specs.declared.Verdict.TheVariants.{Met, Broken}
-use Rattle.consistency.specs.declared.Outcome.{Outcome}
-use Rattle.consistency.specs.declared.Outcome.TheVariants.{AllMet, BrokenAt}
+use Rattle.consistency.specs.FirstPair.{Verdict}
+use Rattle.consistency.specs.Predicates.{verdict}
+use Rattle.consistency.specs.Models.{Outcome, or_else, broken_at, first_broken}
+use denote.Enum.Declared.{tag_of}
+use Rattle.consistency.specs.contracts.Predicate.{the_type}
 use Rattle.consistency.specs.declared.Predicate.{Predicate}
+use Rattle.consistency.specs.declared.Predicate.TheVariants.{RVal, SingleOrder, RealTime, RealTimeWrites, MonotonicReads, ReadYourWrites, MonotonicWrites, WritesFollowReads, Pram, CausalVisibility, CausalArbitration, PerObjectPram, PerObjectSingleOrder}
+use Rattle.judge.specs.Lists.{predicate_number, numbers_of}
+use Rattle.judge.proofs.JudgmentLaws.{number_back}
 
--- ---- the table of models
+-- a predicate's place among the variants, counted from 1, is its number
+pub tag_number : (p : Predicate) → tag_of the_type p + 1 ≡ predicate_number p
+tag_number RVal = refl
+tag_number SingleOrder = refl
+tag_number RealTime = refl
+tag_number RealTimeWrites = refl
+tag_number MonotonicReads = refl
+tag_number ReadYourWrites = refl
+tag_number MonotonicWrites = refl
+tag_number WritesFollowReads = refl
+tag_number Pram = refl
+tag_number CausalVisibility = refl
+tag_number CausalArbitration = refl
+tag_number PerObjectPram = refl
+tag_number PerObjectSingleOrder = refl
 
--- k numbers, each at most 13
-abbrev pub fine : ℕ → List ℕ → Bool
-fine zero [] = true
-fine zero (x ∷ xs) = false
-fine (suc k) [] = false
-fine (suc k) (x ∷ xs) = leb x 13 && fine k xs
-
-fine_length : (k : ℕ) (xs : List ℕ) → fine k xs ≡ true → length xs ≡ k
-fine_length zero [] e = refl
-fine_length zero (x ∷ xs) e = absurd (false≢true e)
-fine_length (suc k) [] e = absurd (false≢true e)
-fine_length (suc k) (x ∷ xs) e = ap suc (fine_length k xs (and_right (leb x 13) (fine k xs) e))
-
-fine_small : (k : ℕ) (xs : List ℕ) → fine k xs ≡ true → (i : ℕ) → get_or xs i 0 ≤ 13
-fine_small zero [] e i = omega arith
-fine_small zero (x ∷ xs) e i = absurd (false≢true e)
-fine_small (suc k) [] e i = omega arith
-fine_small (suc k) (x ∷ xs) e zero = leb-true x 13 (and_left (leb x 13) (fine k xs) e)
-fine_small (suc k) (x ∷ xs) e (suc i) = fine_small k xs (and_right (leb x 13) (fine k xs) e) i
-
--- two tests of a whole table, which compute, say of each row that it is a model's list
-pub model_list : (table : List (List ℕ)) → map up_to_zero table ≡ models → map (fine 4) table ≡ replicate 13 true → (m : ℕ) → (1 ≤ m) × (m ≤ 13)
-    → (up_to_zero (get_or table (m - 1) []) ≡ list_of m) × Numbers (get_or table (m - 1) [])
-unfolding up_to_zero
-model_list table same each m h =
-    let f : fine 4 (get_or table (m - 1) []) ≡ true =
-    sym (get_or-map (fine 4) table (m - 1) []) ∙ ap (λ (l : List Bool). get_or l (m - 1) false) each ∙ get_or-replicate 13 (m - 1) true false (omega arith) in (
-      sym (get_or-map up_to_zero table (m - 1) []) ∙ ap (λ (l : List (List ℕ)). get_or l (m - 1) []) same,
-      record { four = fine_length 4 (get_or table (m - 1) []) f; small = fine_small 4 (get_or table (m - 1) []) f },
-    )
-
--- a number that is none of four in a row, from which it is not below, is above them
-pub past_four : (k q : ℕ) → k ≤ q → (q ≡ k → ⊥) → (q ≡ k + 1 → ⊥) → (q ≡ k + 2 → ⊥) → (q ≡ k + 3 → ⊥) → k + 4 ≤ q
-past_four k q h a b c d = omega arith
-
--- ---- the first broken predicate of what is left of a list from place k on
-
-module _ (h : History) where
-  pub left_end : (ks : List ℕ) (k : ℕ) → get_or ks k 0 ≡ 0 → first_broken (up_to_zero (drop k ks)) h ≡ AllMet
-  unfolding first_broken up_to_zero
-  left_end [] zero e = refl
-  left_end [] (suc k) e = refl
-  left_end (x ∷ ks) zero e = rw (eq-eqb x 0 e)
-  left_end (x ∷ ks) (suc k) e = left_end ks k e
-
-  left-next : (ks : List ℕ) (k : ℕ) → (get_or ks k 0 ≡ 0 → ⊥)
-      → first_broken (up_to_zero (drop k ks)) h ≡ or_else (get_or ks k 0) (verdict (numbered (get_or ks k 0)) h) (first_broken (up_to_zero (drop (suc k) ks)) h)
-  unfolding first_broken up_to_zero
-  left-next [] zero n = absurd (n refl)
-  left-next [] (suc k) n = absurd (n refl)
-  left-next (x ∷ ks) zero n = rw (ne_eqb x 0 n)
-  left-next (x ∷ ks) (suc k) n = left-next ks k n
-
+module _ (h : History) (ps : List Predicate) (k : ℕ) where
   -- the list is at its end
-  pub left_past : (ks : List ℕ) (k : ℕ) → Numbers ks → 4 ≤ k → first_broken (up_to_zero (drop k ks)) h ≡ AllMet
-  left_past ks k n i = left_end ks k (get_or-eq_default ks 0 {n = k} (omega (arith, n.four)))
+  pub left_past : length ps ≤ k → first_broken (numbers_of (drop k ps)) h ≡ None
+  unfolding first_broken
+  left_past i = rw (drop_of_length-le ps {i = k} i)
 
   -- the predicate at place k has verdict v; o is the whole list's outcome
-  module _ (ks : List ℕ) (k : ℕ) (n : get_or ks k 0 ≡ 0 → ⊥) (p : Predicate) (v : Verdict) (e : p ≡ numbered (get_or ks k 0)) (f : v ≡ verdict p h)
-      (o : Outcome) (i : o ≡ first_broken (up_to_zero (drop k ks)) h) where
-    next : o ≡ or_else (get_or ks k 0) v (first_broken (up_to_zero (drop (k + 1) ks)) h)
-    next = rw add-one
-        (i ∙ left-next ks k n
-        ∙ ap (λ (u : Verdict). or_else (get_or ks k 0) u (first_broken (up_to_zero (drop (suc k) ks)) h)) (ap (λ (q : Predicate). verdict q h) (sym e) ∙ sym f))
+  module _ (i : k < length ps) (v : Verdict) (f : v ≡ verdict (get_or ps k RVal) h) (o : Outcome) (e : o ≡ first_broken (numbers_of (drop k ps)) h) where
+    next : o ≡ or_else (predicate_number (get_or ps k RVal)) v (first_broken (numbers_of (drop (k + 1) ps)) h)
+    unfolding first_broken
+    next = e ∙ ap (λ (qs : List Predicate). first_broken (numbers_of qs) h) (drop_more ps k RVal i)
+        ∙ ap (λ (u : Verdict). or_else (predicate_number (get_or ps k RVal)) u (first_broken (numbers_of (drop (k + 1) ps)) h)) (ap (λ (q : Predicate). verdict q h) (number_back (get_or ps k RVal)) ∙ sym f)
 
-    pub left-met : v ≡ Met → o ≡ first_broken (up_to_zero (drop (k + 1) ks)) h
-    left-met g = next ∙ ap (λ (u : Verdict). or_else (get_or ks k 0) u (first_broken (up_to_zero (drop (k + 1) ks)) h)) g
+    pub left-met : v ≡ None → o ≡ first_broken (numbers_of (drop (k + 1) ps)) h
+    left-met g = next ∙ ap (λ (u : Verdict). or_else (predicate_number (get_or ps k RVal)) u (first_broken (numbers_of (drop (k + 1) ps)) h)) g
 
-    pub left-broken : (a b : ℕ) → v ≡ Broken a b → BrokenAt (get_or ks k 0) a b ≡ o
-    left-broken a b g = sym (next ∙ ap (λ (u : Verdict). or_else (get_or ks k 0) u (first_broken (up_to_zero (drop (k + 1) ks)) h)) g)
+    pub left-broken : (x : ℕ × ℕ) → v ≡ Some x → broken_at (predicate_number (get_or ps k RVal)) x ≡ o
+    left-broken x g = sym (next ∙ ap (λ (u : Verdict). or_else (predicate_number (get_or ps k RVal)) u (first_broken (numbers_of (drop (k + 1) ps)) h)) g)

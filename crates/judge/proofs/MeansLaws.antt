@@ -4,28 +4,25 @@ use mathlib.Core.Path.{◌≡◌, refl, sym, ap, ◌∙◌, subst}
 use mathlib.Core.Bool.{Bool, true, false}
 use mathlib.Core.List.{List, [], ◌∷◌}
 use Prim.Native.Nat.{ℕ, ◌≤◌}
-use borrow.Author.Tests.{le-leb, lt-leb, leb-true, leb-false, eqb-true, eqb-false, ne_eqb}
-use lib.Dec.{leb, eqb}
+use borrow.Author.Tests.{le-leb, lt-leb, leb-true, leb-false}
+use lib.Dec.{leb}
+use Rattle.std.specs.Prelude.{Some, None, Ok, Err}
 use Rattle.record.specs.Layout.{Layout, count_in, work_words}
 use Rattle.record.specs.History.{History, history_of, vis}
-use Rattle.record.specs.Questions.{number_of, ask, questions}
+use Rattle.record.specs.Questions.{Reading, ask, if_passed, questions}
 use Rattle.record.specs.Answers.{Passes}
-use Rattle.record.specs.declared.Reading.{Reading}
-use Rattle.record.specs.declared.Reading.TheVariants.{Passed, ShortWork}
+use Rattle.record.specs.declared.Refusal.{Refusal}
+use Rattle.record.specs.declared.Refusal.TheVariants.{ShortWork}
 use Rattle.record.proofs.PositionLaws.{positions-distinct}
-use Rattle.record.proofs.QuestionsAnswered.{number_passed, answer_of, answer-only, ring_iff_steps}
-use Rattle.consistency.specs.Models.{list_of, first_broken}
+use Rattle.record.proofs.QuestionsAnswered.{answer_of, answer-only, ring_iff_steps}
+use Rattle.consistency.specs.Models.{list_of, Outcome, first_broken}
 use Rattle.consistency.specs.Holds.{DistinctPositions}
-use Rattle.consistency.specs.declared.Outcome.{Outcome}
-use Rattle.consistency.specs.declared.Outcome.TheVariants.{AllMet, BrokenAt}
 use Rattle.consistency.proofs.BrokenIff.{list_met_iff, list_broken_iff}
 use Rattle.consistency.proofs.ReturnsBefore.{by_cases}
 use Rattle.consistency.proofs.HappensBefore.{hb_iff_chain}
-use Rattle.judge.specs.Judgments.{is_number, admission, admit, judged_list, judged, predicate_judgment, model_judgment}
+use Rattle.judge.specs.Judgments.{Judgment, is_number, admission, admit, judged_list, judged, predicate_judgment, model_judgment}
 use Rattle.judge.specs.Means.{Admitted, RefusedBy, short, named, Means, Exact}
-use Rattle.judge.specs.declared.Admission.TheVariants.{Granted, TooFewWords, OutOfRange}
-use Rattle.judge.specs.declared.Judgment.{Judgment}
-use Rattle.judge.specs.declared.Judgment.TheVariants.{Judged, NoSuchNumber, Refused}
+use Rattle.judge.specs.declared.Unjudged.TheVariants.{NoSuchNumber, Refused}
 
 -- what question 8 asks
 right-distinct : (L : Layout) (s : List ℕ) → Passes L s → DistinctPositions (history_of L s)
@@ -41,29 +38,29 @@ module _ (L : Layout) (words number : ℕ) (ps s : List ℕ) where
 
   -- ---- what the answer says is so
 
-  outcome_means : Admitted words number → Passes L s → (o : Outcome) → first_broken ps h ≡ o → M (Judged o)
-  outcome_means a r AllMet e = (a, r, (list_met_iff h (right-distinct L s r) ps).0 e)
-  outcome_means a r (BrokenAt p x y) e =
-      let k = (list_broken_iff h (right-distinct L s r) ps p x y).0 e in
+  outcome_means : Admitted words number → Passes L s → (o : Outcome) → first_broken ps h ≡ o → M (Ok o)
+  outcome_means a r None e = (a, r, (list_met_iff h (right-distinct L s r) ps).0 e)
+  outcome_means a r (Some x) e =
+      let k = (list_broken_iff h (right-distinct L s r) ps x.predicate x.first x.second).0 e in
       (a, r, k.0, k.1)
 
   list_means : Admitted words number → M (judged_list L s ps)
   unfolding judged_list
-  list_means a = go (eqb (number_of (questions L s)) 0) refl
+  list_means a = go (questions L s) refl
     where
-      go : (t : Bool) → eqb (number_of (questions L s)) 0 ≡ t → M (ask t (Refused (questions L s)) (Judged (first_broken ps h)))
-      go true e = outcome_means a (answer_of L s Passed (number_passed (questions L s) (eqb-true (number_of (questions L s)) 0 e))) (first_broken ps h) refl
-      go false e = named a (λ z. eqb-false (number_of (questions L s)) 0 e (ap number_of z)) (answer_of L s (questions L s) refl)
+      go : (r : Reading) → questions L s ≡ r → M (if_passed r (λ x. Err (Refused x)) (Ok (first_broken ps h)))
+      go (Ok u) e = outcome_means a (answer_of L s (Ok tt) e) (first_broken ps h) refl
+      go (Err r) e = named a (answer_of L s (Err r) e)
 
   answer-means : M (judged L words number s ps)
   unfolding judged admission
   answer-means = work (leb work_words words) refl
     where
-      numbers : work_words ≤ words → (t : Bool) → is_number number ≡ t → M (admit (ask t OutOfRange Granted) (Refused ShortWork) NoSuchNumber (judged_list L s ps))
+      numbers : work_words ≤ words → (t : Bool) → is_number number ≡ t → M (admit (ask t (Err NoSuchNumber) (Ok tt)) Err (judged_list L s ps))
       numbers w true e = list_means (record { work = w; in_range = e })
       numbers w false e = (w, e)
 
-      work : (t : Bool) → leb work_words words ≡ t → M (admit (ask t TooFewWords (ask (is_number number) OutOfRange Granted)) (Refused ShortWork) NoSuchNumber (judged_list L s ps))
+      work : (t : Bool) → leb work_words words ≡ t → M (admit (ask t (Err (Refused ShortWork)) (ask (is_number number) (Err NoSuchNumber) (Ok tt))) Err (judged_list L s ps))
       work true e = numbers (leb-true work_words words e) (is_number number) refl
       work false e = short (leb-false work_words words e)
 
@@ -73,23 +70,21 @@ module _ (L : Layout) (words number : ℕ) (ps s : List ℕ) where
   unfolding judged admission
   to_list a = rw (le-leb work_words words a.work, a.in_range)
 
-  pub to_outcome : Admitted words number → Passes L s → judged L words number s ps ≡ Judged (first_broken ps h)
+  pub to_outcome : Admitted words number → Passes L s → judged L words number s ps ≡ Ok (first_broken ps h)
   unfolding judged_list
-  to_outcome a r = to_list a ∙ rw (answer-only L s Passed r)
+  to_outcome a r = to_list a ∙ rw (answer-only L s (Ok tt) r)
 
-  to-refusal : (r : Reading) → RefusedBy L words number s r → judged L words number s ps ≡ Refused r
+  to-refusal : (r : Refusal) → RefusedBy L words number s r → judged L words number s ps ≡ Err (Refused r)
   unfolding judged admission judged_list
   to-refusal r (short w) = rw (lt-leb work_words words w)
-  to-refusal r (named a n k) =
-      let q : questions L s ≡ r = answer-only L s r k in
-      to_list a ∙ rw (q, ne_eqb (number_of r) 0 (λ z. n (number_passed r z)))
+  to-refusal r (named a k) = to_list a ∙ rw (answer-only L s (Err r) k)
 
   means-answer : (k : Judgment) → M k → judged L words number s ps ≡ k
   unfolding judged admission
-  means-answer (Judged AllMet) m = to_outcome m.0 m.1 ∙ ap Judged ((list_met_iff h (right-distinct L s m.1) ps).1 m.2)
-  means-answer (Judged (BrokenAt p x y)) m = to_outcome m.0 m.1 ∙ ap Judged ((list_broken_iff h (right-distinct L s m.1) ps p x y).1 (m.2, m.3))
-  means-answer NoSuchNumber m = rw (le-leb work_words words m.0, m.1)
-  means-answer (Refused r) m = to-refusal r m
+  means-answer (Ok None) m = to_outcome m.0 m.1 ∙ ap Ok ((list_met_iff h (right-distinct L s m.1) ps).1 m.2)
+  means-answer (Ok (Some x)) m = to_outcome m.0 m.1 ∙ ap Ok ((list_broken_iff h (right-distinct L s m.1) ps x.predicate x.first x.second).1 (m.2, m.3))
+  means-answer (Err NoSuchNumber) m = rw (le-leb work_words words m.0, m.1)
+  means-answer (Err (Refused r)) m = to-refusal r m
 
   pub judged-exact : Exact L words number ps s (judged L words number s ps)
   judged-exact = record {

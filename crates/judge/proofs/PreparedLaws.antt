@@ -1,27 +1,24 @@
 -- Laws of the tables that predicates are judged from: what filling leaves, and the relations that an inclusion is about. Assumes nothing.
-use mathlib.Core.Path.{◌≡◌, refl}
-use mathlib.Core.Bool.{Bool, true}
+use mathlib.Core.Path.{◌≡◌, refl, ◌∙◌}
+use mathlib.Core.Bool.{Bool}
 use mathlib.Core.List.{List}
-use Prim.Native.Nat.{ℕ, ◌+◌, ◌-◌, ◌*◌, ◌≤◌}
-use native.Mathlib.Nat.{mul-le-mul_right, add-sub_cancel_left}
+use Prim.Native.Nat.{ℕ, ◌*◌, ◌≤◌}
 use native.Mathlib.Omega.{arith}
-use borrow.Author.Tests.{eqb-true}
-use lib.Dec.{eqb}
-use lib.ListN.{length, take, drop, length-take, length-drop}
+use lib.ListN.{length, drop, length-take, length-drop}
 use Rattle.rows.specs.Row.{row_at, Row}
 use Rattle.rows.specs.Relation.{Rel, Table}
-use Rattle.rows.proofs.SliceLaws.{slice_at, slice_row, length_slice}
 use Rattle.record.specs.Layout.{row_words}
 use Rattle.record.specs.Terms.{Terms}
 use Rattle.record.specs.History.{History, under, vis}
 use Rattle.record.specs.Words.{history_from}
 use Rattle.consistency.specs.Relations.{ar, from, to}
-use Rattle.consistency.specs.Predicates.{outside}
-use Rattle.consistency.specs.FirstPair.{first}
+use Rattle.consistency.specs.FirstPair.{Verdict, first}
+use Rattle.consistency.specs.Predicates.{outside, verdict}
+use Rattle.consistency.specs.declared.Predicate.{Predicate}
 use Rattle.events.specs.Given.{Given, fields_of}
 use Rattle.events.proofs.GivenLaws.{seen-table}
 use Rattle.tables.specs.Tables.{part, Prepared}
-use Rattle.pairs.specs.Searches.{lacks, Whole}
+use Rattle.pairs.specs.Searches.{lacks}
 use Rattle.pairs.proofs.InclusionLaws.{lacks-first}
 
 module _ (n : ℕ) (l v : List ℕ) (q : Terms) where
@@ -39,43 +36,29 @@ module _ (n : ℕ) (l v : List ℕ) (q : Terms) where
 
 -- ---- groups that are lent as rows of their slice
 
-module _ (n : ℕ) (g : List ℕ) (a b : ℕ) (size : 259 * row_words ≤ length g) (i : a ≤ 258) (j : b ≤ 258) where
-  pub length_starts : length (slice_at g row_words a) ≡ row_words
-  length_starts = length_slice g row_words a (omega arith)
-
-  pub length_ends : length (slice_at g row_words b) ≡ row_words
-  length_ends = length_slice g row_words b (omega arith)
-
-  -- only the last group is whole
-  pub ends_whole : Whole true n (row_at g row_words 258) → Whole (eqb b 258) n (slice_at g row_words b)
-  ends_whole w e x h = rw (eqb-true b 258 e, slice_row g row_words 258) (w refl x h)
-
-  pub lacks-rows : (q r : List ℕ) → first n (lacks (length (slice_at g row_words a)) q (slice_at g row_words a) (slice_at g row_words b) r) ≡ first n (lacks row_words q (row_at g row_words a) (row_at g row_words b) r)
-  lacks-rows q r = rw (length_starts, slice_row g row_words a, slice_row g row_words b)
-
--- ---- table k of six lies in their slice
-
-pub part_end : (n k : ℕ) → k ≤ 5 → k * (n * row_words) + n * row_words ≤ 6 * (n * row_words)
-part_end n k h = omega (arith, mul-le-mul_right (n * row_words) h)
+-- what a search finds is what the relations say
+pub lent-rows : (n a b : ℕ) (g p r : List ℕ) {q starts ends : List ℕ} → q ≡ p → starts ≡ row_at g row_words a → ends ≡ row_at g row_words b
+    → first n (lacks row_words q starts ends r) ≡ first n (lacks row_words p (row_at g row_words a) (row_at g row_words b) r)
+lent-rows n a b g p r e f j = rw (e, f, j) refl
 
 -- ---- what is judged from the tables
 
-module _ (n : ℕ) (l v groups t : List ℕ) (q : Terms) (ready : Prepared n row_words (under q (history_from n row_words l v)) t) where
-  -- ar as it is lent
-  abbrev lent : List ℕ
-  lent = take (5 * (n * row_words) + n * row_words - 5 * (n * row_words)) (drop (5 * (n * row_words)) t)
-
-  pub ars-lent : Table n row_words (ar (fields_of l)) lent × (n * row_words ≤ length lent)
-  ars-lent = rw add-sub_cancel_left (
-    ars_fields n l v q (part n row_words 5 t) ready.ars,
-    omega (arith, ready.size, length-take (n * row_words) (drop (5 * (n * row_words)) t), length-drop (5 * (n * row_words)) t),
+module _ (n : ℕ) (l v t : List ℕ) (q : Terms) (filled : Prepared n row_words (under q (history_from n row_words l v)) t) where
+  -- ar as it is lent, as a matter of the fields
+  pub ars-lent : {ars : List ℕ} → ars ≡ part n row_words 5 t → Table n row_words (ar (fields_of l)) ars × (n * row_words ≤ length ars)
+  ars-lent e = rw e (
+    ars_fields n l v q (part n row_words 5 t) filled.ars,
+    omega (arith, filled.size, length-take (n * row_words) (drop (5 * (n * row_words)) t), length-drop (5 * (n * row_words)) t),
   )
 
-  -- the pairs of x, from an event of f to one of g, within ar and within vis
-  module _ (k a b : ℕ) (x : Rel) (f g : ℕ → Bool) (table : Table n row_words x (part n row_words k t)) (p : Row n f (row_at groups row_words a)) (r : Row n g (row_at groups row_words b)) where
-    pub ar-judged : first n (lacks row_words (part n row_words k t) (row_at groups row_words a) (row_at groups row_words b) (part n row_words 5 t)) ≡ first n (outside (from f (to g x)) (ar (under q (history_from n row_words l v))))
-    ar-judged = lacks-first n row_words (part n row_words k t) (row_at groups row_words a) (row_at groups row_words b) (part n row_words 5 t) x (ar (under q (history_from n row_words l v))) f g table ready.ars p r
+  -- and vis
+  pub seen-lent : Given n row_words l v → Table n row_words (vis (under q (history_from n row_words l v))) v
+  unfolding vis history_from
+  seen-lent g = seen-table n row_words l v g
 
-    pub vis-judged : Given n row_words l v → first n (lacks row_words (part n row_words k t) (row_at groups row_words a) (row_at groups row_words b) v) ≡ first n (outside (from f (to g x)) (vis (under q (history_from n row_words l v))))
-    unfolding vis history_from
-    vis-judged w = lacks-first n row_words (part n row_words k t) (row_at groups row_words a) (row_at groups row_words b) v x (vis (under q (history_from n row_words l v))) f g table (seen-table n row_words l v w) p r
+-- the pairs of x, from an event of f to one of g, that y lacks, as a predicate's verdict has them
+pub rows-judged : (p : Predicate) (k : History) (x y : Rel) (f g : ℕ → Bool) (q starts ends r : List ℕ) {v : Verdict}
+    → Table k.count row_words x q → Table k.count row_words y r → Row k.count f starts → Row k.count g ends
+    → v ≡ first k.count (lacks row_words q starts ends r) → first k.count (outside (from f (to g x)) y) ≡ verdict p k → v ≡ verdict p k
+rows-judged p k x y f g q starts ends r left right from_row to_row e same =
+    e ∙ lacks-first k.count row_words q starts ends r x y f g left right from_row to_row ∙ same

@@ -1,6 +1,6 @@
 -- What a judge knows of a record that passed: the words that it reads have the events of the record's bytes. Assumes nothing.
 use mathlib.Core.Path.{◌≡◌, sym, ap, ◌∙◌}
-use mathlib.Core.Bool.{Bool, true, false}
+use mathlib.Core.Bool.{Bool, true, false, false≢true}
 use mathlib.Core.List.{List, ◌++◌}
 use Prim.Native.Nat.{ℕ, ◌*◌, ◌≤◌}
 use native.Mathlib.Omega.{arith}
@@ -8,26 +8,26 @@ use borrow.Author.Tests.{eq-eqb}
 use lib.Dec.{leb}
 use lib.ListN.{length, take, drop, take-append-drop, length-append}
 use lib.Seq.{take_at}
+use Rattle.std.specs.Prelude.{Ok, Err, is_ok}
 use Rattle.record.specs.Layout.{edition_of, count_in, most_events, row_words, work_words}
 use Rattle.record.specs.History.{history_of, under, Agree}
 use Rattle.record.specs.Encode.{blocks_for}
-use Rattle.record.specs.Questions.{number_of, ask, questions, reading}
+use Rattle.record.specs.Questions.{Reading, number_of, ask, questions, reading}
 use Rattle.record.specs.Words.{slot_words, head_words, visible_words, work_after, history_from, terms_words, terms_from}
-use Rattle.record.specs.declared.Reading.{Reading}
-use Rattle.record.specs.declared.Reading.TheVariants.{Passed, ShortWork}
+use Rattle.record.specs.declared.Refusal.TheVariants.{ShortWork}
 use Rattle.record.proofs.StoresLaws.{Bytes}
 use Rattle.record.proofs.SlotWords.{length-slot_words}
 use Rattle.record.proofs.WorkLaws.{length-visible}
 use Rattle.record.proofs.WordsLaws.{words-agree}
 use Rattle.record.proofs.SoundLayout.{sound_of}
-use Rattle.record.proofs.QuestionsAnswered.{number_passed, passed-count, passed-terms, passed-blocks, passed-site, passed-position, passed-distinct, passed_graph}
+use Rattle.record.proofs.QuestionsAnswered.{passed-count, passed-terms, passed-blocks, passed-site, passed-position, passed-distinct, passed_graph}
+use Rattle.consistency.specs.FirstPair.{Verdict}
 use Rattle.consistency.specs.Predicates.{verdict}
 use Rattle.consistency.specs.declared.Predicate.{Predicate}
-use Rattle.consistency.specs.declared.Verdict.{Verdict}
 use Rattle.consistency.proofs.SameVerdict.{verdict-same}
 use Rattle.events.specs.Given.{Given}
 use Rattle.judge.specs.Judgments.{said_by}
-use Rattle.judge.specs.Ready.{ReadInto, Ready}
+use Rattle.judge.specs.Ready.{ReadInto, history_in, Ready}
 
 -- the words l and v, four of fields and a row of the work slice an event, have the n events of the record s, and q its terms
 pub record Told (s : List ℕ) (n : ℕ) (l v q : List ℕ) : Type 0 where
@@ -35,15 +35,15 @@ pub record Told (s : List ℕ) (n : ℕ) (l v q : List ℕ) : Type 0 where
   pub agree : Agree (history_of (edition_of s) s) (under (terms_from q) (history_from n row_words l v))
 
 -- where the work slice was long enough too
-reading-passed : (w : ℕ) (s : List ℕ) → number_of (reading (edition_of s) w s) ≡ 0 → questions (edition_of s) s ≡ Passed
+reading-passed : (w : ℕ) (s : List ℕ) → reading (edition_of s) w s ≡ Ok tt → questions (edition_of s) s ≡ Ok tt
 unfolding reading
 reading-passed w s e = go (leb work_words w) e
   where
-    go : (t : Bool) → number_of (ask t ShortWork (questions (edition_of s) s)) ≡ 0 → questions (edition_of s) s ≡ Passed
-    go true e = number_passed (questions (edition_of s) s) e
-    go false e = absurd (omega arith)
+    go : (t : Bool) → ask t (Err ShortWork) (questions (edition_of s) s) ≡ Ok tt → questions (edition_of s) s ≡ Ok tt
+    go true e = e
+    go false e = absurd (false≢true (ap is_ok e))
 
-module _ (s : List ℕ) (passed : questions (edition_of s) s ≡ Passed) where
+module _ (s : List ℕ) (passed : questions (edition_of s) s ≡ Ok tt) where
   -- ---- what the loading of words asks of the record
 
   pub passed-long : 512 ≤ length s
@@ -97,19 +97,19 @@ module _ (s : List ℕ) (passed : questions (edition_of s) s ≡ Passed) where
 
 -- ---- a record that no question refuses, and the work slice that its reader left
 
-module _ (s : List ℕ) (r : Reading) (none : number_of r ≡ 0) (w v : List ℕ) (left : v ≡ work_after (edition_of s) (number_of r) s w) where
-  begun : questions (edition_of s) s ≡ Passed → ReadInto s v
-  begun passed = record { passed = passed; visible = work-visible s passed (number_of r) w v none left }
+module _ (s : List ℕ) (r : Reading) (none : r ≡ Ok tt) (w v : List ℕ) (left : v ≡ work_after (edition_of s) (number_of r) s w) where
+  begun : questions (edition_of s) s ≡ Ok tt → ReadInto s v
+  begun passed = record { passed = passed; visible = work-visible s passed (number_of r) w v (ap number_of none) left }
 
   pub read_into : r ≡ questions (edition_of s) s → ReadInto s v
-  read_into asked = begun (sym asked ∙ number_passed r none)
+  read_into asked = begun (sym asked ∙ none)
 
   -- where question 1 was asked too
   pub read_whole : (words : ℕ) → r ≡ reading (edition_of s) words s → ReadInto s v
-  read_whole words asked = begun (reading-passed words s (ap number_of (sym asked) ∙ none))
+  read_whole words asked = begun (reading-passed words s (sym asked ∙ none))
 
--- ---- a verdict on the words is that on the record
+-- ---- a verdict on the words, as they are lent on, is that on the record
 
-pub ready-verdict : (s : List ℕ) (n : ℕ) (l v q groups t : List ℕ) → Ready s n l v q groups t → (p : Predicate) (r : Verdict)
-    → r ≡ verdict p (under (terms_from q) (history_from n row_words l v)) → r ≡ verdict p (said_by s)
-ready-verdict s n l v q groups t ready p r e = e ∙ sym (verdict-same (said_by s) (under (terms_from q) (history_from n row_words l v)) ready.agree p)
+pub ready-verdict : {s : List ℕ} {n m : ℕ} {l v q groups t heads seen terms : List ℕ} → Ready s n l v q groups t → (p : Predicate) {r : Verdict}
+    → m ≡ n → heads ≡ l → seen ≡ v → terms ≡ q → r ≡ verdict p (history_in m heads seen terms) → r ≡ verdict p (said_by s)
+ready-verdict {s} {n} {m} {l} {v} {q} ready p a b c d e = e ∙ rw (a, b, c, d) (sym (verdict-same (said_by s) (history_in n l v q) ready.agree p))

@@ -1,19 +1,17 @@
 -- The second demand, of the hosts' numbers: each reads back as what a judgment tells, and that judgment is given exactly if what it says is so.
-use Rattle.std.specs.Prelude.{◌≡◌, List, [], ◌∷◌, ℕ, ◌-◌, ◌≤◌, length, get_or}
+use Rattle.std.specs.Prelude.{◌≡◌, List, [], ◌∷◌, ℕ, ◌-◌, ◌≤◌, length, get_or, Some, None, Ok, Err}
 use Rattle.packed.specs.Packed.{Told, met, broken, refused, unpacked}
-use Rattle.record.specs.Questions.{number_of, place_of}
-use Rattle.consistency.specs.declared.Outcome.TheVariants.{AllMet, BrokenAt}
-use Rattle.judge.specs.Judgments.{packed_judgment}
+use Rattle.record.specs.Questions.{refusal_number, refusal_place}
+use Rattle.judge.specs.Judgments.{Judgment, packed_judgment}
 use Rattle.judge.specs.Means.{ExactOf}
-use Rattle.judge.specs.declared.Judgment.{Judgment}
-use Rattle.judge.specs.declared.Judgment.TheVariants.{Judged, NoSuchNumber, Refused}
+use Rattle.judge.specs.declared.Unjudged.TheVariants.{NoSuchNumber, Refused}
 
 -- what a judgment tells
 abbrev pub told : Judgment → Told
-told (Judged AllMet) = met
-told (Judged (BrokenAt p a b)) = broken a b
-told NoSuchNumber = refused 2 0
-told (Refused r) = refused (number_of r) (place_of r)
+told (Ok None) = met
+told (Ok (Some x)) = broken x.first x.second
+told (Err NoSuchNumber) = refused 2 0
+told (Err (Refused r)) = refused (refusal_number r) (refusal_place r)
 
 -- a host's number that is exact, for a list ps of predicates and a record s
 pub record ExactHost (words number : ℕ) (ps s : List ℕ) (answer : ℕ) : Type 0 where

@@ -1,20 +1,19 @@
 -- 'Records of older editions, up to 19,456 bytes, keep their verdicts' (Change 8): what a judging call answered before there were harvest records, and that it
 -- still does.
-use Rattle.std.specs.Prelude.{◌≡◌, List, [], ◌∷◌, ℕ, ◌-◌, ◌≤◌, eqb, length, get_or}
+use Rattle.std.specs.Prelude.{◌≡◌, List, [], ◌∷◌, ℕ, ◌-◌, ◌≤◌, length, get_or, Ok, Err}
 use Rattle.record.specs.Layout.{work_words}
 use Rattle.record.specs.History.{history_of}
-use Rattle.record.specs.Questions.{number_of, ask}
+use Rattle.record.specs.Questions.{ask, if_passed}
 use Rattle.record.specs.BeforeHarvest.{edition_before, questions_before, OfBefore}
 use Rattle.consistency.specs.Models.{first_broken}
-use Rattle.judge.specs.Judgments.{is_number, packed_judgment}
-use Rattle.judge.specs.declared.Judgment.{Judgment}
-use Rattle.judge.specs.declared.Judgment.TheVariants.{Judged, NoSuchNumber, Refused}
+use Rattle.judge.specs.Judgments.{Judgment, is_number, packed_judgment}
+use Rattle.judge.specs.declared.Unjudged.TheVariants.{NoSuchNumber, Refused}
 
 -- questions 2 to 10, and then the outcome of a list ps of predicates, as they were
 abbrev pub judgment_before : ℕ → List ℕ → List ℕ → Judgment
 judgment_before number ps s =
-    ask (is_number number) NoSuchNumber
-    (ask (eqb (number_of (questions_before s)) 0) (Refused (questions_before s)) (Judged (first_broken ps (history_of (edition_before s) s))))
+    ask (is_number number) (Err NoSuchNumber)
+    (if_passed (questions_before s) (λ r. Err (Refused r)) (Ok (first_broken ps (history_of (edition_before s) s))))
 
 -- the answer j about a record s, over a work slice that question 1 lets pass
 abbrev pub KeepsVerdict : ℕ → ℕ → List ℕ → List ℕ → Judgment → Type 0

@@ -1,25 +1,35 @@
--- Lists of predicates as the code keeps them, numbers with 0 past a list's end; and the numbers of verdicts. Contracts of inner functions and the table of edges cite this.
-use Rattle.std.specs.Prelude.{◌≡◌, cond, List, [], ◌∷◌, ◌++◌, ℕ, zero, suc, ◌+◌, ◌≤◌, eqb, length, get_or}
+-- Lists of predicates as the code keeps them; and the numbers of verdicts. Contracts of inner functions and the table of edges cite this.
+use Rattle.std.specs.Prelude.{List, [], ◌∷◌, ◌++◌, ℕ, zero, suc, ◌+◌, map, Some, None}
 use Rattle.packed.specs.Packed.{packed_break}
 use Rattle.record.specs.History.{History}
+use Rattle.consistency.specs.FirstPair.{Verdict}
 use Rattle.consistency.specs.Predicates.{numbered, verdict}
-use Rattle.consistency.specs.declared.Verdict.{Verdict}
-use Rattle.consistency.specs.declared.Verdict.TheVariants.{Met, Broken}
+use Rattle.consistency.specs.declared.Predicate.{Predicate}
+use Rattle.consistency.specs.declared.Predicate.TheVariants.{RVal, SingleOrder, RealTime, RealTimeWrites, MonotonicReads, ReadYourWrites, MonotonicWrites, WritesFollowReads, Pram, CausalVisibility, CausalArbitration, PerObjectPram, PerObjectSingleOrder}
 
--- the numbers of a list up to the first 0
-unfoldable pub up_to_zero : List ℕ → List ℕ
-up_to_zero [] = []
-up_to_zero (k ∷ ks) = cond (eqb k 0) [] (k ∷ up_to_zero ks)
+-- a predicate's number, and those of a list
+abbrev pub predicate_number : Predicate → ℕ
+predicate_number RVal = 1
+predicate_number SingleOrder = 2
+predicate_number RealTime = 3
+predicate_number RealTimeWrites = 4
+predicate_number MonotonicReads = 5
+predicate_number ReadYourWrites = 6
+predicate_number MonotonicWrites = 7
+predicate_number WritesFollowReads = 8
+predicate_number Pram = 9
+predicate_number CausalVisibility = 10
+predicate_number CausalArbitration = 11
+predicate_number PerObjectPram = 12
+predicate_number PerObjectSingleOrder = 13
 
--- four numbers, each at most 13
-pub record Numbers (ks : List ℕ) : Type 0 where
-  pub four : length ks ≡ 4
-  pub small : (i : ℕ) → get_or ks i 0 ≤ 13
+abbrev pub numbers_of : List Predicate → List ℕ
+numbers_of ps = map predicate_number ps
 
 -- a verdict as a host's number, and those of the first k predicates
 abbrev pub packed_verdict : Verdict → ℕ
-packed_verdict Met = 0
-packed_verdict (Broken a b) = packed_break a b
+packed_verdict None = 0
+packed_verdict (Some x) = packed_break x.0 x.1
 
 unfoldable pub packed_verdicts : ℕ → History → List ℕ
 packed_verdicts zero h = []

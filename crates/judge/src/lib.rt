@@ -11,34 +11,38 @@ ghost use Rattle.record.specs.Layout.{edition_of, work_words};
 ghost use Rattle.record.specs.Questions.{number_of, reading};
 ghost use Rattle.record.specs.Words.{work_after};
 ghost use Rattle.consistency.specs.Models.{list_of};
+ghost use Rattle.judge.specs.declared.Unjudged.TheVariants.{Refused};
 ghost use Rattle.judge.specs.Judgments.{admission, judged_list, predicate_judgment_of, model_judgment_of, packed_judgments_of, work_after_judgment};
 ghost use Rattle.judge.specs.Means.{ExactOf};
 ghost use Rattle.judge.specs.Hosts.{ExactThirteen};
 ghost use Rattle.judge.specs.Clocks.{ByClocks};
 ghost use Rattle.judge.specs.Kept.{KeepsVerdict, KeepsThirteen};
 ghost use Rattle.judge.specs.Covers.{TellsOthers};
-ghost use Rattle.judge.specs.Lists.{up_to_zero, Numbers};
+ghost use Rattle.judge.specs.Lists.{numbers_of};
 
-use consistency::Outcome;
-use record::{Reading, layout};
+use consistency::{Outcome, Predicate};
+use prepared::Passed;
+use record::{Reading, Refusal, layout};
 
-// How questions 1 and 2 were answered.
+// What refused a judging call: no number of a predicate or model, or a question asked of the record.
 #[derive(Clone, Copy)]
-pub enum Admission {
-    Granted,
-    TooFewWords,
-    OutOfRange,
+pub enum Unjudged {
+    NoSuchNumber,
+    Refused(Refusal),
+}
+
+impl From<Refusal> for Unjudged {
+    ghost from_gives = { λ r e. e ≡ Refused r };
+
+    fn from(r: Refusal) -> Unjudged {
+        Unjudged::Refused(r)
+    }
 }
 
 // The answer of a judging call.
-#[derive(Clone, Copy)]
-pub enum Judgment {
-    Judged(Outcome),
-    NoSuchNumber,
-    Refused(Reading),
-}
+pub type Judgment = Result<Outcome, Unjudged>;
 
-// A record's reading, and the numbers of its thirteen judgments, each the refusal's where it was refused.
+// A record's reading, and the numbers of its thirteen judgments, each the refusal's where it was refused. The C interface lays the numbers over a host's buffer.
 #[derive(Clone, Copy)]
 pub struct AllJudged {
     pub reading: Reading,
@@ -46,32 +50,30 @@ pub struct AllJudged {
 }
 
 // Questions 1 and 2, which every judging call asks first: of a work slice of so many words, and of a predicate's or model's number.
-pub fn admit(words: usize, number: usize) -> Admission
+pub fn admit(words: usize, number: usize) -> Result<(), Unjudged>
     ensures { result ≡ admission words number }
 {
     if words < layout::WORK {
-        return Admission::TooFewWords;
+        return Err(Unjudged::Refused(Refusal::ShortWork));
     }
-    if number < 1 {
-        return Admission::OutOfRange;
+    if number < 1 || 13 < number {
+        return Err(Unjudged::NoSuchNumber);
     }
-    if 13 < number {
-        return Admission::OutOfRange;
-    }
-    Admission::Granted
+    Ok(())
 }
 
 // Questions 3 to 10, then a list of predicates.
-fn judge_list(list: [u8; 4], s: &[u8], work: &mut [u64]) -> Judgment
-    requires { (work_words ≤ length work.old) × Numbers list }
-    ensures value { result ≡ judged_list (edition_of s.now) s.now (up_to_zero list) }
+fn judge_list(list: &[Predicate], s: &[u8], work: &mut [u64]) -> Judgment
+    requires { work_words ≤ length work.old }
+    ensures value { result ≡ judged_list (edition_of s.now) s.now (numbers_of list.now) }
     ensures work_after { work.new ≡ work_after_judgment result s.now work.old }
 {
-    let reading = reader::ask(s, work);
-    if record::number(reading) != 0 {
-        return Judgment::Refused(reading);
-    }
-    Judgment::Judged(lists::first_broken(list, s, work))
+    reader::ask(s, work)?;
+    let passed = Passed {
+        record: s,
+        seen: work,
+    };
+    Ok(lists::first_broken(list, &passed))
 }
 
 // Judges a predicate by its number.
@@ -82,11 +84,8 @@ pub fn judge_predicate(number: usize, s: &[u8], work: &mut [u64]) -> Judgment
     ensures keeps_verdict { KeepsVerdict (length work.old) number (number ∷ []) s.now result }
     ensures work_after { work.new ≡ work_after_judgment result s.now work.old }
 {
-    match admit(work.len(), number) {
-        Admission::TooFewWords => Judgment::Refused(Reading::ShortWork),
-        Admission::OutOfRange => Judgment::NoSuchNumber,
-        Admission::Granted => judge_list([number as u8, 0, 0, 0], s, work),
-    }
+    admit(work.len(), number)?;
+    judge_list(&[lists::by_number(number)], s, work)
 }
 
 // Judges a model by its number.
@@ -98,11 +97,8 @@ pub fn judge_model(number: usize, s: &[u8], work: &mut [u64]) -> Judgment
     ensures tells_others { TellsOthers (length work.old) number s.now result }
     ensures work_after { work.new ≡ work_after_judgment result s.now work.old }
 {
-    match admit(work.len(), number) {
-        Admission::TooFewWords => Judgment::Refused(Reading::ShortWork),
-        Admission::OutOfRange => Judgment::NoSuchNumber,
-        Admission::Granted => judge_list(lists::of_model(number), s, work),
-    }
+    admit(work.len(), number)?;
+    judge_list(lists::of_model(number), s, work)
 }
 
 // Reads a record once and judges all thirteen predicates.
@@ -114,13 +110,12 @@ pub fn judge_all(s: &[u8], work: &mut [u64]) -> AllJudged
     ensures keeps_thirteen { KeepsThirteen (length work.old) s.now result.judgments }
 {
     let reading = reader::read(s, work);
-    if record::number(reading) != 0 {
-        let refusal = packing::pack(Judgment::Refused(reading));
-        return AllJudged {
-            reading,
-            judgments: [refusal; 13],
-        };
-    }
-    let judgments = thirteen::verdicts(s, work);
+    let judgments = match reading {
+        Ok(()) => thirteen::verdicts(&Passed {
+            record: s,
+            seen: work,
+        }),
+        Err(refusal) => [packing::pack(Err(refusal.into())); 13],
+    };
     AllJudged { reading, judgments }
 }

@@ -2,11 +2,10 @@
 ghost use Rattle.std.specs.Prelude.{◌≡◌, ◌^◌, ◌<◌};
 ghost use Rattle.judge.specs.Judgments.{said_by};
 ghost use Rattle.judge.specs.Lists.{packed_verdict, packed_verdicts};
-ghost use Rattle.judge.specs.Ready.{ReadInto};
 
-use super::{lists, prepared};
+use super::lists::PREDICATES;
+use super::prepared::{Passed, Room};
 use consistency::Verdict;
-use record::layout;
 
 // A verdict as a host's number.
 fn pack(v: Verdict) -> u64
@@ -14,26 +13,21 @@ fn pack(v: Verdict) -> u64
     ensures { result ≡ packed_verdict v }
 {
     match v {
-        Verdict::Met => 0,
-        Verdict::Broken(a, b) => packed::broken(a, b),
+        None => 0,
+        Some((a, b)) => packed::broken(a, b),
     }
 }
 
-// The numbers of the thirteen verdicts, in the paper's order, of a record that passed; v begins with its visible sets.
-pub fn verdicts(s: &[u8], v: &[u64]) -> [u64; 13]
-    requires { ReadInto s.now v.now }
-    ensures { result ≡ packed_verdicts 13 (said_by s.now) }
+// The numbers of the thirteen verdicts, in the paper's order.
+pub fn verdicts(passed: &Passed) -> [u64; 13]
+    ensures { result ≡ packed_verdicts 13 (said_by passed.now.record.now) }
 {
-    let mut l = [0u64; layout::HEADS];
-    let mut terms = [0u64; layout::TERMS];
-    let mut groups = [0u64; events::GROUPS * layout::ROW];
-    let mut t = [0u64; prepared::TABLES * layout::WORK];
-    let n = prepared::prepare(s, v, &mut l, &mut terms, &mut groups, &mut t);
+    let mut room = Room::EMPTY;
+    room.prepare(passed);
+    let evidence = room.evidence(passed.seen);
     let mut answers = [0u64; 13];
-    for k in 0..13 {
-        let p = lists::by_number(k as u8 + 1);
-        let found = prepared::judge(p, &l, v, &terms, n, &groups, &t);
-        answers[k] = pack(found);
+    for (k, p) in PREDICATES.iter().enumerate() {
+        answers[k] = pack(evidence.judge(*p));
     }
     answers
 }

@@ -1,3 +1,3 @@
 -- What the contracts of inner functions cite.
-pub mod Numbers
+pub mod Noted
 pub mod Answers

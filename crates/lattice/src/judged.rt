@@ -1,71 +1,53 @@
 // The judge asked about the eight records.
-ghost use Rattle.std.specs.Prelude.{◌≡◌, ◌≤◌};
+ghost use Rattle.std.specs.Prelude.{◌≡◌, None, IfSome};
 ghost use Rattle.consistency.specs.Separating.{separating_bytes, tells, separator};
 ghost use Rattle.judge.specs.Covers.{answer};
-ghost use Rattle.lattice.specs.Answers.{met_by, broken_by, Models};
+ghost use Rattle.lattice.specs.Answers.{met_by, broken_by};
 
-use super::records;
-use consistency::Outcome;
+use super::model::Model;
+use super::records::{self, Record};
 use judge::Judgment;
 use record::layout;
 
-// The judge's answer about model m of record k.
-pub fn of_record(k: usize, m: usize) -> Judgment
-    requires { (1 ≤ k) × (k ≤ 8) }
-    ensures { result ≡ answer (separating_bytes k) m }
+// The judge's answer about a model of a record.
+pub fn of_record(k: Record, m: Model) -> Judgment
+    ensures { result ≡ answer (separating_bytes k.number) m.number }
 {
     let mut rec = [0u8; records::LENGTH];
-    records::write(k, &mut rec);
+    k.write(&mut rec);
     let mut work = [0u64; layout::WORK];
-    judge::judge_model(m, &rec, &mut work)
+    judge::judge_model(m.number, &rec, &mut work)
 }
 
 fn is_met(answer: Judgment) -> bool
     ensures { result ≡ met_by answer }
 {
-    match answer {
-        Judgment::Judged(outcome) => match outcome {
-            Outcome::AllMet => true,
-            Outcome::BrokenAt(_, _, _) => false,
-        },
-        Judgment::NoSuchNumber => false,
-        Judgment::Refused(_) => false,
-    }
+    matches!(answer, Ok(None))
 }
 
 fn is_broken(answer: Judgment) -> bool
     ensures { result ≡ broken_by answer }
 {
-    match answer {
-        Judgment::Judged(outcome) => match outcome {
-            Outcome::AllMet => false,
-            Outcome::BrokenAt(_, _, _) => true,
-        },
-        Judgment::NoSuchNumber => false,
-        Judgment::Refused(_) => false,
-    }
+    matches!(answer, Ok(Some(_)))
 }
 
-// Record k meets model i and breaks model j.
-fn tells_apart(k: usize, i: usize, j: usize) -> bool
-    requires { (1 ≤ k) × (k ≤ 8) × Models i j }
-    ensures { result ≡ tells k i j }
+// Whether the record meets model i and breaks model j.
+fn tells_apart(k: Record, i: Model, j: Model) -> bool
+    ensures { result ≡ tells k.number i.number j.number }
 {
-    if is_met(of_record(k, i)) {
-        return is_broken(of_record(k, j));
-    }
-    false
+    is_met(of_record(k, i)) && is_broken(of_record(k, j))
 }
 
-// The first record that does, or 9.
-pub fn record_for(i: usize, j: usize) -> usize
-    requires { Models i j }
-    ensures { (result ≡ separator i j) × (1 ≤ result) }
+// The first record that does.
+pub fn record_for(i: Model, j: Model) -> Option<Record>
+    ensures found { IfSome result (λ k. k.number ≡ separator i.number j.number) }
+    ensures none { result ≡ None → separator i.number j.number ≡ 9 }
 {
-    for k in 1..9 {
+    for number in 1..9 {
+        let k = Record { number };
         if tells_apart(k, i, j) {
-            return k;
+            return Some(k);
         }
     }
-    9
+    None
 }

@@ -3,116 +3,86 @@
 #![tactic(auto)]
 
 mod judged;
+mod model;
 mod records;
 mod table;
 
-ghost use Rattle.std.specs.Prelude.{◌<◌};
-ghost use Rattle.lattice.specs.Answers.{Models};
-
-use consistency::Outcome;
-use judge::Judgment;
+use model::Model;
+use records::Record;
 use std::env::FillError;
 use std::io;
 use std::rt::Env;
+use table::Pairs;
 
-fn name(m: usize) -> &'static str {
-    match m {
-        1 => "linearizable",
-        2 => "regular",
-        3 => "sequential",
-        4 => "causal",
-        5 => "real-time causal",
-        6 => "processor",
-        7 => "per-object sequential",
-        8 => "Pram",
-        9 => "monotonic reads",
-        10 => "read your writes",
-        11 => "monotonic writes",
-        12 => "writes follow reads",
-        _ => "slow memory",
+// With the first broken predicate and its pair, as in a line of `verdict`.
+fn not_covered(rt: &impl Print, i: Model, j: Model) -> io::Result<()> {
+    let Some(k) = judged::record_for(i, j) else {
+        return println!(rt; "NOT SHOWN: no record meets {i} and breaks {j}");
+    };
+    print!(rt; "{i} does not cover {j}: record {}, ", k.number)?;
+    if let Ok(Some(broken)) = judged::of_record(k, j) {
+        print!(rt;
+            "{} broken {} {}",
+            broken.predicate, broken.first, broken.second
+        )?;
     }
-}
-
-fn model(rt: &impl Print, m: usize) -> io::Result<()> {
-    lines::number(rt, m)?;
-    let name = name(m);
-    print!(rt; " {name}")
-}
-
-// The first broken predicate, as in a line of `verdict`.
-fn broken(rt: &impl Print, answer: Judgment) -> io::Result<()> {
-    if let Judgment::Judged(Outcome::BrokenAt(p, a, b)) = answer {
-        return print!(rt; "{p} broken {a} {b}");
-    }
-    Ok(())
-}
-
-fn not_covered(rt: &impl Print, i: usize, j: usize) -> io::Result<()>
-    requires { Models i j }
-{
-    let k = judged::record_for(i, j);
-    if 8 < k {
-        print!(rt; "NOT SHOWN: no record meets ")?;
-        model(rt, i)?;
-        print!(rt; " and breaks ")?;
-        model(rt, j)?;
-        return println!(rt);
-    }
-    model(rt, i)?;
-    print!(rt; " does not cover ")?;
-    model(rt, j)?;
-    print!(rt; ": record {k}, ")?;
-    broken(rt, judged::of_record(k, j))?;
     println!(rt)
 }
 
-// The first model that i gives and from which j follows, or 0.
-fn between(given: [u64; 14], following: [u64; 14], i: usize, j: usize) -> usize
-    requires { (i < 14) × (j < 14) }
-{
-    for m in 1..14 {
-        if table::has(given, i, m) && table::has(following, m, j) {
-            return m;
+#[derive(Drop)]
+struct Lattice {
+    given: Pairs,
+    following: Pairs,
+}
+
+impl Lattice {
+    // The first model that i gives and from which j follows.
+    fn between(&self, i: Model, j: Model) -> Option<Model> {
+        for number in 1..14 {
+            let m = Model { number };
+            if self.given.has(i, m) && self.following.has(m, j) {
+                return Some(m);
+            }
+        }
+        None
+    }
+
+    fn covered(&self, rt: &impl Print, i: Model, j: Model) -> io::Result<()> {
+        print!(rt; "{i} covers {j}")?;
+        if !self.given.has(i, j)
+            && let Some(m) = self.between(i, j)
+        {
+            print!(rt; ", by {m}")?;
+        }
+        println!(rt)
+    }
+
+    fn pair(&self, rt: &impl Print, i: Model, j: Model) -> io::Result<()> {
+        if self.following.has(i, j) {
+            self.covered(rt, i, j)
+        } else {
+            not_covered(rt, i, j)
         }
     }
-    0
-}
 
-fn covered(
-    rt: &impl Print,
-    given: [u64; 14],
-    following: [u64; 14],
-    i: usize,
-    j: usize,
-) -> io::Result<()>
-    requires { (i < 14) × (j < 14) }
-{
-    model(rt, i)?;
-    print!(rt; " covers ")?;
-    model(rt, j)?;
-    if !table::has(given, i, j) {
-        print!(rt; ", by ")?;
-        model(rt, between(given, following, i, j))?;
+    fn pairs(&self, rt: &impl Print) -> io::Result<()> {
+        for i in 1..14 {
+            for j in 1..14 {
+                if i != j {
+                    self.pair(rt, Model { number: i }, Model { number: j })?;
+                }
+            }
+        }
+        Ok(())
     }
-    println!(rt)
 }
 
 fn pairs(rt: &impl Print) -> io::Result<()> {
-    let given = table::given();
-    let following = table::following();
-    for i in 1..14 {
-        for j in 1..14 {
-            if i == j {
-                continue;
-            }
-            if table::has(following, i, j) {
-                covered(rt, given, following, i, j)?;
-            } else {
-                not_covered(rt, i, j)?;
-            }
-        }
-    }
-    Ok(())
+    let lattice = Lattice {
+        given: Pairs::given(),
+        following: Pairs::following(),
+    };
+    lattice.pairs(rt)
 }
 
 fn usage(rt: &impl Eprint) -> io::Result<()> {
@@ -126,8 +96,11 @@ fn one_record(rt: &(impl Print + Eprint), argument: &[u8]) -> io::Result<()> {
     let [digit @ b'1'..=b'8'] = argument else {
         return usage(rt);
     };
+    let record = Record {
+        number: (*digit - b'0') as usize,
+    };
     let mut rec = [0u8; records::LENGTH];
-    records::write((*digit - b'0') as usize, &mut rec);
+    record.write(&mut rec);
     rt.write_all(&rec)
 }
 

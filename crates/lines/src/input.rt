@@ -12,6 +12,7 @@ pub fn read_full<R: Read>(reader: &mut R, buffer: &mut [u8]) -> io::Result<usize
     ensures bytes { IfOk result (λ n. Consumes (R.remaining reader.old) (R.remaining reader.new) (take n buffer.new)) }
     ensures whole { IfOk result (λ n. n < length buffer.new → IsAtEnd (R.remaining reader.new)) }
 {
+    // By hand: no method of the library fills a slice as far as the input goes and says how far.
     let mut done = 0;
     while done < buffer.len() {
         let count = reader.read(&mut buffer[done..])?;

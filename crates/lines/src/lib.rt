@@ -1,21 +1,20 @@
-// What the programs share: the lines of text that they write to standard output, and how they read their input.
+// What the programs share: the line of text that a reading has, and how they read their input.
 #![tactic(auto)]
 
 pub mod input;
 
 use record::Reading;
-use std::io;
+use std::fmt;
 
-pub fn number(rt: &impl Print, n: usize) -> io::Result<()> {
-    print!(rt; "{n}")
-}
+// How a record was read: `passed`, or `refused` with the question's number and place.
+#[derive(Clone, Copy)]
+pub struct Line(pub Reading);
 
-// `passed`, or `refused` with the question's number and place.
-pub fn reading(rt: &impl Print, r: Reading) -> io::Result<()> {
-    let number = record::number(r);
-    if number == 0 {
-        return println!(rt; "passed");
+impl fmt::Display for Line {
+    fn fmt<W: fmt::Write>(&self, f: &mut fmt::Formatter<W>) -> fmt::Result {
+        match self.0 {
+            Ok(()) => f.write_str("passed"),
+            Err(refusal) => write!(f, "refused {} {}", refusal.number(), refusal.place()),
+        }
     }
-    let place = record::place(r);
-    println!(rt; "refused {number} {place}")
 }

@@ -11,7 +11,7 @@ pub const BROKEN_FROM: u64 = 1048576;
 
 pub const REFUSED_FROM: u64 = 2097152;
 
-// A break at the pair (a, b).
+// A break at the pair (a, b). It and a refusal are packed in a line each: a function of the first number of both would be no shorter.
 pub fn broken(a: usize, b: usize) -> u64
     requires { packed_break a b < 2 ^ 32 }
     ensures { result ≡ packed_break a b }

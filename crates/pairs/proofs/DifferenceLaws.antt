@@ -1,134 +1,180 @@
 -- Laws of rows that tell two relations apart: what exactly one of two rows has, a row cut to one object, and the events for which two relations
 -- differ anywhere. Assumes nothing.
-use mathlib.Core.Path.{◌≡◌, refl, sym, ap, ap₂, ◌∙◌, subst}
-use mathlib.Core.Bool.{Bool, true, false, not, ◌&&◌, ◌||◌, and-false, beq}
-use mathlib.Core.List.{List, ◌++◌}
-use Prim.Native.Nat.{ℕ, ◌+◌, ◌*◌, ◌^◌, ◌≤◌, ◌<◌}
+use mathlib.Core.Path.{◌≡◌, refl, sym, ap, ap₂, ◌∙◌}
+use mathlib.Core.Bool.{Bool, true, false, not, ◌&&◌, ◌||◌, and-true, and-false, beq}
+use mathlib.Core.List.{List}
+use Prim.Native.Nat.{ℕ, zero, suc, ◌+◌, ◌*◌, ◌/◌, ◌%◌, ◌^◌, ◌≤◌, ◌<◌}
 use native.Mathlib.Numerals.{add-one}
 use native.Mathlib.Omega.{arith}
 use lib.Dec.{eqb, ltb}
-use lib.Bits.{bit_or}
-use lib.ListN.{length, get_or, drop, replicate}
+use lib.Bits.{bit_and, bit_xor, xor_shr, xor_mod}
+use lib.ListN.{length, get_or, replicate}
+use Rattle.std.specs.Prelude.{Some, None}
 use Rattle.rows.specs.Lowest.{some}
-use Rattle.rows.specs.Row.{bit_of, has, or_row, and_row, row_at, Row}
+use Rattle.rows.specs.Row.{digit, bit_of, has, row_at, Row}
 use Rattle.rows.specs.Relation.{Rel, Table}
-use Rattle.rows.proofs.Tests.{split, and_right}
-use Rattle.rows.proofs.Digits.{bit_or_lem}
+use Rattle.rows.proofs.Tests.{split, tell, and_left, and_right}
+use Rattle.rows.proofs.Digits.{digit_lt, bit_and_lem}
 use Rattle.rows.proofs.LowestLaws.{some_more, some-none, none-some}
-use Rattle.rows.proofs.RowLaws.{lacking, only_word, has_past, length-and, row_empty, row_has, row_same, row-or, row-and}
-use Rattle.rows.proofs.TableLaws.{row_room, length-row, row_copied}
+use Rattle.rows.proofs.RowLaws.{has_word, has_past, row_empty, row_has, row_same}
 use Rattle.record.specs.History.{History, vis}
 use Rattle.record.specs.Words.{object_in, history_from}
 use Rattle.consistency.specs.Relations.{ob, ar}
-use Rattle.consistency.specs.Predicates.{differ, misfit, excused}
-use Rattle.events.specs.Given.{Given, Groups, fields_of}
-use Rattle.pairs.specs.Searches.{cut_to, Compared}
-use Rattle.rows.proofs.SliceLaws.{slice_at, slice_row}
-use Rattle.events.proofs.GivenLaws.{seen-table}
-use Rattle.pairs.proofs.EventLaws.{group_room}
-use Rattle.pairs.proofs.OrderLaws.{misfit-excused, misfit-told}
+use Rattle.consistency.specs.Predicates.{differ, excused}
+use Rattle.events.specs.Given.{Given, Groups, every_row, fields_of}
+use Rattle.consistency.specs.FirstPair.{first}
+use Rattle.consistency.proofs.FirstPairLaws.{first-at, first-none}
+use Rattle.pairs.specs.Searches.{all_pairs, cut_to, misplaced, told_apart, Compared, Parted}
 
 -- ---- what exactly one of a and b has joins a row, word by word
 
-differ_parts : (s t : Bool) → (s && not t) || (t && not s) ≡ differ s t
-differ_parts true true = refl
-differ_parts true false = refl
-differ_parts false true = refl
-differ_parts false false = refl
+bit_xor_lem : (a b k : ℕ) → bit_of (bit_xor a b) k ≡ differ (bit_of a k) (bit_of b k)
+unfolding digit bit_of
+bit_xor_lem a b k = ap (λ (x : ℕ). eqb x 1) (ap (λ (x : ℕ). x % 2) (xor_shr a b k) ∙ xor_mod (a / 2 ^ k) (b / 2 ^ k) 1) ∙ go (digit a k) (digit b k) (digit_lt a k) (digit_lt b k)
+  where
+    go : (x y : ℕ) → x < 2 → y < 2 → eqb (bit_xor x y) 1 ≡ differ (eqb x 1) (eqb y 1)
+    go zero zero h i = refl
+    go zero (suc zero) h i = refl
+    go zero (suc (suc y)) h i = absurd (omega (arith, i))
+    go (suc zero) zero h i = refl
+    go (suc zero) (suc zero) h i = refl
+    go (suc zero) (suc (suc y)) h i = absurd (omega (arith, i))
+    go (suc (suc x)) y h i = absurd (omega (arith, h))
 
-pub differ_word : (a b : List ℕ) (i : ℕ) → get_or a i 0 < 2 ^ 64 → get_or b i 0 < 2 ^ 64 → (k : ℕ) → k < 64
-    → differ (has a (i * 64 + k)) (has b (i * 64 + k)) ≡ bit_of (bit_or (lacking a b i) (lacking b a i)) k
-differ_word a b i p q k h =
-    sym (bit_or_lem (lacking a b i) (lacking b a i) k ∙ sym (ap₂ ◌||◌ (only_word a b i q k h) (only_word b a i p k h)) ∙ differ_parts (has a (i * 64 + k)) (has b (i * 64 + k)))
+-- cut to the members of m
+pub differ_word : (a b m : List ℕ) (i k : ℕ) → k < 64 → differ (has a (i * 64 + k)) (has b (i * 64 + k)) && has m (i * 64 + k) ≡ bit_of (bit_and (bit_xor (get_or a i 0) (get_or b i 0)) (get_or m i 0)) k
+differ_word a b m i k h =
+    ap₂ ◌&&◌ (ap₂ differ (has_word a i k h) (has_word b i k h) ∙ sym (bit_xor_lem (get_or a i 0) (get_or b i 0) k)) (has_word m i k h)
+    ∙ sym (bit_and_lem (bit_xor (get_or a i 0) (get_or b i 0)) (get_or m i 0) k)
 
-pub differ_past : (a b : List ℕ) (x : ℕ) → 64 * length a ≤ x → 64 * length b ≤ x → differ (has a x) (has b x) ≡ false
-differ_past a b x p q = ap₂ differ (has_past a x p) (has_past b x q)
+pub both_word : (a m : List ℕ) (i k : ℕ) → k < 64 → has a (i * 64 + k) && has m (i * 64 + k) ≡ bit_of (bit_and (get_or a i 0) (get_or m i 0)) k
+both_word a m i k h = ap₂ ◌&&◌ (has_word a i k h) (has_word m i k h) ∙ sym (bit_and_lem (get_or a i 0) (get_or m i 0) k)
 
--- ---- row b of a table g is copied over l, which gives m, and is cut to the row of b's object
+pub mate_past : (t : Bool) (m : List ℕ) (x : ℕ) → 64 * length m ≤ x → t && has m x ≡ false
+mate_past t m x h = ap (λ (u : Bool). t && u) (has_past m x h) ∙ and-false t
 
-module _ (cut : Bool) (f : List ℕ) (n w : ℕ) (g : List ℕ) (b : ℕ) (l m : List ℕ) (h : b < n) (room : n * w ≤ length g) (wide : length l ≡ w)
-    (copied : m ≡ slice_at g w b ++ drop (length (slice_at g w b)) l) where
-  taken : m ≡ row_at g w b
-  taken = row_copied g w b l m wide (row_room n w b (length g) h room) copied
+-- ---- the events with which b is compared
 
-  size : length m ≡ w
-  size = ap length taken ∙ length-row g w b (row_room n w b (length g) h room)
+module _ (cut : Bool) (n w : ℕ) (l v groups : List ℕ) (b k : ℕ) (m : List ℕ) (i : Groups n w l groups) (e : m ≡ row_at groups w k) where
+  pub mates_all : cut ≡ false → k ≡ every_row → Row n (λ a. cut_to cut (history_from n w l v) all_pairs a b) m
+  mates_all c q = rw (c, e, q) i.every
 
-  pub taken-whole : cut ≡ false → (length m ≡ w) × ((q : Rel) → Table n w q g → Row n (λ a. cut_to cut (fields_of f) q a b) m)
-  taken-whole c = (size, λ q t. rw (c, taken) (t b h))
-
-  pub taken_cut : (groups m' : List ℕ) (k : ℕ) → cut ≡ true → Groups n w f groups → k ≡ object_in f b
-      → m' ≡ and_row m (slice_at groups w k) → (length m' ≡ w) × ((q : Rel) → Table n w q g → Row n (λ a. cut_to cut (fields_of f) q a b) m')
+  pub mates_cut : cut ≡ true → k ≡ object_in l b → Row n (λ a. cut_to cut (history_from n w l v) all_pairs a b) m
   unfolding ob history_from
-  taken_cut groups m' k c i e meet =
-      let small : k < 256 = omega arith in
-      let made : m' ≡ and_row (row_at g w b) (row_at groups w k) = meet ∙ ap₂ and_row taken (slice_row groups w k) in
-      let row : (q : Rel) → Table n w q g → Row n (λ a. q a b && eqb (object_in f a) k) m' =
-      (λ q t. rw made (row-and n (λ a. q a b) (row_at g w b) (t b h) (λ a. eqb (object_in f a) k) (row_at groups w k) (i.objects k small)
-      (omega (arith, ap length taken, size, length-row groups w k (group_room n w f groups i k (omega arith)))))) in
-      (ap length meet ∙ length-and m (slice_at groups w k) ∙ size, λ q t. rw (c, ← e) (row q t))
+  mates_cut c q = rw (c, e, ← q) (i.objects k (omega arith))
+
+-- what is cut is what has a mate
+cut_mate : (cut : Bool) (h : History) (q : Rel) (a b : ℕ) → cut_to cut h q a b ≡ q a b && cut_to cut h all_pairs a b
+cut_mate true h q a b = refl
+cut_mate false h q a b = sym (and-true (q a b))
 
 -- ---- the events for which two relations differ on some event
 
-module _ (n : ℕ) (q r : Rel) where
-  pub compared_none : (w : ℕ) (d v : List ℕ) → d ≡ replicate w 0 → v ≡ replicate w 0 → Compared n 0 q r d v
-  compared_none w d v e f = record {
-    differs = rw e (none (λ x y. differ (q x y) (r x y)));
-    begins = rw f (none q);
+module _ (cut : Bool) (h : History) (q r : Rel) where
+  -- both cut
+  abbrev less : Rel → Rel
+  less p = cut_to cut h p
+
+  pub compared_none : (k m : ℕ) (d v : List ℕ) → d ≡ replicate k 0 → v ≡ replicate m 0 → Compared h.count 0 (less q) (less r) d v
+  compared_none k m d v e f = record {
+    differs = rw e (none k (λ x y. differ (less q x y) (less r x y)));
+    begins = rw f (none m (less q));
   }
     where
-      none : (p : Rel) → Row n (λ a. some 0 (p a)) (replicate w 0)
-      none p = row_same n (λ x. false) (replicate w 0) (row_empty n w) (λ a. some 0 (p a)) (λ x h. sym (none-some 0 (p x) (λ k l. absurd (omega arith))))
+      none : (k : ℕ) (p : Rel) → Row h.count (λ a. some 0 (p a)) (replicate k 0)
+      none k p = row_same h.count (λ x. false) (replicate k 0) (row_empty h.count k) (λ a. some 0 (p a)) (λ x h. sym (none-some 0 (p x) (λ k l. absurd (omega arith))))
 
-  -- event k more: it is seen by those of s, and ar has those of p before it
-  pub compared_more : (k : ℕ) (d v s p d' v' : List ℕ) → Compared n k q r d v → Row n (λ a. q a k) s → Row n (λ a. r a k) p
-      → ((x : ℕ) → has d' x ≡ has d x || differ (has s x) (has p x)) → v' ≡ or_row v s → length s ≤ length v → Compared n (k + 1) q r d' v'
-  compared_more k d v s p d' v' i t u e f l = record {
-    differs = λ x. e x ∙ ap₂ ◌||◌ (i.differs x) (ap₂ differ (t x) (u x)) ∙ out (ltb x n) (some k (both x)) (q x k) (r x k)
-        ∙ ap (λ (y : Bool). ltb x n && y) (next (both x));
-    begins = rw f (row_same n (λ x. some k (q x) || q x k) (or_row v s) (row-or n (λ a. some k (q a)) v i.begins (λ a. q a k) s t l)
-        (λ a. some (k + 1) (q a)) (λ x h. next (q x)));
+  -- event k more: it is seen by those of s, ar has those of p before it, and m are its mates
+  pub compared_more : (k : ℕ) (d v s p m d' v' : List ℕ) → Compared h.count k (less q) (less r) d v → Row h.count (λ a. q a k) s → Row h.count (λ a. r a k) p
+      → Row h.count (λ a. less all_pairs a k) m → ((x : ℕ) → has d' x ≡ has d x || differ (has s x) (has p x) && has m x) → ((x : ℕ) → has v' x ≡ has v x || has s x && has m x)
+      → Compared h.count (k + 1) (less q) (less r) d' v'
+  compared_more k d v s p m d' v' i t u o e f = record {
+    differs = λ x. e x ∙ ap₂ ◌||◌ (i.differs x) (ap₂ ◌&&◌ (ap₂ differ (t x) (u x)) (o x)) ∙ out (ltb x h.count) (some k (both x)) (q x k) (r x k) (less all_pairs x k)
+        ∙ ap (λ (y : Bool). ltb x h.count && (some k (both x) || y)) (sym (ap₂ differ (cut_mate cut h q x k) (cut_mate cut h r x k)))
+        ∙ ap (λ (y : Bool). ltb x h.count && y) (next (both x));
+    begins = λ x. f x ∙ ap₂ ◌||◌ (i.begins x) (ap₂ ◌&&◌ (t x) (o x)) ∙ in_row (ltb x h.count) (some k (less q x)) (q x k) (less all_pairs x k)
+        ∙ ap (λ (y : Bool). ltb x h.count && (some k (less q x) || y)) (sym (cut_mate cut h q x k))
+        ∙ ap (λ (y : Bool). ltb x h.count && y) (next (less q x));
   }
     where
       both : Rel
-      both x y = differ (q x y) (r x y)
+      both x y = differ (less q x y) (less r x y)
 
       next : (g : ℕ → Bool) → some k g || g k ≡ some (k + 1) g
       next g = rw add-one (sym (some_more k g))
 
-      out : (y z g h : Bool) → (y && z) || differ (y && g) (y && h) ≡ y && (z || differ g h)
-      out true z g h = refl
-      out false z g h = refl
+      out : (y z g h c : Bool) → (y && z) || (differ (y && g) (y && h) && (y && c)) ≡ y && (z || differ (g && c) (h && c))
+      out true z true true true = refl
+      out true z true true false = refl
+      out true z true false true = refl
+      out true z true false false = refl
+      out true z false true true = refl
+      out true z false true false = refl
+      out true z false false true = refl
+      out true z false false false = refl
+      out false z g h c = refl
 
-  pub compared_all : (k : ℕ) (d v : List ℕ) → k ≡ n → Compared n k q r d v → Compared n n q r d v
-  compared_all k d v e i = subst (λ (j : ℕ). Compared n j q r d v) e i
+      in_row : (y z g c : Bool) → (y && z) || ((y && g) && (y && c)) ≡ y && (z || (g && c))
+      in_row true z g c = refl
+      in_row false z g c = refl
 
--- vis and ar are compared
-pub compared_history : (cut : Bool) (n w : ℕ) (l v ars differing visible : List ℕ)
-    → ((q r : Rel) → Table n w q v → Table n w r ars → Compared n n (cut_to cut (fields_of l) q) (cut_to cut (fields_of l) r) differing visible)
-    → Given n w l v → Table n w (ar (fields_of l)) ars
-    → Compared n n (cut_to cut (history_from n w l v) (vis (history_from n w l v))) (cut_to cut (history_from n w l v) (ar (history_from n w l v))) differing visible
-unfolding ob ar history_from
-compared_history true n w l v ars differing visible i g t = i (vis (history_from n w l v)) (ar (fields_of l)) (seen-table n w l v g) t
-compared_history false n w l v ars differing visible i g t = i (vis (history_from n w l v)) (ar (fields_of l)) (seen-table n w l v g) t
+-- vis and ar are apart, by the rows of b
+pub apart_told : (cut : Bool) (n w : ℕ) (l v ars m : List ℕ) (a b : ℕ) (u : Bool) → Given n w l v → Table n w (ar (fields_of l)) ars → a < n → b < n
+    → Row n (λ x. cut_to cut (history_from n w l v) all_pairs x b) m → u ≡ has m a && not (beq (has (row_at v w b) a) (has (row_at ars w b) a)) → u ≡ told_apart cut (history_from n w l v) a b
+unfolding ob ar vis history_from
+apart_told cut n w l v ars m a b u g t i j o e =
+    e
+    ∙ ap₂ (λ (x y : Bool). x && not (beq (has (row_at v w b) a) y)) (row_has n (λ x. cut_to cut (history_from n w l v) all_pairs x b) m o a i) (row_has n (λ x. ar (fields_of l) x b) (row_at ars w b) (t b j) a i)
+    ∙ turned (cut_to cut (history_from n w l v) all_pairs a b) (has (row_at v w b) a) (ar (fields_of l) a b)
+    ∙ sym (ap₂ differ (cut_mate cut (history_from n w l v) (vis (history_from n w l v)) a b) (cut_mate cut (history_from n w l v) (ar (history_from n w l v)) a b))
+  where
+    turned : (c s t : Bool) → c && not (beq s t) ≡ differ (s && c) (t && c)
+    turned true true true = refl
+    turned true true false = refl
+    turned true false true = refl
+    turned true false false = refl
+    turned false true true = refl
+    turned false true false = refl
+    turned false false true = refl
+    turned false false false = refl
 
--- ---- which events have a pair that breaks the rule
+-- ---- the first pair that breaks the rule
 
-module _ (h : History) (q r : Rel) (differing visible : List ℕ) (i : Compared h.count h.count q r differing visible) (a : ℕ) (k : a < h.count) where
-  -- a is pending, and q relates it to nothing
-  abbrev free : Bool
-  free = h.is_pending a && not (has visible a)
+module _ (cut : Bool) (h : History) (differing visible : List ℕ) (i : Parted cut h differing visible) where
+  -- what is asked of an event: vis and ar differ for it, and it is no pending event that nothing sees
+  abbrev pub asked : ℕ → Bool
+  asked a = has differing a && not (h.is_pending a && not (has visible a))
 
-  free_excused : free ≡ excused h q a
-  free_excused = ap (λ (t : Bool). h.is_pending a && not t) (row_has h.count (λ x. some h.count (q x)) visible i.begins a k)
+  module _ (a : ℕ) (k : a < h.count) where
+    excused_test : h.is_pending a && not (has visible a) ≡ excused h (cut_to cut h (vis h)) a
+    excused_test = ap (λ (t : Bool). h.is_pending a && not t) (row_has h.count (λ x. some h.count (cut_to cut h (vis h) x)) visible i.begins a k)
 
-  pub misfit-none : (t : Bool) → t ≡ has differing a && not free → t ≡ false → (b : ℕ) → b < h.count → misfit h q r a b ≡ false
-  misfit-none t e f b l = split (has differing a)
-      (λ u. misfit-excused h q r a free free_excused (sym (ap (λ (s : Bool). s && not free) u) ∙ sym e ∙ f) b)
-      (λ u.
-      ap (λ (s : Bool). not (excused h q a) && s)
-      (some-none h.count (λ y. differ (q a y) (r a y)) (sym (row_has h.count (λ x. some h.count (λ y. differ (q x y) (r x y))) differing i.differs a k) ∙ u) b l)
-      ∙ and-false (not (excused h q a)))
+    differs_test : has differing a ≡ some h.count (told_apart cut h a)
+    differs_test = row_has h.count (λ x. some h.count (told_apart cut h x)) differing i.differs a k
 
-  pub misfit_pair : (t : Bool) → t ≡ has differing a && not free → t ≡ true → (b : ℕ) (s p u : Bool) → s ≡ q a b → p ≡ r a b → not (beq s p) ≡ u → misfit h q r a b ≡ u
-  misfit_pair t e f b s p u = misfit-told h q r a free free_excused b s p u (and_right (has differing a) (not free) (sym e ∙ f))
+    fits : asked a ≡ false → (b : ℕ) → b < h.count → misplaced cut h a b ≡ false
+    fits e b l = ap₂ (λ (s t : Bool). not s && t) (sym excused_test) refl ∙ split (has differing a)
+        (λ t. ap (λ (s : Bool). s && told_apart cut h a b) (sym (ap (λ (s : Bool). s && not (h.is_pending a && not (has visible a))) t) ∙ e))
+        (λ t. ap (λ (s : Bool). not (h.is_pending a && not (has visible a)) && s) (some-none h.count (told_apart cut h a) (sym differs_test ∙ t) b l) ∙ and-false (not (h.is_pending a && not (has visible a))))
+
+    breaks : asked a ≡ true → (b : ℕ) → misplaced cut h a b ≡ told_apart cut h a b
+    breaks e b =
+        ap (λ (s : Bool). not s && told_apart cut h a b) (sym excused_test)
+        ∙ ap (λ (s : Bool). s && told_apart cut h a b) (and_right (has differing a) (not (h.is_pending a && not (has visible a))) e)
+
+    -- an event that fits neither way has a pair
+    pub asked_any : asked a ≡ true → ((b : ℕ) → b < h.count → told_apart cut h a b ≡ false) → ⊥
+    asked_any e f = tell (some h.count (told_apart cut h a)) (sym differs_test ∙ and_left (has differing a) (not (h.is_pending a && not (has visible a))) e) (none-some h.count (told_apart cut h a) f)
+
+  pub asked_none : ((a : ℕ) → a < h.count → asked a ≡ false) → first h.count (misplaced cut h) ≡ None
+  asked_none f = first-none h.count (misplaced cut h) (λ x y k l. fits x k (f x k) y l)
+
+  pub asked_first : (a b : ℕ) → a < h.count → b < h.count → asked a ≡ true → told_apart cut h a b ≡ true → ((x : ℕ) → x < a → asked x ≡ false)
+      → ((y : ℕ) → y < b → told_apart cut h a y ≡ false) → first h.count (misplaced cut h) ≡ Some (a, b)
+  asked_first a b k l e t f g = first-at h.count (misplaced cut h) a b (record {
+    left = k;
+    right = l;
+    holds = breaks a k e b ∙ t;
+    least_a = λ x y m n. fits x (omega (arith, m, k)) (f x m) y n;
+    least_b = λ y m. breaks a k e y ∙ g y m;
+  })

@@ -11,46 +11,54 @@ use lib.Bits.{bit_and, bit_or, and_le_l}
 use lib.Count.{count_trailing_zeros}
 use lib.Dec.{eqb, ltb}
 use lib.ListN.{get_or, replicate}
-use Rattle.rows.specs.Lowest.{lowest, some}
+use Rattle.std.specs.Prelude.{Some, None}
+use Rattle.rows.specs.Lowest.{if_below, found, lowest, some}
 use Rattle.rows.specs.Row.{bit_of, has, row_at, Row}
 use Rattle.rows.specs.Relation.{Rel, related, Table}
 use Rattle.rows.proofs.Tests.{split, same_test, and_left, and_right}
 use Rattle.rows.proofs.Digits.{trailing_lt, bit_or_lem, bit_and_lem, bit_minus, bit_moved}
 use Rattle.rows.proofs.RowLaws.{and_not, has_cleared, has_word, word_none, word_found, row_has}
 use Rattle.rows.proofs.TableLaws.{get_d_row}
+use Rattle.rows.proofs.FoundLaws.{below-some, below-none, some-below, none-below}
 use Rattle.rows.proofs.LowestLaws.{lowest_low, lowest_hit, lowest-none, same-lowest, some_at, some-none, none-some, some_more}
 use Rattle.consistency.specs.FirstPair.{first}
 use Rattle.consistency.specs.Relations.{from, to}
 use Rattle.consistency.specs.Predicates.{outside}
-use Rattle.consistency.specs.declared.Verdict.TheVariants.{Met, Broken}
 use Rattle.consistency.proofs.FirstPairLaws.{Alike, first-at, first-none, first-same}
-use Rattle.rows.proofs.SliceLaws.{slice_at, slice_row}
 use Rattle.events.specs.Given.{Groups}
 use Rattle.pairs.specs.Searches.{lacks, Whole}
 
 -- the row h has the events from which f has a pair to one of n
-module _ (n m : ℕ) (f : Rel) (h : ℕ → Bool) (e : (x : ℕ) → h x ≡ some n (f x)) (wide : n ≤ m) (a : ℕ) (l : a ≡ lowest m h) where
-  below_none : (x y : ℕ) → x < a → y < n → f x y ≡ false
-  below_none x y i j = some-none n (f x) (sym (e x) ∙ (lowest_low m h).below x (omega arith)) y j
+module _ (n m : ℕ) (f : Rel) (h : ℕ → Bool) (e : (x : ℕ) → h x ≡ some n (f x)) (wide : n ≤ m) where
+  below : (x y : ℕ) → x < lowest m h → y < n → f x y ≡ false
+  below x y i j = some-none n (f x) (sym (e x) ∙ (lowest_low m h).below x i) y j
+
+  -- it has none
+  pub row_none : found m h ≡ None → first n f ≡ None
+  row_none k = first-none n f (λ x y i j. below x y (omega (arith, i, below-none m (lowest m h) k)) j)
 
   -- its lowest is past all events
-  pub row-met : n ≤ a → first n f ≡ Met
-  row-met past = first-none n f (λ x y i j. below_none x y (omega (arith, i)) j)
+  pub row_past : {a : ℕ} → found m h ≡ Some a → n ≤ a → first n f ≡ None
+  row_past {a} k past = first-none n f (λ x y i j. below x y (omega (arith, i, (below-some m (lowest m h) a k).0)) j)
 
   -- some event ends a pair that its lowest begins
-  pub row_any : a < n → (lowest n (f a) < n) × (f a (lowest n (f a)) ≡ true)
-  row_any i = some_at n (f a) (sym (e a) ∙ ap h l ∙ (lowest_low m h).at (omega arith))
+  pub row_any : {a : ℕ} → found m h ≡ Some a → (lowest n (f a) < n) × (f a (lowest n (f a)) ≡ true)
+  row_any {a} k =
+      let l = below-some m (lowest m h) a k in
+      some_at n (f a) (sym (e a) ∙ ap h l.0 ∙ (lowest_low m h).at l.1)
 
   -- b is the lowest of those
-  pub row-broken : a < n → (b : ℕ) → b ≡ lowest n (f a) → first n f ≡ Broken a b
-  row-broken i b q =
-      let w = row_any i in
+  pub row-broken : {a b : ℕ} → found m h ≡ Some a → a < n → found n (f a) ≡ Some b → first n f ≡ Some (a, b)
+  row-broken {a} {b} k i q =
+      let l = below-some m (lowest m h) a k in
+      let j = below-some n (lowest n (f a)) b q in
+      let w = row_any k in
       first-at n f a b (record {
         left = i;
-        right = omega (arith, w.0);
-        holds = ap (f a) q ∙ w.1;
-        least_a = below_none;
-        least_b = λ y j. (lowest_low n (f a)).below y (omega arith);
+        right = omega (arith, j.0, j.1);
+        holds = ap (f a) j.0 ∙ w.1;
+        least_a = λ x y u v. below x y (omega (arith, u, l.0)) v;
+        least_b = λ y u. (lowest_low n (f a)).below y (omega (arith, u, j.0));
       })
 
 module _ (w : ℕ) (q starts ends r : List ℕ) where
@@ -60,12 +68,12 @@ module _ (w : ℕ) (q starts ends r : List ℕ) where
 
   -- one row more, of an event that may end a pair
   pub collected_more : (b : ℕ) (l m : List ℕ) → ((a : ℕ) → has l a ≡ some b (lacks w q starts ends r a)) → has ends b ≡ true
-      → ((a : ℕ) → has m a ≡ has l a || (has (slice_at q w b) a && (has starts a && not (has (slice_at r w b) a))))
+      → ((a : ℕ) → has m a ≡ has l a || (has (row_at q w b) a && (has starts a && not (has (row_at r w b) a))))
       → (a : ℕ) → has m a ≡ some (b + 1) (lacks w q starts ends r a)
   collected_more b l m i e j a =
       let one : b + 1 ≡ suc b = omega arith in
       j a
-      ∙ ap₂ ◌||◌ (i a) (ap₂ (λ (x y : List ℕ). has x a && (has starts a && not (has y a))) (slice_row q w b) (slice_row r w b) ∙ turned (related q w a b) (has starts a) (has ends b) (not (related r w a b)) e)
+      ∙ ap₂ ◌||◌ (i a) (turned (related q w a b) (has starts a) (has ends b) (not (related r w a b)) e)
       ∙ sym (some_more b (lacks w q starts ends r a))
       ∙ ap (λ (k : ℕ). some k (lacks w q starts ends r a)) (sym one)
     where
@@ -88,15 +96,13 @@ module _ (w : ℕ) (q starts ends r : List ℕ) where
       none : (s t x y : Bool) → t ≡ false → (s && (t && x)) && y ≡ false
       none s t x y f = rw (f, and-false s)
 
-  -- what begins a pair is in starts, so that its lowest end is found without asking; v is the width as the code has it
-  pub lowest_end : (n a v b : ℕ) → v ≡ w → b ≡ lowest n (outside (to (has ends) (related q v)) (related r v) a) → (lowest n (lacks w q starts ends r a) < n) × (lacks w q starts ends r a (lowest n (lacks w q starts ends r a)) ≡ true)
-      → b ≡ lowest n (lacks w q starts ends r a)
-  lowest_end n a v b same f e =
+  -- what begins a pair is in starts, so that its lowest end is found without asking
+  pub found_end : (n a : ℕ) → (lowest n (lacks w q starts ends r a) < n) × (lacks w q starts ends r a (lowest n (lacks w q starts ends r a)) ≡ true)
+      → found n (outside (to (has ends) (related q w)) (related r w) a) ≡ found n (lacks w q starts ends r a)
+  found_end n a e =
       let c = lowest n (lacks w q starts ends r a) in
       let s : has starts a ≡ true = and_left (has starts a) (has ends c && related q w a c) (and_left (has starts a && (has ends c && related q w a c)) (not (related r w a c)) e.1) in
-      f
-      ∙ ap (λ (k : ℕ). lowest n (outside (to (has ends) (related q k)) (related r k) a)) same
-      ∙ same-lowest n _ (lacks w q starts ends r a) (λ k h. sym (ap (λ (t : Bool). (t && (has ends k && related q w a k)) && not (related r w a k)) s))
+      ap (if_below n) (same-lowest n _ (lacks w q starts ends r a) (λ k h. sym (ap (λ (t : Bool). (t && (has ends k && related q w a k)) && not (related r w a k)) s)))
 
 -- ---- the lowest end, by words of the columns' difference
 
@@ -167,7 +173,7 @@ module _ (n : ℕ) (ends : List ℕ) (q r : Rel) (a : ℕ) where
     pub end_none : x ≡ 0 → (b : ℕ) → b < (k + 1) * 64 → ending_below b ≡ false
     end_none = word_none ending_below k x held none
 
-    pub end_found : (w : ℕ) → k < w → y < 2 ^ 64 → x ≢ 0 → k * 64 + count_trailing_zeros 64 x ≡ lowest n ending
+    pub end_found : (w : ℕ) → k < w → y < 2 ^ 64 → x ≢ 0 → Some (k * 64 + count_trailing_zeros 64 x) ≡ found n ending
     end_found w l fits ne =
         let b = k * 64 + count_trailing_zeros 64 x in
         let small : x < 2 ^ 64 = omega (arith, and_le_l y (get_or ends k 0)) in
@@ -175,12 +181,11 @@ module _ (n : ℕ) (ends : List ℕ) (q r : Rel) (a : ℕ) where
         let low = lowest_low (64 * w) ending_below in
         let hit : ending_below b ≡ true = ap ending_below found ∙ low.at (omega (arith, trailing_lt 64 x small ne)) in
         let inside : b < n = ltb-true b n (and_left (ltb b n) (ending b) hit) in
-        sym (lowest_hit n ending b inside
-        (λ i h. sym (ap (λ (s : Bool). s && ending i) (lt-ltb i n (omega arith))) ∙ low.below i (omega arith))
-        (and_right (ltb b n) (ending b) hit))
+        let lowest-here : lowest n ending ≡ b = lowest_hit n ending b inside (λ i h. sym (ap (λ (s : Bool). s && ending i) (lt-ltb i n (omega arith))) ∙ low.below i (omega arith)) (and_right (ltb b n) (ending b) hit) in
+        sym (ap (if_below n) lowest-here ∙ some-below n b inside)
 
-  pub end_past : (k : ℕ) → n ≤ k * 64 → ((b : ℕ) → b < k * 64 → ending_below b ≡ false) → n ≡ lowest n ending
-  end_past k past none = sym (lowest-none n ending (λ b h. sym (ap (λ (s : Bool). s && ending b) (lt-ltb b n h)) ∙ none b (omega arith)))
+  pub end_past : (k : ℕ) → n ≤ k * 64 → ((b : ℕ) → b < k * 64 → ending_below b ≡ false) → None ≡ found n ending
+  end_past k past none = sym (none-below n (lowest n ending) (omega (arith, lowest-none n ending (λ b h. sym (ap (λ (s : Bool). s && ending b) (lt-ltb b n h)) ∙ none b (omega arith)))))
 
 -- tables and rows that hold relations and sets lack what those lack
 lacks-held : (n w : ℕ) (q starts ends r : List ℕ) (x y : Rel) (f g : ℕ → Bool) → Table n w x q → Table n w y r → Row n f starts → Row n g ends

@@ -3,4 +3,5 @@
 
 pub mod inclusion;
 pub mod order;
+mod ordered;
 pub mod reads;

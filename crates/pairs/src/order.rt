@@ -1,157 +1,114 @@
 // Predicates 2 and 13: vis is ar but for the pairs that begin in some pending events; with `cut`, on each object by itself.
 ghost use Rattle.std.specs.Prelude.{◌≡◌, true, not, ◌&&◌, ◌||◌, ℕ, ◌+◌, ◌*◌, ◌/◌, ◌<◌, ◌≤◌, length};
 ghost use Rattle.rows.specs.Row.{has, Row};
-ghost use Rattle.rows.specs.Relation.{Rel, Table};
-ghost use Rattle.record.specs.History.{vis};
-ghost use Rattle.record.specs.Words.{is_pending_in, history_from};
+ghost use Rattle.rows.specs.Relation.{Table};
+ghost use Rattle.record.specs.Words.{is_pending_in};
 ghost use Rattle.consistency.specs.FirstPair.{first};
 ghost use Rattle.consistency.specs.Relations.{ar};
 ghost use Rattle.consistency.specs.Predicates.{differ};
-ghost use Rattle.events.specs.Given.{Given, Groups, fields_of};
-ghost use Rattle.pairs.specs.Searches.{cut_to, misplaced, Compared};
+ghost use Rattle.events.specs.Given.{fields_of};
+ghost use Rattle.pairs.specs.Searches.{history_given, all_pairs, cut_to, misplaced, told_apart, Parted};
 
+use super::ordered::Ordered;
 use consistency::Verdict;
+use events::{EVERY, Events};
 
-fn is_seen(cut: bool, l: &[u64], v: &[u64], n: usize, w: usize, a: usize, b: usize) -> bool
-    requires given { Given n w l.now v.now }
-    requires a_lt_n { (a < n) × (b < n) }
-    ensures { result ≡ cut_to cut (history_from n w l.now v.now) (vis (history_from n w l.now v.now)) a b }
+// The events with which b is compared: all, or with `cut` those on its object.
+fn mates<'a, const W: usize>(cut: bool, events: &Events<'a, W>, b: usize) -> &'a [u64]
+    requires { b < events.now.count }
+    ensures mates { Row events.now.count (λ a. cut_to cut (history_given W events.now) all_pairs a b) result.now }
+    ensures wide { length result.now ≡ W }
 {
-    let at = b * w;
-    let end = at + w;
-    if !rows::test(&v[at..end], a) {
-        return false;
-    }
-    if cut {
-        return events::object(l, a) == events::object(l, b);
-    }
-    true
+    let group = if cut {
+        events.heads.object(b) as usize
+    } else {
+        EVERY
+    };
+    events.group(group)
 }
 
-fn is_placed(cut: bool, l: &[u64], v: &[u64], n: usize, w: usize, a: usize, b: usize) -> bool
-    requires given { Given n w l.now v.now }
-    requires a_lt_n { (a < n) × (b < n) }
-    ensures { result ≡ cut_to cut (history_from n w l.now v.now) (ar (history_from n w l.now v.now)) a b }
+// Of `mates`, what exactly one of `seen` and `before` has joins `differing`, and what `seen` has joins `visible`.
+fn join(differing: &mut [u64], visible: &mut [u64], seen: &[u64], before: &[u64], mates: &[u64])
+    requires { (length differing.old ≡ length mates.now) × (length visible.old ≡ length mates.now) × (length seen.now ≡ length mates.now) × (length before.now ≡ length mates.now) }
+    ensures sizes { (length differing.new ≡ length differing.old) × (length visible.new ≡ length visible.old) }
+    ensures differs { (x : ℕ) → has differing.new x ≡ has differing.old x || differ (has seen.now x) (has before.now x) && has mates.now x }
+    ensures begins { (x : ℕ) → has visible.new x ≡ has visible.old x || has seen.now x && has mates.now x }
 {
-    if events::position(l, b) <= events::position(l, a) {
-        return false;
-    }
-    if cut {
-        return events::object(l, a) == events::object(l, b);
-    }
-    true
-}
-
-// `dst` also gets what exactly one of a and b has.
-fn join_difference(dst: &mut [u64], a: &[u64], b: &[u64])
-    requires { (length a.now ≡ length dst.old) × (length b.now ≡ length dst.old) }
-    ensures dst_len_unchanged { length dst.new ≡ length dst.old }
-    ensures by_index { (x : ℕ) → has dst.new x ≡ has dst.old x || differ (has a.now x) (has b.now x) }
-{
-    for i in 0..dst.len() {
-        dst[i] |= (a[i] & !b[i]) | (b[i] & !a[i]);
+    for (i, mate) in mates.iter().enumerate() {
+        differing[i] |= (seen[i] ^ before[i]) & mate;
+        visible[i] |= seen[i] & mate;
     }
 }
 
-// Row b of a table, with `cut` only the events on b's object. Rows are as wide as `out`.
-fn take_row(cut: bool, l: &[u64], n: usize, g: &[u64], groups: &[u64], b: usize, out: &mut [u64])
-    requires { (4 * n ≤ length l.now) × (b < n) × (n * length out.old ≤ length g.now) × Groups n (length out.old) l.now groups.now }
-    ensures out_len_unchanged { length out.new ≡ length out.old }
-    ensures row { (q : Rel) → Table n (length out.old) q g.now → Row n (λ a. cut_to cut (fields_of l.now) q a b) out.new }
-{
-    let w = out.len();
-    let at = b * w;
-    let end = at + w;
-    rows::copy(out, &g[at..end]);
-    if cut {
-        let from = events::object(l, b) as usize * w;
-        let to = from + w;
-        rows::intersect(out, &groups[from..to]);
-    }
-}
-
-// The events for which vis and ar differ on some event, and those visible to some event. Rows are as wide as `visible`.
-fn compare(
+// The events for which vis and ar differ on some event, and those visible to some event.
+fn compare<const W: usize>(
     cut: bool,
-    l: &[u64],
-    v: &[u64],
-    n: usize,
-    ars: &[u64],
-    groups: &[u64],
-    differing: &mut [u64],
-    visible: &mut [u64],
+    order: &Ordered<W>,
+    differing: &mut [u64; W],
+    visible: &mut [u64; W],
 )
-    requires n_in_bounds { (4 * n ≤ length l.now) × (n * length visible.old ≤ length v.now) × (n * length visible.old ≤ length ars.now) × Groups n (length visible.old) l.now groups.now }
-    requires differing_len { (length differing.old ≡ length visible.old) × (length visible.old ≤ 8) }
-    ensures differing_len_unchanged { (length differing.new ≡ length differing.old) × (length visible.new ≡ length visible.old) }
-    ensures compared { (q r : Rel) → Table n (length visible.old) q v.now → Table n (length visible.old) r ars.now → Compared n n (cut_to cut (fields_of l.now) q) (cut_to cut (fields_of l.now) r) differing.new visible.new }
+    ensures sizes { (length differing.new ≡ W) × (length visible.new ≡ W) }
+    ensures parted { Parted cut (history_given W order.now.events) differing.new visible.new }
 {
-    let w = visible.len();
-    let mut seen = [0u64; 8];
-    let mut placed = [0u64; 8];
     rows::clear(differing);
     rows::clear(visible);
-    for b in 0..n {
-        take_row(cut, l, n, v, groups, b, &mut seen[0..w]);
-        take_row(cut, l, n, ars, groups, b, &mut placed[0..w]);
-        join_difference(differing, &seen[0..w], &placed[0..w]);
-        rows::union(visible, &seen[0..w]);
+    for b in 0..order.events.count {
+        let seen = order.events.seen_by(b);
+        join(
+            differing,
+            visible,
+            seen,
+            order.before(b),
+            mates(cut, &order.events, b),
+        );
     }
 }
 
 // Whether a fits neither way, by the rows of `compare`: vis and ar differ for it, and it is no pending event that nothing sees.
-fn is_misfit(l: &[u64], differing: &[u64], visible: &[u64], a: usize) -> bool
-    requires { (4 * a + 4 ≤ length l.now) × (a / 64 < length differing.now) × (a / 64 < length visible.now) }
-    ensures { result ≡ has differing.now a && not (is_pending_in l.now a && not (has visible.now a)) }
+fn is_misfit<const W: usize>(
+    events: &Events<W>,
+    differing: &[u64; W],
+    visible: &[u64; W],
+    a: usize,
+) -> bool
+    requires { a < events.now.count }
+    ensures { result ≡ has differing.now a && not (is_pending_in events.now.heads.words.now a && not (has visible.now a)) }
 {
-    if !rows::test(differing, a) {
-        return false;
-    }
-    if !events::is_pending(l, a) {
-        return true;
-    }
-    rows::test(visible, a)
+    rows::test(differing, a) && (!events.heads.is_pending(a) || rows::test(visible, a))
+}
+
+// Whether vis and ar differ on a and b.
+fn is_apart<const W: usize>(cut: bool, order: &Ordered<W>, a: usize, b: usize) -> bool
+    requires { (a < order.now.events.count) × (b < order.now.events.count) }
+    ensures { result ≡ told_apart cut (history_given W order.now.events) a b }
+{
+    rows::test(mates(cut, &order.events, b), a)
+        && rows::test(order.events.seen_by(b), a) != rows::test(order.before(b), a)
 }
 
 // The lowest a that fits neither way, with the lowest b on which vis and ar differ for it. The pairs of one a at most are tested.
-pub fn first_misplaced(
-    cut: bool,
-    l: &[u64],
-    v: &[u64],
-    n: usize,
-    w: usize,
-    ars: &[u64],
-    groups: &[u64],
-) -> Verdict
-    requires given { Given n w l.now v.now × Groups n w l.now groups.now }
-    requires table { Table n w (ar (fields_of l.now)) ars.now × (n * w ≤ length ars.now) }
-    ensures { result ≡ first n (misplaced cut (history_from n w l.now v.now)) }
+pub fn first_misplaced<const W: usize>(cut: bool, events: &Events<W>, ars: &[u64]) -> Verdict
+    requires table { Table events.now.count W (ar (fields_of events.now.heads.words.now)) ars.now × (events.now.count * W ≤ length ars.now) }
+    ensures { result ≡ first events.now.count (misplaced cut (history_given W events.now)) }
 {
-    let mut differing = [0u64; 8];
-    let mut visible = [0u64; 8];
-    compare(
-        cut,
-        l,
-        v,
-        n,
+    let order = Ordered {
+        events: *events,
         ars,
-        groups,
-        &mut differing[0..w],
-        &mut visible[0..w],
-    );
-    let mut a: usize = 0;
-    let found = 'search: loop {
-        if n <= a {
-            break 'search Verdict::Met;
-        }
-        if is_misfit(l, &differing, &visible, a) {
-            for b in 0..n {
-                if is_seen(cut, l, v, n, w, a, b) != is_placed(cut, l, v, n, w, a, b) {
-                    break 'search Verdict::Broken(a, b);
-                }
-            }
-        }
-        a += 1;
     };
-    found
+    let differing = &mut [0u64; W];
+    let visible = &mut [0u64; W];
+    compare(cut, &order, differing, visible);
+    let a = (0..events.count).find(
+        |a|
+            requires { a.now < events.now.count }
+            ensures { result ≡ has differing.entry.now a.now && not (is_pending_in events.entry.now.heads.words.now a.now && not (has visible.entry.now a.now)) }
+        { is_misfit(events, differing, visible, *a) },
+    )?;
+    let b = (0..events.count).find(
+        |b|
+            requires { (a < order.events.count) × (b.now < order.events.count) }
+            ensures { result ≡ told_apart cut (history_given W order.entry.events) a b.now }
+        { is_apart(cut, &order, a, *b) },
+    )?;
+    Some((a, b))
 }

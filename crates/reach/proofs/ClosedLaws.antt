@@ -3,14 +3,16 @@ use mathlib.Core.Path.{◌≡◌, refl, sym, ap, ◌∙◌}
 use mathlib.Core.Bool.{Bool, true, false, ◌&&◌, ◌||◌, or_comm}
 use mathlib.Core.List.{List}
 use Prim.Native.Nat.{ℕ, ◌/◌, ◌<◌}
+use native.Mathlib.Omega.{arith}
 use borrow.Author.Tests.{eq-eqb, ne_eqb}
 use lib.Dec.{eqb}
 use lib.ListN.{length, replicate}
+use Rattle.rows.specs.Lowest.{lowest, some}
 use Rattle.rows.specs.Row.{has, insert, row_at}
-use Rattle.rows.specs.Relation.{reaches, related, Between}
-use Rattle.reach.specs.Walks.{two_steps, Nested, Closed, Closure}
-use Rattle.rows.proofs.Tests.{split, tell, never, or_left, or_right}
-use Rattle.rows.proofs.LowestLaws.{same_some}
+use Rattle.rows.specs.Relation.{reaches, related, Between, Graph}
+use Rattle.reach.specs.Walks.{two_steps, Nested, Closed, Closure, Settles, Onward}
+use Rattle.rows.proofs.Tests.{split, tell, never, or_elim, or_left, or_right, and_right}
+use Rattle.rows.proofs.LowestLaws.{same_some, some_at}
 use Rattle.rows.proofs.RowLaws.{has-insert, insert_elim, has_cleared}
 use Rattle.rows.proofs.ReachLaws.{steps_back, reaches-sound, reaches_step, reaches_join, reaches-last, between_reaches}
 
@@ -52,6 +54,10 @@ module _ {n w : ℕ} {g₀ g l : List ℕ} (s : Closed n w g₀ g l) where
 -- what closes a table between g and its closure closes g
 pub between_closure : {n : ℕ} (w : ℕ) (g m h : List ℕ) → Between n (related g w) (related m w) → Closure n w m h → Closure n w g h
 between_closure w g m h i c b x k = c b x k ∙ between_reaches i x b k
+
+-- a table by another name
+pub closure_is : (n w : ℕ) (g h : List ℕ) {k : List ℕ} → k ≡ h → Closure n w g h → Closure n w g k
+closure_is n w g h e c = rw e c
 
 -- ---- one more row, all of whose members are settled
 
@@ -95,3 +101,32 @@ module _ {n w : ℕ} {g l : List ℕ} (s : Closed n w g g l) (b : ℕ) (inside :
       closed = λ c x e. insert_elim l b c wide e (λ q. rw (sym q) (here x)) (λ u. other c x (apart c u) ∙ s.closed c x u);
       left = λ c x q e. other c x (λ r. tell (has (insert l b) c) (has-insert l b c wide ∙ or_left (eqb b c) (has l c) (eq-eqb b c r)) e);
     })
+
+-- a table whose row b is joined with those of its members has members below n, as it had
+pub graph_joined : {g : List ℕ} {n w : ℕ} (b : ℕ) (h : List ℕ) → Graph g n w → length h ≡ length g
+    → ((c x : ℕ) → related h w x c ≡ eqb b c && two_steps n (related g w) x b || related g w x c) → Graph h n w
+graph_joined {g} {n} {w} b h m size after = record {
+  size = omega (arith, m.size);
+  wide = m.wide;
+  fits = m.fits;
+  inside = λ c x k e. or_elim (eqb b c && two_steps n (related g w) x b) (related g w x c) (sym (after c x) ∙ e)
+      (λ t.
+      let f : ℕ → Bool = λ a. related g w a b && related g w x a in
+      let p = some_at n f (and_right (eqb b c) (some n f) t) in
+      m.inside (lowest n f) x p.0 (and_right (related g w (lowest n f) b) (related g w x (lowest n f)) p.1))
+      (m.inside c x k);
+}
+
+-- ---- what is settled further on
+
+pub onward : {n w : ℕ} {g l h m : List ℕ} → Settles n w g l h m → Onward n w g l h m
+onward {n} {w} s = record {
+  sound = record { graph = s.graph; size = refl; closed = closed_again s.closed; more = λ x e. e };
+  more = s.more;
+  on = λ g₀ l₀ t. record {
+    graph = s.graph;
+    size = s.size ∙ t.size;
+    closed = closed-then t.closed s.closed s.more;
+    more = λ x e. s.more x (t.more x e);
+  };
+}

@@ -2,20 +2,23 @@
 use mathlib.Core.Path.{◌≡◌, sym, ap, ◌∙◌}
 use mathlib.Core.Bool.{Bool, true, ◌||◌}
 use mathlib.Core.List.{List}
-use Prim.Native.Nat.{ℕ, ◌-◌, ◌*◌, ◌^◌, ◌≤◌, ◌<◌}
+use Prim.Native.Nat.{ℕ, ◌-◌, ◌*◌, ◌^◌, ◌<◌}
 use native.Mathlib.Omega.{arith}
 use borrow.Author.Tests.{eqb-true}
 use lib.Dec.{eqb}
-use lib.ListN.{length, get_or, take, drop, replicate, length-replicate}
+use lib.ListN.{length, get_or, replicate, length-replicate}
+use Rattle.std.specs.Prelude.{Some, None}
 use Rattle.rows.specs.Lowest.{lowest}
+use Rattle.rows.specs.Lowest as rows
 use Rattle.rows.specs.Row.{has, insert, or_row, count_row, only_first, row_at, Row}
 use Rattle.rows.specs.Relation.{reaches, Steps, one, more, related, Graph}
 use Rattle.rows.proofs.Tests.{tell, or_elim, or_left, or_right}
-use Rattle.rows.proofs.LowestLaws.{lowest_low}
+use Rattle.rows.proofs.FoundLaws.{below-some}
 use Rattle.rows.proofs.FreshLaws.{Fresh, fresh, has-fresh, fresh_falls}
-use Rattle.rows.proofs.RowLaws.{has-or, has_within, has_cleared, length-insert, length-or, only_none, row_of}
+use Rattle.rows.proofs.RowLaws.{has-or, has_cleared, length-insert, length-or, row_of}
 use Rattle.rows.proofs.TableLaws.{length-row_le}
 use Rattle.rows.proofs.ReachLaws.{steps_back, reaches-sound, reaches_complete}
+use Rattle.reach.proofs.FoundLaws.{none-lacking}
 
 pub record Closing (g : List ℕ) (n w b : ℕ) (found done : List ℕ) : Type 0 where
   pub wide : length found ≡ w
@@ -42,17 +45,17 @@ begun {g} {n} {w} b graph h = record {
     same : (x : ℕ) → has (or_row (replicate w 0) (row_at g w b)) x ≡ has (row_at g w b) x
     same x = with_row g w (replicate w 0) b x (length-replicate w 0) ∙ ap (λ (t : Bool). t || has (row_at g w b) x) (has_cleared w x)
 
-pub closing_begin : {g : List ℕ} {n w b : ℕ} {z found done : List ℕ} → Graph g n w → b < n
-    → z ≡ replicate w 0 → found ≡ or_row z (take (length z) (drop (b * length z) g)) → done ≡ replicate w 0 → Closing g n w b found done
-closing_begin {w} {b} {z} graph h e p q =
-    let l : length z ≡ w = ap length e ∙ length-replicate w 0 in
-    rw (p, q, l, e) (begun b graph h)
+pub closing_begin : {g : List ℕ} {n w b : ℕ} {z m found done : List ℕ} → Graph g n w → b < n
+    → z ≡ replicate w 0 → m ≡ row_at g w b → found ≡ or_row z m → done ≡ replicate w 0 → Closing g n w b found done
+closing_begin {b} graph h e p q r = rw (q, e, p, r) (begun b graph h)
 
 -- ---- a turn takes in the row of an event that is found and not done
 
 module _ {g : List ℕ} {n w b : ℕ} {found done : List ℕ} (i : Closing g n w b found done) where
-  pub closing-next : {x : ℕ} → x ≡ lowest (64 * length found) (only_first found done) → x < 64 * w → Fresh n found done x
-  closing-next e h = fresh (λ x t. (i.sound x t).0) i.wide e h
+  pub closing-next : {x : ℕ} → rows.found (64 * length found) (only_first found done) ≡ Some x → Fresh n found done x
+  closing-next {x} e =
+      let p = below-some (64 * length found) (lowest (64 * length found) (only_first found done)) x e in
+      fresh (λ x t. (i.sound x t).0) i.wide p.0 (omega (arith, p.0, p.1, i.wide))
 
   grown : {a : ℕ} → Graph g n w → Fresh n found done a → Closing g n w b (or_row found (row_at g w a)) (insert done a)
   grown {a} graph p = record {
@@ -70,9 +73,9 @@ module _ {g : List ℕ} {n w b : ℕ} {found done : List ℕ} (i : Closing g n w
       kept : (x : ℕ) → has found x ≡ true → has (or_row found (row_at g w a)) x ≡ true
       kept x t = with_row g w found a x i.wide ∙ or_left (has found x) (has (row_at g w a) x) t
 
-  pub closing_turn : {found' done' : List ℕ} {a : ℕ} → Graph g n w → Fresh n found done a
-      → found' ≡ or_row found (take (length found) (drop (a * w) g)) → done' ≡ insert done a → Closing g n w b found' done'
-  closing_turn graph p e q = rw (e, q, i.wide) (grown graph p)
+  pub closing_turn : {found' done' m : List ℕ} {a : ℕ} → Graph g n w → Fresh n found done a
+      → m ≡ row_at g w a → found' ≡ or_row found m → done' ≡ insert done a → Closing g n w b found' done'
+  closing_turn graph p f e q = rw (e, f, q) (grown graph p)
 
   -- and brings the measure down
   pub closing_falls : {done' : List ℕ} {a : ℕ} → Fresh n found done a → ((k : ℕ) → get_or done' k 0 < 2 ^ 64) → done' ≡ insert done a
@@ -81,10 +84,7 @@ module _ {g : List ℕ} {n w b : ℕ} {found done : List ℕ} (i : Closing g n w
 
   -- ---- it ends where there is none
 
-  pub closing_end : {x : ℕ} → x ≡ lowest (64 * length found) (only_first found done) → 64 * w ≤ x → Row n (λ a. reaches n (related g w) a b) found
-  closing_end {x} q h = row_of n (λ a. reaches n (related g w) a b) found
+  pub closing_end : rows.found (64 * length found) (only_first found done) ≡ None → Row n (λ a. reaches n (related g w) a b) found
+  closing_end e = row_of n (λ a. reaches n (related g w) a b) found
       (λ y e. let p = i.sound y e in (p.0, reaches_complete n (related g w) p.1))
-      (λ y l e. steps_back (λ a. has found a ≡ true) (reaches-sound n (related g w) y b e) i.base (λ a c s m. i.closed c a (in_done c m) s))
-    where
-      in_done : (a : ℕ) → has found a ≡ true → has done a ≡ true
-      in_done a m = only_none found done a ((lowest_low (64 * length found) (only_first found done)).below a (omega (arith, has_within found a m, i.wide))) m
+      (λ y l t. steps_back (λ a. has found a ≡ true) (reaches-sound n (related g w) y b t) i.base (λ a c s m. i.closed c a (none-lacking found done e c m) s))

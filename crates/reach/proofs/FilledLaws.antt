@@ -6,7 +6,7 @@ use native.Mathlib.Omega.{arith}
 use lib.ListN.{length, take, drop, length-append, length-drop, take-append-drop}
 use lib.Seq.{length-take-le, drop_at}
 use Rattle.rows.specs.Row.{has, row_at}
-use Rattle.rows.specs.Relation.{Rel, reaches, related, Table, Graph, Rows, Filled}
+use Rattle.rows.specs.Relation.{Rel, reaches, related, Table, Graph, Filled}
 use Rattle.reach.specs.Walks.{Closure}
 use Rattle.rows.proofs.RowLaws.{row_of}
 use Rattle.rows.proofs.TableLaws.{row_room, row-front}
@@ -21,15 +21,20 @@ module _ {g : List ℕ} {n w : ℕ} (m : Graph g n w) where
   pub part-long : length (take (n * w) g) ≡ n * w
   part-long = length-take-le (n * w) g m.size
 
-  -- the part of the words that are rows
-  pub part-rows : Rows (take (n * w) g) n w
-  part-rows = record { size = omega (arith, part-long); wide = m.wide; fits = m.fits }
-
   part-related : (a b : ℕ) → b < n → related (take (n * w) g) w a b ≡ related g w a b
   part-related a b h =
       ap (λ (t : List ℕ). has t a)
       (sym (row-front (take (n * w) g) (drop (n * w) g) w b (row_room n w b (length (take (n * w) g)) h (omega (arith, part-long))))
       ∙ ap (λ (t : List ℕ). row_at t w b) (take-append-drop (n * w) g))
+
+  -- the part of the words that are rows
+  pub part-graph : Graph (take (n * w) g) n w
+  part-graph = record {
+    size = omega (arith, part-long);
+    wide = m.wide;
+    fits = m.fits;
+    inside = λ b x h e. m.inside b x h (sym (part-related x b h) ∙ e);
+  }
 
   part-reaches : (a b : ℕ) → b < n → reaches n (related (take (n * w) g) w) a b ≡ reaches n (related g w) a b
   part-reaches = between_reaches (record {

@@ -1,12 +1,12 @@
 -- Laws of joining the rows of the members of l to a row, one after the other: `rest` has those that are left. Assumes nothing.
-use mathlib.Core.Path.{◌≡◌, refl, sym, ap, ap₂, ◌∙◌}
+use mathlib.Core.Path.{◌≡◌, refl, sym, ap, ◌∙◌}
 use mathlib.Core.Bool.{Bool, true, false, not, ◌&&◌, ◌||◌}
 use mathlib.Core.List.{List}
 use Prim.Native.Nat.{ℕ, ◌+◌, ◌*◌, ◌/◌, ◌^◌, ◌≤◌, ◌<◌}
 use native.Mathlib.Omega.{arith}
 use borrow.Author.Tests.{eq-eqb, eqb-true}
 use lib.Dec.{eqb}
-use lib.ListN.{length, get_or, replicate, length-replicate}
+use lib.ListN.{length, get_or, replicate}
 use Rattle.rows.specs.Lowest.{lowest, some}
 use Rattle.rows.specs.Row.{has, insert, or_row, or_part, minus_row, row_at}
 use Rattle.rows.specs.Relation.{related}
@@ -16,20 +16,19 @@ use Rattle.rows.proofs.LowestLaws.{some_of, some_at}
 use Rattle.rows.specs.Count.{how_many}
 use Rattle.rows.proofs.CountLaws.{many_less}
 use Rattle.rows.proofs.RowLaws.{has-or, has-insert, insert-words, has_minus, has_within, has_cleared}
-use Rattle.rows.proofs.TableLaws.{length-row_le, row_words_lem, has-row-or}
-use Rattle.rows.proofs.SliceLaws.{slice_at, slice_row}
+use Rattle.rows.proofs.TableLaws.{length-row_le, has-row-or}
 
 -- ---- row a joins a row, and a leaves `rest` with the members of row a
 
 module _ (g : List ℕ) (w a : ℕ) where
-  pub row-taken : (row : List ℕ) {row' : List ℕ} → length row ≡ w → row' ≡ or_row row (row_at g w a) → (x : ℕ) → has row' x ≡ has row x || related g w x a
-  row-taken row wide e x = rw e (has-or row (row_at g w a) x (omega (arith, length-row_le g w a)))
+  pub row-taken : (row : List ℕ) {row' m : List ℕ} → length row ≡ w → m ≡ row_at g w a → row' ≡ or_row row m → (x : ℕ) → has row' x ≡ has row x || related g w x a
+  row-taken row wide p e x = rw (e, p) (has-or row (row_at g w a) x (omega (arith, length-row_le g w a)))
 
-  pub rest-taken : (rest : List ℕ) {rest' : List ℕ} → ((k : ℕ) → get_or g k 0 < 2 ^ 64) → a / 64 < length (row_at g w a)
-      → rest' ≡ minus_row rest (insert (slice_at g w a) a) → (x : ℕ) → has rest' x ≡ (not (eqb a x) && has rest x) && not (related g w x a)
-  rest-taken rest words inside q x = rw (q, slice_row)
-      (has_minus rest (insert (row_at g w a) a) x (insert-words (row_at g w a) a inside (row_words_lem g w a words))
-      ∙ ap (λ (t : Bool). has rest x && not t) (has-insert (row_at g w a) a x inside)
+  pub rest-taken : (rest : List ℕ) {rest' m : List ℕ} → m ≡ row_at g w a → ((k : ℕ) → get_or m k 0 < 2 ^ 64) → a / 64 < length m
+      → rest' ≡ minus_row rest (insert m a) → (x : ℕ) → has rest' x ≡ (not (eqb a x) && has rest x) && not (related g w x a)
+  rest-taken rest {rest'} {m} p words inside q x = rw q
+      (has_minus rest (insert m a) x (insert-words m a inside words)
+      ∙ ap (λ (t : Bool). has rest x && not t) (has-insert m a x inside ∙ ap (λ (l : List ℕ). eqb a x || has l x) p)
       ∙ apart (eqb a x) (has rest x) (related g w x a))
     where
       apart : (s t u : Bool) → t && not (s || u) ≡ (not s && t) && not u
@@ -50,16 +49,6 @@ pub record Gathering (g : List ℕ) (n w : ℕ) (l m rest row : List ℕ) : Type
   pub sound : (x : ℕ) → has row x ≡ true → has m x || rows_have g n w l x ≡ true
   pub kept : (x : ℕ) → has m x ≡ true → has row x ≡ true
   pub taken : (a x : ℕ) → has l a ≡ true → has rest a ≡ false → related g w x a ≡ true → has row x ≡ true
-
-pub gather_begin : (g : List ℕ) (n w : ℕ) (l m : List ℕ) → length m ≡ w → length l ≡ w → Gathering g n w l m l m
-gather_begin g n w l m p q = record {
-  wide = p;
-  deep = q;
-  inside = λ a e. e;
-  sound = λ x e. or_left (has m x) (rows_have g n w l x) e;
-  kept = λ x e. e;
-  taken = λ a x e f. absurd (tell (has l a) e f);
-}
 
 module _ {g : List ℕ} {n w : ℕ} {l m rest row : List ℕ} (i : Gathering g n w l m rest row) where
   -- a turn takes in the row of a member a
@@ -105,11 +94,11 @@ module _ {g : List ℕ} {n w : ℕ} {l m rest row : List ℕ} (i : Gathering g n
 -- ---- a row b that is joined with the rows of its members, which were gathered in a cleared row
 
 pub row_joined : (g : List ℕ) (n w b : ℕ) (rest z row h : List ℕ) → length row ≡ w → b * w + w ≤ length g → rest ≡ row_at g w b → z ≡ replicate w 0
-    → ((x : ℕ) → has row x ≡ has z x || rows_have g n (length z) rest x) → h ≡ or_part g (b * w) row
+    → ((x : ℕ) → has row x ≡ has z x || rows_have g n w rest x) → h ≡ or_part g (b * w) row
     → (c x : ℕ) → related h w x c ≡ eqb b c && two_steps n (related g w) x b || related g w x c
 row_joined g n w b rest z row h wide room e q f p c x = rw p
     (has-row-or g w b row wide room c x
     ∙ ap (λ (t : Bool). eqb b c && t || related g w x c)
     (f x
-    ∙ ap₂ (λ (t : Bool) (k : ℕ). t || rows_have g n k rest x) (ap (λ (y : List ℕ). has y x) q ∙ has_cleared w x) (ap length q ∙ length-replicate w 0)
+    ∙ ap (λ (t : Bool). t || rows_have g n w rest x) (ap (λ (y : List ℕ). has y x) q ∙ has_cleared w x)
     ∙ ap (λ (y : List ℕ). rows_have g n w y x) e))

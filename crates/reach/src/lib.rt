@@ -3,3 +3,4 @@
 
 pub mod closure;
 pub mod rings;
+mod walk;

@@ -1,33 +1,32 @@
 // Question 8: positions below n, and distinct.
 ghost use Rattle.std.specs.Prelude.{◌≡◌, ◌*◌, ◌≤◌, length};
-ghost use Rattle.rows.specs.Lowest.{lowest};
-ghost use Rattle.record.specs.Layout.{edition_of, numbers_of, count_in};
+ghost use Rattle.rows.specs.Lowest.{found};
+ghost use Rattle.record.specs.Layout.{edition_of};
 ghost use Rattle.record.specs.History.{history_of};
 ghost use Rattle.record.specs.Encode.{blocks_for};
 ghost use Rattle.record.specs.Questions.{wrong_position};
 
-use record::{Edition, layout};
+use super::framed::Framed;
+use record::layout;
 use rows::octets;
 
-// The lowest event whose position is too large or a lower event's, or n.
-pub fn wrong_position(s: &[u8], ed: Edition, n: usize) -> usize
-    requires n_value { (n ≡ count_in s.now) × (ed ≡ numbers_of (edition_of s.now)) }
-    requires n_in_bounds { 512 * blocks_for (edition_of s.now) n ≤ length s.now }
-    requires n_bound { n ≤ (edition_of s.now).events }
-    ensures { result ≡ lowest n (wrong_position (history_of (edition_of s.now) s.now)) }
-{
-    let mut taken = [0u64; layout::ROW];
-    let mut at: usize = 512;
-    for e in 0..n {
-        let p = octets::u16_at(s, at + 10) as usize;
-        if n <= p {
-            return e;
+impl<'a> Framed<'a> {
+    // The lowest event whose position is too large or a lower event's, if there is any.
+    pub fn wrong_position(&self) -> Option<usize>
+        requires n_in_bounds { 512 * blocks_for (edition_of self.now.bytes.now) self.now.count ≤ length self.now.bytes.now }
+        requires n_bound { self.now.count ≤ (edition_of self.now.bytes.now).events }
+        ensures { result ≡ found self.now.count (wrong_position (history_of (edition_of self.now.bytes.now) self.now.bytes.now)) }
+    {
+        let mut taken = [0u64; layout::ROW];
+        let mut at = 512;
+        for e in 0..self.count {
+            let position = usize::from(octets::u16_at(self.bytes, at + 10));
+            if self.count <= position || rows::test(&taken, position) {
+                return Some(e);
+            }
+            rows::set(&mut taken, position);
+            at = layout::next_slot(self.edition, at);
         }
-        if rows::test(&taken, p) {
-            return e;
-        }
-        rows::set(&mut taken, p);
-        at = layout::next_slot(ed, at);
+        None
     }
-    n
 }

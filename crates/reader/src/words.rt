@@ -16,16 +16,16 @@ pub fn load(s: &[u8], n: usize, off: usize, w: usize, out: &mut [u64])
     ensures { out.new ≡ slot_words (edition_of s.now) off w s.now n ++ drop (n * w) out.old }
 {
     let ed = header::edition(s);
-    let mut slot: usize = 512;
+    let mut slot = 512;
     for e in 0..n {
         let at = e * w;
-        let end = at + w;
-        octets::load(&mut out[at..end], s, slot + off);
+        octets::load(&mut out[at..at + w], s, slot + off);
         slot = layout::next_slot(ed, slot);
     }
 }
 
 // What block 0 says beside count and sites, as words.
+#[tactic(auto, unfolding(record::specs::Words::terms_words))]
 pub fn load_terms(s: &[u8], out: &mut [u64])
     requires { (512 ≤ length s.now) × (length out.old ≡ terms_length) }
     ensures { out.new ≡ terms_words s.now }

@@ -8,9 +8,8 @@ use borrow.Author.Tests.{le-leb}
 use lib.Dec.{eqb, leb}
 use lib.ListN.{length, take}
 use Rattle.record.specs.Layout.{Layout, GCR1, GCR2, edition, gcr2, edition_of, same, longest_record}
-use Rattle.record.specs.Questions.{length_right, byte_questions, questions, reading, packed_reading}
+use Rattle.record.specs.Questions.{Reading, length_right, byte_questions, questions, reading, packed_reading}
 use Rattle.record.specs.BeforeHarvest.{longest_before, layout_before, edition_before, length_before, questions_in, questions_before, OfBefore, KeepsReading, KeepsReadNumber}
-use Rattle.record.specs.declared.Reading.{Reading}
 use Rattle.record.proofs.QuestionLaws.{reading-long}
 
 -- the older editions are as they were

@@ -9,19 +9,19 @@ use lib.Dec.{eqb, ltb, leb}
 use lib.ListN.{length, get_or, take}
 use lib.Seq.{ext_get_or, get_or-take, length-take-le}
 use borrow.Author.Tests.{eq-eqb, ne_eqb, eqb-true, lt-ltb, le-ltb, le-leb, lt-leb, leb-true}
+use Rattle.std.specs.Prelude.{Ok, Err}
 use Rattle.rows.specs.Octets.{little, has_byte}
 use Rattle.rows.specs.Relation.{Rel}
 use Rattle.rows.proofs.Tests.{split, tell, never, and_both, and_left, and_right, or_elim, or_right}
 use Rattle.rows.proofs.LowestLaws.{none-some}
 use Rattle.rows.proofs.ReachLaws.{reaches_same}
-use Rattle.record.specs.declared.Reading.{Reading}
-use Rattle.record.specs.declared.Reading.TheVariants.{Passed, WrongLength, WrongCheck, WrongHeader, WrongBlocks, WrongSlot, WrongPosition, WrongSet, OnRing}
+use Rattle.record.specs.declared.Refusal.TheVariants.{WrongLength, WrongCheck, WrongHeader, WrongBlocks, WrongSlot, WrongPosition, WrongSet, OnRing}
 use Rattle.record.specs.Layout.{Layout, EditionName, GCR2, edition, gcr2, edition_of, byte, count_in, sites_in, slot_at, tail_at, zeros, same, longest_record}
 use Rattle.record.specs.Terms.{none, opening_in, openings_right, terms_in, SameTerms}
 use Rattle.record.specs.Blocks.{block_right}
 use Rattle.record.specs.History.{History, history_of, vis, Agree}
 use Rattle.record.specs.Slots.{event_right, tail_right, slot_right}
-use Rattle.record.specs.Questions.{length_right, terms_right, header_right, blocks_right, slots_in, wrong_position, wrong_set, on_ring, and_then, byte_questions, after_length, set_questions, questions}
+use Rattle.record.specs.Questions.{Reading, length_right, terms_right, header_right, blocks_right, slots_in, wrong_position, wrong_set, on_ring, and_then, byte_questions, after_length, set_questions, questions}
 use Rattle.record.specs.Encode.{little_bytes, blocks_for, record_bytes}
 use Rattle.record.specs.WellFormed.{WellFormed}
 use Rattle.record.proofs.AskLaws.{ask_yes, each_yes}
@@ -234,23 +234,23 @@ module _ (L : Layout) (ok : Sound L) (sites : ℕ) (h : History) (good : WellFor
 
   -- ---- all of them
 
-  byte_questions_lem : byte_questions L (record_bytes L sites h) ≡ Passed
+  byte_questions_lem : byte_questions L (record_bytes L sites h) ≡ Ok tt
   unfolding byte_questions after_length
   byte_questions_lem =
-      ask_yes (length_right s) WrongLength _ length_yes
+      ask_yes (length_right s) (Err WrongLength) _ length_yes
       ∙ each_yes (length s / 512) (λ k. not (block_right s k)) WrongCheck _ checks_yes
-      ∙ ask_yes (header_right L s) WrongHeader _ header_yes
-      ∙ ask_yes (blocks_right L s) WrongBlocks _ blocks_yes
+      ∙ ask_yes (header_right L s) (Err WrongHeader) _ header_yes
+      ∙ ask_yes (blocks_right L s) (Err WrongBlocks) _ blocks_yes
       ∙ each_yes (slots_in L s) (λ e. not (slot_right L s e)) WrongSlot _ (λ e l. ap not (slot_yes e))
-      ∙ each_yes (count_in s) (wrong_position (history_of L s)) WrongPosition Passed (λ e l. position_yes e (omega (arith, count-back)))
+      ∙ each_yes (count_in s) (wrong_position (history_of L s)) WrongPosition (Ok tt) (λ e l. position_yes e (omega (arith, count-back)))
 
-  set_questions_lem : set_questions L h.count (vis (history_of L (record_bytes L sites h))) ≡ Passed
+  set_questions_lem : set_questions L h.count (vis (history_of L (record_bytes L sites h))) ≡ Ok tt
   unfolding set_questions
   set_questions_lem =
       each_yes n (wrong_set L.row n seen) WrongSet _ set_yes
-      ∙ each_yes n (on_ring n seen) OnRing Passed ring_yes
+      ∙ each_yes n (on_ring n seen) OnRing (Ok tt) ring_yes
 
-  pub encoded_passes : questions L (record_bytes L sites h) ≡ Passed
+  pub encoded_passes : questions L (record_bytes L sites h) ≡ Ok tt
   unfolding questions
   encoded_passes =
       ap (λ (r : Reading). and_then r (set_questions L (count_in s) seen)) byte_questions_lem
@@ -260,7 +260,7 @@ module _ (L : Layout) (ok : Sound L) (sites : ℕ) (h : History) (good : WellFor
 -- ---- the record of a well_formed history
 
 pub record Encoded (L : Layout) (sites : ℕ) (h : History) : Type 0 where
-  pub passes : questions L (record_bytes L sites h) ≡ Passed
+  pub passes : questions L (record_bytes L sites h) ≡ Ok tt
   pub agrees : Agree h (history_of L (record_bytes L sites h))
   pub long : length (record_bytes L sites h) ≡ 512 * blocks_for L h.count
   pub most : length (record_bytes L sites h) ≤ longest_record

@@ -2,20 +2,21 @@
 use mathlib.Core.Path.{◌≡◌, refl, sym, ap, ap₂, ◌∙◌}
 use mathlib.Core.Bool.{Bool, true, false, ◌&&◌, and-true, and_assoc, true≢false}
 use mathlib.Core.List.{List, [], ◌∷◌}
-use Prim.Native.Nat.{ℕ, zero, suc, ◌+◌, ◌-◌, ◌<◌, ◌≤◌}
-use native.Mathlib.Nat.{sub-zero, add-zero}
+use Prim.Native.Nat.{ℕ, zero, suc, ◌+◌, ◌-◌, ◌/◌, ◌%◌, min, ◌<◌, ◌≤◌}
 use native.Mathlib.Omega.{arith}
 use borrow.Author.Tests.{eqb-true, ne_eqb}
 use lib.Bits.{bit_or, or_zero_l, or_add_and, and_le_r}
 use lib.Dec.{eqb}
-use lib.ListN.{length, take, length-take}
+use lib.Pointwise.{pointwise}
+use lib.ListN.{length, take, drop, length-take}
+use Rattle.std.specs.List.{fold}
+use Rattle.std.proofs.lemmas.List.{drop_more}
+use Rattle.std.proofs.lemmas.Grind.{div_ceil_times}
+use Rattle.std.proofs.Math.Nat.{div-eq_of_lt-le}
 use Rattle.rows.proofs.Tests.{never, and_left, and_right}
 use Rattle.record.specs.Layout.{EditionName, GCR1, GCR2, GCR3, edition, gcr1, gcr2, gcr3, named_by, edition_of, byte, zeros, same}
 
--- ---- a loop's turn: `all` is the bytes passed, put together, and k - i are left
-
-pub zeros-start : (k : ℕ) (s : List ℕ) (at : ℕ) → zeros k s at ≡ eqb 0 0 && zeros (k - 0) s (at + 0)
-zeros-start k s at = rw (sub-zero, add-zero)
+-- ---- bytes put together
 
 -- numbers put together are 0 where both are
 or-none : (a b : ℕ) → eqb (bit_or a b) 0 ≡ eqb a 0 && eqb b 0
@@ -24,38 +25,32 @@ or-none (suc a) b =
     ne_eqb (bit_or (suc a) b) 0 (λ e. omega (arith, or_add_and (suc a) b, and_le_r (suc a) b))
     ∙ ap (λ (t : Bool). t && eqb b 0) (sym (ne_eqb (suc a) 0 (λ e. omega arith)))
 
-pub zeros-more : (k : ℕ) (s : List ℕ) (at i all : ℕ) → i < k
-    → eqb all 0 && zeros (k - i) s (at + i) ≡ eqb (bit_or all (byte s (at + i))) 0 && zeros (k - (i + 1)) s (at + (i + 1))
+-- the k bytes from `at` on, and a number before them
+put : (k : ℕ) (s : List ℕ) (at a : ℕ) → at + k ≤ length s → eqb (fold bit_or a (take k (drop at s))) 0 ≡ eqb a 0 && zeros k s at
 unfolding zeros
-zeros-more k s at i all h =
-    let left : k - i ≡ suc (k - (i + 1)) = omega arith in
-    let next : at + i + 1 ≡ at + (i + 1) = omega arith in
-    rw (left, next, or-none, and_assoc)
+put zero s at a h = sym (and-true (eqb a 0))
+put (suc k) s at a h =
+    rw (drop_more s at 0 (omega arith)) (put k s (at + 1) (bit_or a (byte s at)) (omega arith) ∙ rw (or-none, and_assoc))
 
-pub zeros_end : (k : ℕ) (s : List ℕ) (at i all : ℕ) → k ≤ i → eqb all 0 && zeros (k - i) s (at + i) ≡ eqb all 0
-unfolding zeros
-zeros_end k s at i all h = let none : k - i ≡ 0 = omega arith in rw (none, and-true)
+pub zeros_put : (k : ℕ) (s : List ℕ) (at : ℕ) → at + k ≤ length s → eqb (fold bit_or 0 (take k (drop at s))) 0 ≡ zeros k s at
+zeros_put k s at h = put k s at 0 h
+
+-- ---- a quotient rounded up
+
+pub rounded_up : (n d : ℕ) → 0 < d → n / d + min 1 (n % d) ≡ (n + (d - 1)) / d
+rounded_up n d h =
+    let b = div_ceil_times n d h in
+    sym (div-eq_of_lt-le {k = n / d + min 1 (n % d)} d {m = n + (d - 1)} (omega (arith, b.1)) (omega (arith, b.0)))
 
 -- ---- the letters
 
--- four bytes compared with four letters, one after the other
-four : (s : List ℕ) (a b c d : ℕ) → 4 ≤ length s
-    → same (take 4 s) (a ∷ b ∷ c ∷ d ∷ []) ≡ eqb (byte s 0) a && (eqb (byte s 1) b && (eqb (byte s 2) c && eqb (byte s 3) d))
+-- as the code compares slices
+pub same_slices : (l m : List ℕ) → pointwise eqb l m ≡ same l m
 unfolding same
-four [] a b c d h = absurd (omega arith)
-four (x ∷ []) a b c d h = absurd (omega arith)
-four (x ∷ y ∷ []) a b c d h = absurd (omega arith)
-four (x ∷ y ∷ z ∷ []) a b c d h = absurd (omega arith)
-four (x ∷ y ∷ z ∷ w ∷ s) a b c d h = ap (λ (t : Bool). eqb x a && (eqb y b && (eqb z c && t))) (and-true (eqb w d))
-
-pub same-four : (s letters : List ℕ) → 4 ≤ length s → length letters ≡ 4
-    → same (take 4 s) letters ≡ eqb (byte s 0) (byte letters 0) && (eqb (byte s 1) (byte letters 1) && (eqb (byte s 2) (byte letters 2) && eqb (byte s 3) (byte letters 3)))
-same-four s [] h k = absurd (omega arith)
-same-four s (a ∷ []) h k = absurd (omega arith)
-same-four s (a ∷ b ∷ []) h k = absurd (omega arith)
-same-four s (a ∷ b ∷ c ∷ []) h k = absurd (omega arith)
-same-four s (a ∷ b ∷ c ∷ d ∷ []) h k = four s a b c d h
-same-four s (a ∷ b ∷ c ∷ d ∷ e ∷ l) h k = absurd (omega arith)
+same_slices [] [] = refl
+same_slices [] (y ∷ m) = refl
+same_slices (x ∷ l) [] = refl
+same_slices (x ∷ l) (y ∷ m) = ap (λ (t : Bool). eqb x y && t) (same_slices l m)
 
 -- two lists that are the same to a test are one
 pub same-one : (l m : List ℕ) → same l m ≡ true → l ≡ m
@@ -83,12 +78,9 @@ pub same-letters : (s t : List ℕ) → take 4 s ≡ take 4 t → edition_of s �
 same-letters s t q = ap (λ (l : List ℕ). edition (named_by l)) q
 
 -- fewer than four letters name none
-short-letters : (s letters : List ℕ) → length s < 4 → length letters ≡ 4 → same (take 4 s) letters ≡ false
+pub short-letters : (s letters : List ℕ) → length s < 4 → length letters ≡ 4 → same (take 4 s) letters ≡ false
 short-letters s letters h k = never (same (take 4 s) letters) (λ t. omega (arith, ap length (same-one (take 4 s) letters t), length-take 4 s))
 
 -- where the letters are no other's it is a `GCR1`
 pub edition-first : (s : List ℕ) → same (take 4 s) gcr3.letters ≡ false → same (take 4 s) gcr2.letters ≡ false → edition_of s ≡ gcr1
 edition-first s t u = rw (t, u)
-
-pub edition-short : (s : List ℕ) → length s < 4 → edition_of s ≡ gcr1
-edition-short s h = edition-first s (short-letters s gcr3.letters h refl) (short-letters s gcr2.letters h refl)

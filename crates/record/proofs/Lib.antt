@@ -1,4 +1,5 @@
 -- Laws that functions' proofs, here and in the crates above, cite.
+pub mod SearchLaws
 pub mod LayoutLaws
 pub mod SumLaws
 pub mod SlotLaws

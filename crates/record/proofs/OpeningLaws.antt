@@ -12,7 +12,7 @@ use Rattle.rows.specs.Lowest.{some}
 use Rattle.rows.specs.Octets.{little, has_byte}
 use Rattle.rows.proofs.Tests.{split, tell, never, and_left, and_right}
 use Rattle.rows.proofs.ByteLaws.{little_lt}
-use Rattle.rows.proofs.LowestLaws.{some_of, some-none, none-some}
+use Rattle.rows.proofs.LowestLaws.{some-none, none-some}
 use Rattle.record.specs.Terms.{Held, none, value, is_value, value_or0, Terms, opening_in, stray, openings_right}
 use Rattle.record.specs.Encode.{little_bytes, set_bytes, figure_bytes, opening_bytes, terms_bytes}
 use Rattle.record.proofs.StoresLaws.{Stands, stands-front, stands-back, stands-append, Bytes, bytes_nil, bytes_append}
@@ -207,23 +207,3 @@ module _ (s : List ℕ) (bytes : Bytes s) (at : ℕ) (right : openings_right s a
           let all : figure_bytes 32 (opening_in s at) ≡ figure_bytes 32 (λ o. opening_in s at (0 + o)) =
           figures_same 32 (opening_in s at) (λ o. opening_in s at (0 + o)) (λ o. let q : o ≡ 0 + o = omega arith in ap (opening_in s at) q) in
           rw (here, all) (figures_read 32 0 refl)
-
--- ---- asked by a loop: none of the objects below k has a value under a clear bit
-
-abbrev pub NoneStray : List ℕ → ℕ → ℕ → Type 0
-NoneStray s at k = (o : ℕ) → o < k → stray s at o ≡ false
-
-module _ (s : List ℕ) (at : ℕ) where
-  pub stray-start : NoneStray s at 0
-  stray-start o l = absurd (omega arith)
-
-  pub stray-more : (k : ℕ) → NoneStray s at k → stray s at k ≡ false → NoneStray s at (k + 1)
-  stray-more k so e o l = elim (dec_lt o k) [ yes b ↦ so o b | no g ↦ let here : o ≡ k = omega arith in rw here e ]
-
-  pub stray-found : (k : ℕ) → k < 32 → stray s at k ≡ true → false ≡ openings_right s at
-  unfolding openings_right
-  stray-found k l e = sym (ap not (some_of 32 (stray s at) k l e))
-
-  pub stray-none : (k : ℕ) → NoneStray s at k → 32 ≤ k → true ≡ openings_right s at
-  unfolding openings_right
-  stray-none k so l = sym (ap not (none-some 32 (stray s at) (λ o b. so o (omega arith))))

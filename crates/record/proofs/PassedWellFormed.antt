@@ -7,10 +7,11 @@ use native.Mathlib.Omega.{arith}
 use borrow.Author.Tests.{leb-true}
 use lib.Dec.{leb}
 use lib.ListN.{take}
+use Rattle.std.specs.Prelude.{Err}
 use Rattle.rows.specs.Octets.{little}
 use Rattle.rows.proofs.Tests.{split, never, and_left, and_right}
 use Rattle.rows.proofs.ByteLaws.{little_lt}
-use Rattle.record.specs.declared.Reading.TheVariants.{WrongPosition}
+use Rattle.record.specs.declared.Refusal.TheVariants.{WrongPosition}
 use Rattle.record.specs.Layout.{Layout, count_in, sites_in, same}
 use Rattle.record.specs.Terms.{none, opening_in}
 use Rattle.record.specs.History.{History, history_of, vis}
@@ -42,7 +43,7 @@ module _ (L : Layout) (s : List ℕ) (right : BytesRight L s) where
   }
 
 -- so do 3 to 7 where 8 is the first that gets a no, as in a record that logs no order
-pub laid_out_at : (L : Layout) (s : List ℕ) (e : ℕ) → Tells L s (WrongPosition e) → LaidOut L s
+pub laid_out_at : (L : Layout) (s : List ℕ) (e : ℕ) → Tells L s (Err (WrongPosition e)) → LaidOut L s
 laid_out_at L s e a = record { length = a.0; checks = a.1; header = a.2; blocks = a.3; slots = a.4 }
 
 -- ---- terms that were read

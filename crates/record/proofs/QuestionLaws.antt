@@ -1,23 +1,21 @@
 -- Laws of questions 3 to 10: in order, what each answer says, and what follows from a yes. Assumes nothing.
-use mathlib.Core.Path.{◌≡◌, refl, sym, ◌∙◌, subst}
+use mathlib.Core.Path.{◌≡◌, refl}
 use mathlib.Core.Logic.{◌≢◌}
 use mathlib.Core.Bool.{Bool, true, false, not, cond, ◌&&◌}
 use mathlib.Core.List.{List}
 use Prim.Native.Nat.{ℕ, ◌+◌, ◌-◌, ◌/◌, ◌%◌, ◌<◌, ◌≤◌}
-use native.Mathlib.Omega.{arith}
 use borrow.Author.Tests.{eq-eqb, ne_eqb, eqb-true, le-leb, lt-leb, leb-true, lt-ltb, ltb-true, not-false}
 use lib.Dec.{eqb, leb, ltb}
 use lib.ListN.{length, take}
+use Rattle.std.specs.Prelude.{Ok, Err}
 use Rattle.rows.specs.Relation.{Rel}
 use Rattle.rows.proofs.Tests.{and_left, and_right}
-use Rattle.record.specs.declared.Reading.{Reading}
-use Rattle.record.specs.declared.Reading.TheVariants.{Passed, ShortWork, WrongLength, WrongCheck, WrongHeader, WrongBlocks, WrongSlot, WrongPosition, WrongSet, OnRing}
+use Rattle.record.specs.declared.Refusal.TheVariants.{ShortWork, WrongLength, WrongCheck, WrongHeader, WrongBlocks, WrongSlot, WrongPosition, WrongSet, OnRing}
 use Rattle.record.specs.Layout.{Layout, byte, count_in, sites_in, slot_at, zeros, same, longest_record, work_words}
-use Rattle.record.specs.Terms.{openings_right}
 use Rattle.record.specs.Blocks.{block_right}
-use Rattle.record.specs.History.{history_of, vis}
+use Rattle.record.specs.History.{history_of}
 use Rattle.record.specs.Slots.{place_right, value_right, times_right, gaps_right, event_right, tail_right, slot_right}
-use Rattle.record.specs.Questions.{number_of, length_right, terms_right, header_right, blocks_right, slots_in, wrong_position, wrong_set, on_ring, ask, ask_each, byte_questions, after_length, set_questions, questions, reading}
+use Rattle.record.specs.Questions.{Reading, length_right, terms_right, header_right, blocks_right, slots_in, wrong_position, wrong_set, on_ring, ask, ask_each, byte_questions, after_length, set_questions, questions, reading}
 use Rattle.record.specs.Answers.{LowestWrong, ChecksRight, SlotsRight, SetsRight, RingsRight, BytesRight}
 use Rattle.record.proofs.AskLaws.{ask_yes, ask_no, ask_into, each_into}
 
@@ -87,15 +85,6 @@ module _ (L : Layout) (s : List ℕ) where
   unfolding blocks_right
   blocks_no n q e = rw (← q) (ne_eqb (length s / 512) (1 + (n + (L.per_block - 1)) / L.per_block) e)
 
-  -- and of block 0 behind the sites, where there are terms and where there are none
-  pub terms_had : L.terms ≡ true → terms_right L s ≡ zeros 1 s 7 && (openings_right s 12 && zeros 364 s 144)
-  unfolding terms_right
-  terms_had e = rw e
-
-  pub terms_lacked : L.terms ≡ false → terms_right L s ≡ zeros 501 s 7
-  unfolding terms_right
-  terms_lacked e = rw e
-
 -- ---- questions 3 to 8, from each on, with an answer `end` where all get a yes
 
 module _ (L : Layout) (s : List ℕ) (end : Reading) where
@@ -106,35 +95,35 @@ module _ (L : Layout) (s : List ℕ) (end : Reading) where
   from_slots = ask_each (slots_in L s) (λ e. not (slot_right L s e)) WrongSlot from_positions
 
   abbrev pub from_blocks : Reading
-  from_blocks = ask (blocks_right L s) WrongBlocks from_slots
+  from_blocks = ask (blocks_right L s) (Err WrongBlocks) from_slots
 
   abbrev pub from_header : Reading
-  from_header = ask (header_right L s) WrongHeader from_blocks
+  from_header = ask (header_right L s) (Err WrongHeader) from_blocks
 
   abbrev pub from_checks : Reading
   from_checks = ask_each (blocks_in s) (λ k. not (block_right s k)) WrongCheck from_header
 
   abbrev pub from_length : Reading
-  from_length = ask (length_right s) WrongLength from_checks
+  from_length = ask (length_right s) (Err WrongLength) from_checks
 
 -- what each answer to them says; the readings at ⊥ are no answers to them
 abbrev pub BytesAnswer : Layout → List ℕ → Reading → Type 0
-BytesAnswer L s Passed = BytesRight L s
-BytesAnswer L s ShortWork = ⊥
-BytesAnswer L s WrongLength = length_right s ≡ false
-BytesAnswer L s (WrongCheck k) = (length_right s ≡ true) × LowestWrong (blocks_in s) (λ b. not (block_right s b)) k
-BytesAnswer L s WrongHeader = (length_right s ≡ true) × ChecksRight s × (header_right L s ≡ false)
-BytesAnswer L s WrongBlocks = (length_right s ≡ true) × ChecksRight s × (header_right L s ≡ true) × (blocks_right L s ≡ false)
-BytesAnswer L s (WrongSlot e) =
+BytesAnswer L s (Ok u) = BytesRight L s
+BytesAnswer L s (Err ShortWork) = ⊥
+BytesAnswer L s (Err WrongLength) = length_right s ≡ false
+BytesAnswer L s (Err (WrongCheck k)) = (length_right s ≡ true) × LowestWrong (blocks_in s) (λ b. not (block_right s b)) k
+BytesAnswer L s (Err WrongHeader) = (length_right s ≡ true) × ChecksRight s × (header_right L s ≡ false)
+BytesAnswer L s (Err WrongBlocks) = (length_right s ≡ true) × ChecksRight s × (header_right L s ≡ true) × (blocks_right L s ≡ false)
+BytesAnswer L s (Err (WrongSlot e)) =
     (length_right s ≡ true) × ChecksRight s × (header_right L s ≡ true) × (blocks_right L s ≡ true) × LowestWrong (slots_in L s) (λ d. not (slot_right L s d)) e
-BytesAnswer L s (WrongPosition e) =
+BytesAnswer L s (Err (WrongPosition e)) =
     (length_right s ≡ true) × ChecksRight s × (header_right L s ≡ true) × (blocks_right L s ≡ true) × SlotsRight L s
     × LowestWrong (count_in s) (wrong_position (history_of L s)) e
-BytesAnswer L s (WrongSet e) = ⊥
-BytesAnswer L s (OnRing e) = ⊥
+BytesAnswer L s (Err (WrongSet e)) = ⊥
+BytesAnswer L s (Err (OnRing e)) = ⊥
 
 module _ (L : Layout) (s : List ℕ) where
-  pub bytes_asked : byte_questions L s ≡ from_length L s Passed
+  pub bytes_asked : byte_questions L s ≡ from_length L s (Ok tt)
   unfolding byte_questions after_length
   bytes_asked = refl
 
@@ -142,89 +131,45 @@ module _ (L : Layout) (s : List ℕ) where
   bytes_answered =
       let P : Reading → Type 0 = BytesAnswer L s in
       rw bytes_asked
-      (ask_into P (length_right s) WrongLength (from_checks L s Passed) (λ f. f) (λ three.
-      each_into P (blocks_in s) (λ k. not (block_right s k)) WrongCheck (from_header L s Passed) (λ k f. (three, f)) (λ four'.
+      (ask_into P (length_right s) (Err WrongLength) (from_checks L s (Ok tt)) (λ f. f) (λ three.
+      each_into P (blocks_in s) (λ k. not (block_right s k)) WrongCheck (from_header L s (Ok tt)) (λ k f. (three, f)) (λ four'.
       let four : ChecksRight s = λ k h. not-false (block_right s k) (four' k h) in
-      ask_into P (header_right L s) WrongHeader (from_blocks L s Passed) (λ f. (three, four, f)) (λ five.
-      ask_into P (blocks_right L s) WrongBlocks (from_slots L s Passed) (λ f. (three, four, five, f)) (λ six.
-      each_into P (slots_in L s) (λ e. not (slot_right L s e)) WrongSlot (from_positions L s Passed) (λ e f. (three, four, five, six, f)) (λ seven'.
+      ask_into P (header_right L s) (Err WrongHeader) (from_blocks L s (Ok tt)) (λ f. (three, four, f)) (λ five.
+      ask_into P (blocks_right L s) (Err WrongBlocks) (from_slots L s (Ok tt)) (λ f. (three, four, five, f)) (λ six.
+      each_into P (slots_in L s) (λ e. not (slot_right L s e)) WrongSlot (from_positions L s (Ok tt)) (λ e f. (three, four, five, six, f)) (λ seven'.
       let seven : SlotsRight L s = λ e h. not-false (slot_right L s e) (seven' e h) in
-      each_into P (count_in s) (wrong_position (history_of L s)) WrongPosition Passed (λ e f. (three, four, five, six, seven, f)) (λ eight.
+      each_into P (count_in s) (wrong_position (history_of L s)) WrongPosition (Ok tt) (λ e f. (three, four, five, six, seven, f)) (λ eight.
       record { length = three; checks = four; header = five; blocks = six; slots = seven; positions = eight })))))))
-
-  -- the same of an answer b, by its number
-  pub bytes_right : (b : Reading) → b ≡ byte_questions L s → number_of b ≡ 0 → BytesRight L s
-  bytes_right b q e = go b (rw q bytes_answered) e
-    where
-      go : (b : Reading) → BytesAnswer L s b → number_of b ≡ 0 → BytesRight L s
-      go Passed a e = a
-      go ShortWork a e = absurd a
-      go WrongLength a e = absurd (omega arith)
-      go (WrongCheck k) a e = absurd (omega arith)
-      go WrongHeader a e = absurd (omega arith)
-      go WrongBlocks a e = absurd (omega arith)
-      go (WrongSlot d) a e = absurd (omega arith)
-      go (WrongPosition d) a e = absurd (omega arith)
-      go (WrongSet d) a e = absurd a
-      go (OnRing d) a e = absurd a
 
 -- ---- questions 9 and 10
 
 abbrev pub SetsAnswer : Layout → ℕ → Rel → Reading → Type 0
-SetsAnswer L n v Passed = SetsRight L n v × RingsRight n v
-SetsAnswer L n v ShortWork = ⊥
-SetsAnswer L n v WrongLength = ⊥
-SetsAnswer L n v (WrongCheck k) = ⊥
-SetsAnswer L n v WrongHeader = ⊥
-SetsAnswer L n v WrongBlocks = ⊥
-SetsAnswer L n v (WrongSlot e) = ⊥
-SetsAnswer L n v (WrongPosition e) = ⊥
-SetsAnswer L n v (WrongSet e) = LowestWrong n (wrong_set L.row n v) e
-SetsAnswer L n v (OnRing e) = SetsRight L n v × LowestWrong n (on_ring n v) e
+SetsAnswer L n v (Ok u) = SetsRight L n v × RingsRight n v
+SetsAnswer L n v (Err ShortWork) = ⊥
+SetsAnswer L n v (Err WrongLength) = ⊥
+SetsAnswer L n v (Err (WrongCheck k)) = ⊥
+SetsAnswer L n v (Err WrongHeader) = ⊥
+SetsAnswer L n v (Err WrongBlocks) = ⊥
+SetsAnswer L n v (Err (WrongSlot e)) = ⊥
+SetsAnswer L n v (Err (WrongPosition e)) = ⊥
+SetsAnswer L n v (Err (WrongSet e)) = LowestWrong n (wrong_set L.row n v) e
+SetsAnswer L n v (Err (OnRing e)) = SetsRight L n v × LowestWrong n (on_ring n v) e
 
 module _ (L : Layout) (n : ℕ) (v : Rel) where
   pub sets-answered : SetsAnswer L n v (set_questions L n v)
   unfolding set_questions
   sets-answered =
       let P : Reading → Type 0 = SetsAnswer L n v in
-      each_into P n (wrong_set L.row n v) WrongSet (ask_each n (on_ring n v) OnRing Passed) (λ e f. f) (λ nine.
-      each_into P n (on_ring n v) OnRing Passed (λ e f. (nine, f)) (λ ten. (nine, ten)))
-
--- ---- the number of a refusal
-
-late : (r : Reading) → (r ≡ ShortWork → ⊥) → (number_of r ≡ 0 → ⊥) → 3 ≤ number_of r
-late Passed f g = absurd (g refl)
-late ShortWork f g = absurd (f refl)
-late WrongLength f g = omega arith
-late (WrongCheck k) f g = omega arith
-late WrongHeader f g = omega arith
-late WrongBlocks f g = omega arith
-late (WrongSlot e) f g = omega arith
-late (WrongPosition e) f g = omega arith
-late (WrongSet e) f g = omega arith
-late (OnRing e) f g = omega arith
-
-pub bytes_late : (L : Layout) (s : List ℕ) (b : Reading) → b ≡ byte_questions L s → (number_of b ≡ 0 → ⊥) → 3 ≤ number_of b
-bytes_late L s b q e = late b (λ z. subst (BytesAnswer L s) (sym q ∙ z) (bytes_answered L s)) e
-
--- ---- one after the other
-
-module _ (L : Layout) (s : List ℕ) (b : Reading) (q : b ≡ byte_questions L s) where
-  pub questions-refused : (number_of b ≡ 0 → ⊥) → b ≡ questions L s
-  unfolding questions
-  questions-refused e = rw (← q, ne_eqb (number_of b) 0 e)
-
-  pub questions-passed : number_of b ≡ 0 → questions L s ≡ set_questions L (count_in s) (vis (history_of L s))
-  unfolding questions
-  questions-passed e = rw (← q, eq-eqb (number_of b) 0 e)
+      each_into P n (wrong_set L.row n v) WrongSet (ask_each n (on_ring n v) OnRing (Ok tt)) (λ e f. f) (λ nine.
+      each_into P n (on_ring n v) OnRing (Ok tt) (λ e f. (nine, f)) (λ ten. (nine, ten)))
 
 -- ---- after question 1
 
 module _ (L : Layout) (w : ℕ) (s : List ℕ) where
-  pub reading-short : w < work_words → reading L w s ≡ ShortWork
+  pub reading-short : w < work_words → reading L w s ≡ Err ShortWork
   unfolding reading
-  reading-short h = ask_no (leb work_words w) ShortWork (questions L s) (lt-leb work_words w h)
+  reading-short h = ask_no (leb work_words w) (Err ShortWork) (questions L s) (lt-leb work_words w h)
 
   pub reading-long : work_words ≤ w → reading L w s ≡ questions L s
   unfolding reading
-  reading-long h = ask_yes (leb work_words w) ShortWork (questions L s) (le-leb work_words w h)
+  reading-long h = ask_yes (leb work_words w) (Err ShortWork) (questions L s) (le-leb work_words w h)

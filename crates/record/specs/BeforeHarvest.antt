@@ -1,11 +1,10 @@
 -- What was asked of records before there were harvest records (Change 8): two editions, of 256 events and slots of 64 bytes, and no record above 19,456 bytes.
 -- What moved is written out here; what each question after 3 asks, and what a record says, are the definitions of today, of which no word moved then.
-use Rattle.std.specs.Prelude.{◌≡◌, Bool, false, cond, ◌&&◌, List, [], ◌∷◌, ℕ, ◌%◌, ◌≤◌, eqb, leb, length, take}
+use Rattle.std.specs.Prelude.{◌≡◌, Bool, false, cond, ◌&&◌, List, [], ◌∷◌, ℕ, ◌%◌, ◌≤◌, eqb, leb, length, take, Err}
 use Rattle.record.specs.Layout.{Layout, gcr3, count_in, same, work_words}
 use Rattle.record.specs.History.{history_of, vis}
-use Rattle.record.specs.Questions.{ask, after_length, set_questions, and_then, packed_reading}
-use Rattle.record.specs.declared.Reading.{Reading}
-use Rattle.record.specs.declared.Reading.TheVariants.{WrongLength}
+use Rattle.record.specs.Questions.{Reading, ask, after_length, set_questions, and_then, packed_reading}
+use Rattle.record.specs.declared.Refusal.TheVariants.{WrongLength}
 
 abbrev pub longest_before : ℕ
 longest_before = 19456
@@ -23,7 +22,7 @@ length_before s = leb 512 (length s) && (leb (length s) longest_before && eqb (l
 
 -- 3 to 10
 abbrev pub questions_in : Layout → List ℕ → Reading
-questions_in L s = and_then (ask (length_before s) WrongLength (after_length L s)) (set_questions L (count_in s) (vis (history_of L s)))
+questions_in L s = and_then (ask (length_before s) (Err WrongLength) (after_length L s)) (set_questions L (count_in s) (vis (history_of L s)))
 
 abbrev pub questions_before : List ℕ → Reading
 questions_before s = questions_in (edition_before s) s

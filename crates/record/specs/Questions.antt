@@ -1,5 +1,5 @@
 -- 'Questions asked of a record': 1 and 3 to 10, in order; the first no gives its number and a place.
-use Rattle.std.specs.Prelude.{Bool, true, false, not, cond, ◌&&◌, ◌||◌, List, ℕ, ◌+◌, ◌*◌, ◌-◌, ◌/◌, ◌%◌, eqb, leb, length, take}
+use Rattle.std.specs.Prelude.{Bool, true, false, not, cond, ◌&&◌, ◌||◌, List, ℕ, ◌+◌, ◌*◌, ◌-◌, ◌/◌, ◌%◌, eqb, leb, length, take, ⊤, Result, Ok, Err}
 use Rattle.packed.specs.Packed.{packed_refusal}
 use Rattle.rows.specs.Lowest.{lowest, some}
 use Rattle.rows.specs.Relation.{Rel, reaches}
@@ -8,33 +8,44 @@ use Rattle.record.specs.Terms.{openings_right}
 use Rattle.record.specs.Blocks.{block_right}
 use Rattle.record.specs.History.{History, history_of, vis}
 use Rattle.record.specs.Slots.{slot_right}
-use Rattle.record.specs.declared.Reading.{Reading}
-use Rattle.record.specs.declared.Reading.TheVariants.{Passed, ShortWork, WrongLength, WrongCheck, WrongHeader, WrongBlocks, WrongSlot, WrongPosition, WrongSet, OnRing}
+use Rattle.record.specs.declared.Refusal.{Refusal}
+use Rattle.record.specs.declared.Refusal.TheVariants.{ShortWork, WrongLength, WrongCheck, WrongHeader, WrongBlocks, WrongSlot, WrongPosition, WrongSet, OnRing}
+
+-- how a record was read: it passed, or the first question that got a no
+abbrev pub Reading : Type 0
+Reading = Result ⊤ Refusal
+
+-- a refusal's number and its place
+abbrev pub refusal_number : Refusal → ℕ
+refusal_number ShortWork = 1
+refusal_number WrongLength = 3
+refusal_number (WrongCheck k) = 4
+refusal_number WrongHeader = 5
+refusal_number WrongBlocks = 6
+refusal_number (WrongSlot e) = 7
+refusal_number (WrongPosition e) = 8
+refusal_number (WrongSet e) = 9
+refusal_number (OnRing e) = 10
+
+abbrev pub refusal_place : Refusal → ℕ
+refusal_place ShortWork = 0
+refusal_place WrongLength = 0
+refusal_place (WrongCheck k) = k
+refusal_place WrongHeader = 0
+refusal_place WrongBlocks = 0
+refusal_place (WrongSlot e) = e
+refusal_place (WrongPosition e) = e
+refusal_place (WrongSet e) = e
+refusal_place (OnRing e) = e
 
 -- a reading's number, 0 where no question got a no, and its place
 abbrev pub number_of : Reading → ℕ
-number_of Passed = 0
-number_of ShortWork = 1
-number_of WrongLength = 3
-number_of (WrongCheck k) = 4
-number_of WrongHeader = 5
-number_of WrongBlocks = 6
-number_of (WrongSlot e) = 7
-number_of (WrongPosition e) = 8
-number_of (WrongSet e) = 9
-number_of (OnRing e) = 10
+number_of (Ok u) = 0
+number_of (Err r) = refusal_number r
 
 abbrev pub place_of : Reading → ℕ
-place_of Passed = 0
-place_of ShortWork = 0
-place_of WrongLength = 0
-place_of (WrongCheck k) = k
-place_of WrongHeader = 0
-place_of WrongBlocks = 0
-place_of (WrongSlot e) = e
-place_of (WrongPosition e) = e
-place_of (WrongSet e) = e
-place_of (OnRing e) = e
+place_of (Ok u) = 0
+place_of (Err r) = refusal_place r
 
 -- 3: from 512 bytes to the longest record's, and a multiple of 512
 unfoldable pub length_right : List ℕ → Bool
@@ -76,25 +87,30 @@ ask true refusal next = next
 ask false refusal next = refusal
 
 -- one asked of each of n
-abbrev pub ask_each : ℕ → (ℕ → Bool) → (ℕ → Reading) → Reading → Reading
-ask_each n wrong refusal next = ask (not (some n wrong)) (refusal (lowest n wrong)) next
+abbrev pub ask_each : ℕ → (ℕ → Bool) → (ℕ → Refusal) → Reading → Reading
+ask_each n wrong refusal next = ask (not (some n wrong)) (Err (refusal (lowest n wrong))) next
 
 -- questions 4 to 8, of a record whose length is right
 unfoldable pub after_length : Layout → List ℕ → Reading
 after_length L s =
     ask_each (length s / 512) (λ k. not (block_right s k)) WrongCheck
-    (ask (header_right L s) WrongHeader
-    (ask (blocks_right L s) WrongBlocks
+    (ask (header_right L s) (Err WrongHeader)
+    (ask (blocks_right L s) (Err WrongBlocks)
     (ask_each (slots_in L s) (λ e. not (slot_right L s e)) WrongSlot
-    (ask_each (count_in s) (wrong_position (history_of L s)) WrongPosition Passed))))
+    (ask_each (count_in s) (wrong_position (history_of L s)) WrongPosition (Ok tt)))))
 
 -- and 3 before them: those which are asked of the bytes alone
 unfoldable pub byte_questions : Layout → List ℕ → Reading
-byte_questions L s = ask (length_right s) WrongLength (after_length L s)
+byte_questions L s = ask (length_right s) (Err WrongLength) (after_length L s)
 
 -- and 9 and 10, of n events and their vis
 unfoldable pub set_questions : Layout → ℕ → Rel → Reading
-set_questions L n v = ask_each n (wrong_set L.row n v) WrongSet (ask_each n (on_ring n v) OnRing Passed)
+set_questions L n v = ask_each n (wrong_set L.row n v) WrongSet (ask_each n (on_ring n v) OnRing (Ok tt))
+
+-- what comes after a reading that passed, and what a refusal is to another call
+abbrev pub if_passed : {A : Type 0} → Reading → (Refusal → A) → A → A
+if_passed (Ok u) refused next = next
+if_passed (Err r) refused next = refused r
 
 abbrev pub and_then : Reading → Reading → Reading
 and_then r next = cond (eqb (number_of r) 0) next r
@@ -105,7 +121,7 @@ questions L s = and_then (byte_questions L s) (set_questions L (count_in s) (vis
 
 -- the whole reading, with a work slice of w words
 unfoldable pub reading : Layout → ℕ → List ℕ → Reading
-reading L w s = ask (leb work_words w) ShortWork (questions L s)
+reading L w s = ask (leb work_words w) (Err ShortWork) (questions L s)
 
 -- a reading as a host's number: 0 where it passed
 unfoldable pub packed_reading : Reading → ℕ

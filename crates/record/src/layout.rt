@@ -18,12 +18,8 @@ pub const GCR1: Edition = Edition {
 
 pub const GCR2: Edition = Edition {
     letters: *b"GCR2",
-    slot: 64,
-    rest: 128,
-    slots: 7,
-    row: 4,
-    events: 256,
     terms: true,
+    ..GCR1
 };
 
 pub const GCR3: Edition = Edition {
@@ -65,9 +61,10 @@ pub fn next_slot(ed: Edition, at: usize) -> usize
 {
     let block = at + ed.rest;
     if block % 512 == 0 {
-        return block;
+        block
+    } else {
+        at + ed.slot
     }
-    at + ed.slot
 }
 
 // How many blocks a record of n events has.
@@ -75,17 +72,13 @@ pub fn blocks(ed: Edition, n: usize) -> usize
     requires { (0 < ed.slots) × (n + ed.slots < 2 ^ 64) }
     ensures { (L : Layout) → ed ≡ numbers_of L → result ≡ blocks_for L n }
 {
-    1 + (n + (ed.slots - 1)) / ed.slots
+    1 + n.div_ceil(ed.slots)
 }
 
-// Whether the k bytes from `at` on are zero.
+// Whether the k bytes from `at` on are zero. They are put together and tested once, which compiles to whole vectors; a test of each does not.
 pub fn is_zero(s: &[u8], at: usize, k: usize) -> bool
     requires { at + k ≤ length s.now }
     ensures { result ≡ zeros k s.now at }
 {
-    let mut all = 0;
-    for i in 0..k {
-        all |= s[at + i];
-    }
-    all == 0
+    s[at..at + k].iter().fold(0, |all, byte| all | byte) == 0
 }

@@ -6,12 +6,11 @@ pub mod openings;
 pub mod sums;
 
 ghost use Rattle.std.specs.Prelude.{◌≡◌};
-ghost use Rattle.record.specs.Questions.{number_of, place_of};
+ghost use Rattle.record.specs.Questions.{number_of, place_of, refusal_number, refusal_place};
 
-// How a record was read: passed, or the first question that got a no, with its place.
+// The first question that got a no, with its place.
 #[derive(Clone, Copy)]
-pub enum Reading {
-    Passed,
+pub enum Refusal {
     ShortWork,
     WrongLength,
     WrongCheck(usize),
@@ -36,7 +35,8 @@ pub struct Edition {
     pub terms: bool,
 }
 
-// The fields of a slot; its visible set is a row beside it.
+// The fields of a slot; its visible set is a row beside it. `present` and `value` are no Option: a writer promises the bytes of every Slot (SlotOf), of one with
+// a value that is not present too.
 #[derive(Clone, Copy)]
 pub struct Slot {
     pub write: bool,
@@ -50,21 +50,52 @@ pub struct Slot {
     pub returned: u64,
 }
 
-// The question that got a no, or 0.
+// How a record was read: it passed, or a question got a no.
+pub type Reading = Result<(), Refusal>;
+
+impl Refusal {
+    // The question's number.
+    pub fn number(self) -> usize
+        ensures { result ≡ refusal_number self }
+    {
+        match self {
+            Refusal::ShortWork => 1,
+            Refusal::WrongLength => 3,
+            Refusal::WrongCheck(_) => 4,
+            Refusal::WrongHeader => 5,
+            Refusal::WrongBlocks => 6,
+            Refusal::WrongSlot(_) => 7,
+            Refusal::WrongPosition(_) => 8,
+            Refusal::WrongSet(_) => 9,
+            Refusal::OnRing(_) => 10,
+        }
+    }
+
+    // Its place, 0 where the question has none.
+    pub fn place(self) -> usize
+        ensures { result ≡ refusal_place self }
+    {
+        match self {
+            Refusal::WrongCheck(at)
+            | Refusal::WrongSlot(at)
+            | Refusal::WrongPosition(at)
+            | Refusal::WrongSet(at)
+            | Refusal::OnRing(at) => at,
+            Refusal::ShortWork
+            | Refusal::WrongLength
+            | Refusal::WrongHeader
+            | Refusal::WrongBlocks => 0,
+        }
+    }
+}
+
+// The number of the question that got a no, or 0.
 pub fn number(r: Reading) -> usize
     ensures { result ≡ number_of r }
 {
     match r {
-        Reading::Passed => 0,
-        Reading::ShortWork => 1,
-        Reading::WrongLength => 3,
-        Reading::WrongCheck(_) => 4,
-        Reading::WrongHeader => 5,
-        Reading::WrongBlocks => 6,
-        Reading::WrongSlot(_) => 7,
-        Reading::WrongPosition(_) => 8,
-        Reading::WrongSet(_) => 9,
-        Reading::OnRing(_) => 10,
+        Ok(()) => 0,
+        Err(refusal) => refusal.number(),
     }
 }
 
@@ -73,15 +104,7 @@ pub fn place(r: Reading) -> usize
     ensures { result ≡ place_of r }
 {
     match r {
-        Reading::Passed => 0,
-        Reading::ShortWork => 0,
-        Reading::WrongLength => 0,
-        Reading::WrongCheck(k) => k,
-        Reading::WrongHeader => 0,
-        Reading::WrongBlocks => 0,
-        Reading::WrongSlot(e) => e,
-        Reading::WrongPosition(e) => e,
-        Reading::WrongSet(e) => e,
-        Reading::OnRing(e) => e,
+        Ok(()) => 0,
+        Err(refusal) => refusal.place(),
     }
 }

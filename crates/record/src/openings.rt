@@ -9,10 +9,7 @@ fn is_stray(s: &[u8], at: usize, o: usize) -> bool
     requires { (at + 132 ≤ length s.now) × (o < 32) }
     ensures { result ≡ stray s.now at o }
 {
-    if octets::test(s, at, o) {
-        return false;
-    }
-    octets::u32_at(s, at + 4 + 4 * o) != 0
+    !octets::test(s, at, o) && octets::u32_at(s, at + 4 + 4 * o) != 0
 }
 
 // Whether no object has one, in the openings that start at `at`.
@@ -20,10 +17,5 @@ pub fn hold(s: &[u8], at: usize) -> bool
     requires { at + 132 ≤ length s.now }
     ensures { result ≡ openings_right s.now at }
 {
-    for o in 0..32 {
-        if is_stray(s, at, o) {
-            return false;
-        }
-    }
-    true
+    (0..32).all(|o| !is_stray(s, at, o))
 }

@@ -9,10 +9,10 @@ use lib.ListN.{length, take, drop}
 use lib.Seq.{take_at, drop_at}
 use borrow.Author.Tests.{eq-eqb, ne_eqb, eqb-true, leb-true}
 use Rattle.rows.specs.Count.{sum, how_many}
-use Rattle.rows.specs.Row.{has, only_first, row_at}
+use Rattle.rows.specs.Row.{has, only_first}
 use Rattle.rows.proofs.Tests.{and_left, and_right}
 use Rattle.rows.proofs.CountLaws.{sum_same, many_same, many_past}
-use Rattle.record.specs.Layout.{store_edition, store_layout, edition_of, byte, most_events, row_words, longest_record}
+use Rattle.record.specs.Layout.{store_edition, store_layout, edition_of, byte, most_events, longest_record}
 use Rattle.record.specs.Terms.{opening_in, openings_right}
 use Rattle.record.specs.History.{History, under}
 use Rattle.record.specs.Encode.{little_bytes, blocks_for, opening_bytes, terms_bytes, record_bytes}
@@ -28,10 +28,13 @@ use Rattle.record.specs.Questions.{ask}
 use Rattle.store.specs.Rules.{answers}
 use Rattle.store.specs.Recorded.{recorded, store_record}
 use Rattle.store.specs.Outstanding.{lacks, outstanding, AddsUp, ToldAddsUp}
-use Rattle.store.specs.Rehearsal.{rehearsal_refusal, terms_of, store_after, call_count, answer_in, record_of, record_after, answers_after, length_after, outstanding_after}
-use Rattle.calls.specs.Lent.{Lent, count_in, puts_in, store_in}
+use Rattle.std.specs.Prelude.{Err}
+use Rattle.store.specs.declared.Unrehearsed.{Unrehearsed}
+use Rattle.store.specs.declared.Unrehearsed.TheVariants.{Sites, Script, ShortRecord, ShortAnswers, Openings}
+use Rattle.store.specs.Rehearsal.{unrehearsed_number, in_numbers, rehearsal_refusal, terms_of, store_after, call_count, answer_in, record_of, record_after, answers_after, length_after, outstanding_after}
+use Rattle.calls.specs.Lent.{Lent, row_in, store_in}
 use Rattle.calls.proofs.LentLaws.{store-count, site-at, put-told}
-use Rattle.rehearsal.specs.Runs.{Ran, Recordable}
+use Rattle.rehearsal.specs.Runs.{Ran, Ordered}
 use Rattle.rehearsal.proofs.ImageLaws.{events_worded}
 use Rattle.store.specs.Demand.{Rehearses}
 use Rattle.store.proofs.RunKeeps.{every-run}
@@ -61,50 +64,45 @@ module _ (n : ℕ) (n≤8 : n ≤ 8) (openings script out out' : List ℕ) (z : 
   keeps : StoreInv n (terms_of openings) st.event st
   keeps = rw ran.store (every-run n n≤8 (terms_of openings) (calls_of script))
 
-  few : count_in z.cells ≤ most_events
+  few : z.count ≤ most_events
   few = omega (arith, store-few n openings script, ap (λ (s : Store). s.count) left, store-count (terms_of openings) z)
 
   -- so its record can be written
-  pub ran_recordable : Recordable z.known z.sees z.cells z.events
-  ran_recordable =
-      let counted : (e : ℕ) → e < count_in z.cells → e < st.count = λ e l. rw (store-count (terms_of openings) z) l in
+  pub ran_ordered : Ordered z.count z.events
+  ran_ordered =
+      let counted : (e : ℕ) → e < z.count → e < st.count = λ e l. rw (store-count (terms_of openings) z) l in
       let words = events_worded (terms_of openings) z in
       record {
-        rows = ran.sized.known;
-        seen = ran.sized.sees;
-        count = ran.sized.cells;
-        ordered = record {
-          long = ran.sized.events;
-          few = few;
-          order = λ e l. omega (arith, (words e l).0, (words e l).1, (sizes n n≤8 st keeps).stamp e (counted e l), store-count (terms_of openings) z);
-          distinct = λ d e k l q. key_once n n≤8 st keeps d e (counted d k) (counted e l) ((words d k).0 ∙ q ∙ sym (words e l).0);
-        };
+        long = ran.sized.events;
+        few = few;
+        order = λ e l. omega (arith, (words e l).0, (words e l).1, (sizes n n≤8 st keeps).stamp e (counted e l), store-count (terms_of openings) z);
+        distinct = λ d e k l q. key_once n n≤8 st keeps d e (counted d k) (counted e l) ((words d k).0 ∙ q ∙ sym (words e l).0);
       }
 
   -- what site u lacks, by the rows of puts and of what it knows
-  lacks-right : (u x : ℕ) → u < n → only_first (puts_in z.known) (row_at z.known row_words u) x ≡ lacks st u x
+  lacks-right : (u x : ℕ) → u < n → only_first z.puts (row_in z.known u) x ≡ lacks st u x
   lacks-right u x l =
       ap₂ (λ (p k : Bool). p && not k) (sym (put-told (terms_of openings) z ran.clear x)) (sym (ap (λ (a : Site). a.known x) (site-at (terms_of openings) z u (omega arith))))
 
-  pub outstanding-right : sum n (λ u. how_many most_events (only_first (puts_in z.known) (row_at z.known row_words u))) ≡ outstanding n (store_after n openings script)
+  pub outstanding-right : sum n (λ u. how_many most_events (only_first z.puts (row_in z.known u))) ≡ outstanding n (store_after n openings script)
   unfolding outstanding
   outstanding-right =
-      let k : ℕ = count_in z.cells in
+      let k : ℕ = z.count in
       let room : most_events ≡ k + (most_events - k) = omega (arith, few) in
       rw (← left)
-      (sum_same n (λ u. how_many most_events (only_first (puts_in z.known) (row_at z.known row_words u))) (λ u. how_many st.count (lacks st u))
-      (λ u l. ap (λ (m : ℕ). how_many m (only_first (puts_in z.known) (row_at z.known row_words u))) room
-      ∙ many_past k (most_events - k) (only_first (puts_in z.known) (row_at z.known row_words u))
-      (λ x m. ap (λ (p : Bool). p && not (has (row_at z.known row_words u) x)) (ran.clear.puts x m))
-      ∙ many_same k (only_first (puts_in z.known) (row_at z.known row_words u)) (lacks st u) (λ x m. lacks-right u x l)
+      (sum_same n (λ u. how_many most_events (only_first z.puts (row_in z.known u))) (λ u. how_many st.count (lacks st u))
+      (λ u l. ap (λ (m : ℕ). how_many m (only_first z.puts (row_in z.known u))) room
+      ∙ many_past k (most_events - k) (only_first z.puts (row_in z.known u))
+      (λ x m. ap (λ (p : Bool). p && not (has (row_in z.known u) x)) (ran.clear.puts x m))
+      ∙ many_same k (only_first z.puts (row_in z.known u)) (lacks st u) (λ x m. lacks-right u x l)
       ∙ ap (λ (m : ℕ). how_many m (lacks st u)) (sym (store-count (terms_of openings) z))))
 
-  -- the record of the store that the slices stand for is the script's
+  -- the record of the store that the arrays stand for is the script's
   pub record_right : store_record store_layout n (terms_of openings) st ≡ record_of n openings script
   unfolding record_of
   record_right = ap (store_record store_layout n (terms_of openings)) left
 
-  pub record_long : length (record_of n openings script) ≡ 512 * blocks_for store_layout (count_in z.cells)
+  pub record_long : length (record_of n openings script) ≡ 512 * blocks_for store_layout z.count
   unfolding record_of store_record recorded
   record_long =
       length_record store_layout store-sound (under (terms_of openings) (recorded (store_after n openings script))) n
@@ -173,11 +171,18 @@ record_opened n openings script rec ans ok opens j l =
 
 -- ---- the demand
 
+number-some : (u : Unrehearsed) → unrehearsed_number u ≡ 0 → ⊥
+number-some Sites e = omega arith
+number-some Script e = omega arith
+number-some ShortRecord e = omega arith
+number-some ShortAnswers e = omega arith
+number-some Openings e = omega arith
+
 module _ (n : ℕ) (openings script rec ans : List ℕ) where
-  pub refused_rehearses : (number : ℕ) → number ≡ rehearsal_refusal n openings script rec ans → (number ≡ 0 → ⊥)
-      → Rehearses n openings script rec ans rec ans (record { number = number; length = 0; outstanding = 0 })
+  pub refused_rehearses : (u : Unrehearsed) → unrehearsed_number u ≡ rehearsal_refusal n openings script rec ans → Rehearses n openings script rec ans rec ans (in_numbers (Err u))
   unfolding record_after answers_after length_after outstanding_after
-  refused_rehearses number e some =
+  refused_rehearses u e =
+      let some : unrehearsed_number u ≡ 0 → ⊥ = number-some u in
       let refused : eqb (rehearsal_refusal n openings script rec ans) 0 ≡ false = ne_eqb (rehearsal_refusal n openings script rec ans) 0 (λ z. some (e ∙ z)) in
       record {
         number = e;
@@ -214,19 +219,19 @@ module _ (n : ℕ) (openings script rec ans : List ℕ) where
     script_told = every_copy_told n n≤8 (terms_of openings) script
 
     pub accepted_rehearses : (rec' ans' : List ℕ) (z : Lent) → Ran n (terms_of openings) script ans ans' z → (long copies : ℕ)
-        → rec' ≡ store_record store_layout n (terms_of openings) (store_in (terms_of openings) z) ++ drop (512 * blocks_for store_layout (count_in z.cells)) rec
-        → long ≡ 512 * blocks_for store_layout (count_in z.cells)
-        → copies ≡ sum n (λ u. how_many most_events (only_first (puts_in z.known) (row_at z.known row_words u)))
+        → rec' ≡ store_record store_layout n (terms_of openings) (store_in (terms_of openings) z) ++ drop (512 * blocks_for store_layout z.count) rec
+        → long ≡ 512 * blocks_for store_layout z.count
+        → copies ≡ sum n (λ u. how_many most_events (only_first z.puts (row_in z.known u)))
         → Rehearses n openings script rec ans rec' ans' (record { number = 0; length = long; outstanding = copies })
     unfolding record_after answers_after length_after outstanding_after
     accepted_rehearses rec' ans' z ran long copies recorded lasts left =
         let answered = ran.answered in
         let same : store_record store_layout n (terms_of openings) (store_in (terms_of openings) z) ≡ record_of n openings script = record_right n n≤8 openings script ans ans' z ran in
-        let sized : length (record_of n openings script) ≡ 512 * blocks_for store_layout (count_in z.cells) = record_long n n≤8 openings script ans ans' z ran in
+        let sized : length (record_of n openings script) ≡ 512 * blocks_for store_layout z.count = record_long n n≤8 openings script ans ans' z ran in
         let yes : eqb (rehearsal_refusal n openings script rec ans) 0 ≡ true = eq-eqb (rehearsal_refusal n openings script rec ans) 0 ok in
         let right = accepted n openings script rec ans ok in
-        let whole : rec' ≡ record_of n openings script ++ drop (512 * blocks_for store_layout (count_in z.cells)) rec =
-        recorded ∙ ap (λ (s : List ℕ). s ++ drop (512 * blocks_for store_layout (count_in z.cells)) rec) same in
+        let whole : rec' ≡ record_of n openings script ++ drop (512 * blocks_for store_layout z.count) rec =
+        recorded ∙ ap (λ (s : List ℕ). s ++ drop (512 * blocks_for store_layout z.count) rec) same in
         let long-right : length (record_of n openings script) ≡ long = sized ∙ sym lasts in
         let rest : List ℕ = drop (length script) ans in
         let calls : length script ≡ 8 * call_count script = omega (arith, right.whole) in
@@ -238,9 +243,9 @@ module _ (n : ℕ) (openings script rec ans : List ℕ) where
           answered = rw yes answered;
           copies = rw yes counted;
           kept = λ some. absurd (some refl);
-          front = λ q. ap (take long) whole ∙ take_at (record_of n openings script) (drop (512 * blocks_for store_layout (count_in z.cells)) rec) long long-right;
+          front = λ q. ap (take long) whole ∙ take_at (record_of n openings script) (drop (512 * blocks_for store_layout z.count) rec) long long-right;
           beyond =
-              ap (drop long) whole ∙ drop_at (record_of n openings script) (drop (512 * blocks_for store_layout (count_in z.cells)) rec) long long-right
+              ap (drop long) whole ∙ drop_at (record_of n openings script) (drop (512 * blocks_for store_layout z.count) rec) long long-right
               ∙ ap (λ (i : ℕ). drop i rec) (sym lasts);
           edition = λ q. record_edition n openings script rec ans ok opens bytes;
           clocks = λ q. record_clocks n openings script;

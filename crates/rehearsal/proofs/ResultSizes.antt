@@ -19,9 +19,8 @@ use Rattle.store.specs.Rules.{run}
 use Rattle.record.specs.Questions.{ask}
 use Rattle.store.specs.Recorded.{recorded, store_record}
 use Rattle.store.specs.Outstanding.{outstanding, puts}
-use Rattle.store.specs.Rehearsal.{rehearsal_refusal, terms_of, store_after, record_of, record_after, length_after, outstanding_after}
+use Rattle.store.specs.Rehearsal.{InNumbers, rehearsal_refusal, terms_of, store_after, record_of, record_after, length_after, outstanding_after}
 use Rattle.store.specs.Demand.{Rehearses}
-use Rattle.store.specs.declared.Rehearsed.{Rehearsed}
 use Rattle.store.proofs.OutstandingLaws.{puts-most}
 use Rattle.store.proofs.Sizes.{every_limits}
 use Rattle.store.proofs.EveryCopy.{every_copy}
@@ -39,7 +38,7 @@ cond-most false x m h = omega arith
 abbrev pub most_copies : ℕ
 most_copies = most_events * 7
 
-pub record SmallResult (r : Rehearsed) : Type 0 where
+pub record SmallResult (r : InNumbers) : Type 0 where
   pub number : r.number ≤ 40
   pub length : r.length ≤ longest_record
   pub outstanding : r.outstanding ≤ most_copies
@@ -88,7 +87,7 @@ module _ (n : ℕ) (openings script rec ans : List ℕ) where
       go true = omega (arith, length-append s (drop (length s) rec))
       go false = omega arith
 
-  module _ (rec' ans' : List ℕ) (r : Rehearsed) (h : Rehearses n openings script rec ans rec' ans' r) where
+  module _ (rec' ans' : List ℕ) (r : InNumbers) (h : Rehearses n openings script rec ans rec' ans' r) where
     pub result_small : SmallResult r
     result_small = record {
       number = omega (arith, h.number, refusal-most);

@@ -1,25 +1,28 @@
--- The loop over a script: after k calls the slices stand for the store of those calls, and their answers are written. Assumes nothing.
+-- The loop over a script: after k calls the arrays stand for the store of those calls, and their answers are written. Assumes nothing.
 use mathlib.Core.Path.{◌≡◌, refl, sym, ap, ◌∙◌, fun_ext}
 use mathlib.Core.Bool.{false}
-use mathlib.Core.List.{List, ◌++◌}
-use Prim.Native.Nat.{ℕ, ◌+◌, ◌*◌, ◌/◌, ◌%◌, ◌≤◌, ◌<◌}
+use mathlib.Core.List.{List, [], ◌++◌, append_assoc}
+use Prim.Native.Nat.{ℕ, ◌+◌, ◌-◌, ◌*◌, ◌/◌, ◌%◌, ◌≤◌, ◌<◌}
+use native.Mathlib.Nat.{add-sub_cancel_left}
 use native.Mathlib.Numerals.{add-one}
 use native.Mathlib.Omega.{arith}
 use lib.Dec.{ltb}
-use lib.ListN.{length, get_or, drop, replicate, length-replicate, length-append, length-drop, get_or-eq_default}
+use lib.ListN.{length, get_or, take, drop, replicate, length-append, length-drop, get_or-eq_default}
 use lib.Seq.{sets, sets-eq, length-sets, take_at, drop-append-add, drop-drop}
+use borrow.Rule.Slice.PartMut.{put_mid}
 use borrow.Author.Tests.{le-ltb, ltb-true, ltb-false}
-use Rattle.rows.specs.Row.{row_at}
+use Rattle.std.proofs.lemmas.List.{length-replicate, get_or-replicate}
+use Rattle.rows.specs.Row.{has}
+use Rattle.rows.proofs.RowLaws.{has_cleared}
 use Rattle.rows.proofs.Tests.{split}
-use Rattle.rows.proofs.TableLaws.{has-row_cleared, length-row_le, get_d_row}
-use Rattle.record.specs.Layout.{most_events, row_words, work_words}
+use Rattle.record.specs.Layout.{most_events, row_words}
 use Rattle.record.specs.Terms.{Terms}
 use Rattle.record.proofs.StoresLaws.{zero-at}
 use Rattle.store.specs.Store.{untouched, fresh}
 use Rattle.store.specs.Calls.{Call, call_at, calls_from, calls_of}
 use Rattle.store.specs.Rules.{answer, answers, run}
 use Rattle.store.proofs.WholeList.{store_up_to_lem, store_up_to, answers_up_to, store-none, store-more, answers-none, answers-more, answers-whole, answer-length, answers_up_to-length}
-use Rattle.calls.specs.Lent.{Lent, lent, clocks_at, count_at, cells_length, known_length, counts_length, count_in, store_in, Sized, Clear, Stands}
+use Rattle.calls.specs.Lent.{Lent, row_in, cells_of, store_in, Rows, Sized, Clear, Stands}
 use Rattle.calls.specs.Done.{Called}
 use Rattle.calls.proofs.LentLaws.{store_path}
 use Rattle.calls.proofs.MadeLaws.{site_parts}
@@ -27,45 +30,62 @@ use Rattle.rehearsal.specs.Runs.{Fresh, Ran, Opened}
 
 -- ---- the start
 
--- numbers of a row of zeros
-zero_row : (m i j : ℕ) → get_or (row_at (replicate m 0) 8 i) j 0 ≡ 0
-zero_row m i j =
-    split (ltb j 8)
-    (λ t. get_d_row (replicate m 0) 8 i j (ltb-true j 8 t) ∙ zero-at m (i * 8 + j))
-    (λ t. get_or-eq_default (row_at (replicate m 0) 8 i) 0 (omega (arith, length-row_le (replicate m 0) 8 i, ltb-false j 8 t)))
+-- rows of zeros
+zeros_rows : (n w : ℕ) → Rows n w (replicate n (replicate w 0))
+zeros_rows n w = record {
+  long = length-replicate n (replicate w 0);
+  wide = λ i l. ap length (get_or-replicate n i (replicate w 0) [] l) ∙ length-replicate {A = ℕ} w 0;
+}
 
-abbrev pub fresh_slices : List ℕ → Lent
-fresh_slices cells = lent (replicate known_length 0) (replicate work_words 0) cells (replicate most_events 0) (replicate counts_length 0)
+zero_in : (n w i j : ℕ) → get_or (row_in (replicate n (replicate w 0)) i) j 0 ≡ 0
+zero_in n w i j =
+    split (ltb i n)
+    (λ t. ap (λ (r : List ℕ). get_or r j 0) (get_or-replicate n i (replicate w 0) [] (ltb-true i n t)) ∙ zero-at w j)
+    (λ t. ap (λ (r : List ℕ). get_or r j 0) (get_or-eq_default (replicate n (replicate w 0)) [] (omega (arith, length-replicate n (replicate {A = ℕ} w 0), ltb-false i n t))))
 
-pub opened-fresh : (t : Terms) (cells : List ℕ) → Opened t (replicate cells_length 0) cells → Fresh t (fresh_slices cells)
+abbrev pub fresh_arrays : List ℕ → Lent
+fresh_arrays cells = record {
+  known = replicate 8 (replicate row_words 0);
+  puts = replicate row_words 0;
+  sees = replicate most_events (replicate row_words 0);
+  cells = replicate 8 cells;
+  clocks = replicate 8 0;
+  count = 0;
+  events = replicate most_events 0;
+  held = replicate 8 (replicate 8 0);
+  needs = replicate most_events (replicate 8 0);
+}
+
+pub opened-fresh : (t : Terms) (cells : List ℕ) → Opened t cells → Fresh t (fresh_arrays cells)
 unfolding store_in
-opened-fresh t cells h =
-    let none : count_in cells ≡ 0 = h.behind count_at (omega arith) ∙ zero-at cells_length count_at in
-    record {
-      sized = record {
-        known = length-replicate {A = ℕ} known_length 0;
-        sees = length-replicate {A = ℕ} work_words 0;
-        cells = h.long;
-        events = length-replicate {A = ℕ} most_events 0;
-        counts = length-replicate {A = ℕ} counts_length 0;
-      };
-      clear = record {
-        puts = λ e l. has-row_cleared known_length row_words 8 e;
-        events = λ e l. zero-at most_events e;
-        sees = λ i l. zero-at work_words i;
-        counts = λ i l. zero-at counts_length i;
-      };
-      store = store_path none
-          (fun_ext (λ e. rw (none, le-ltb e 0 (omega arith)) refl))
-          (fun_ext (λ s.
-          split (ltb s 8)
-          (λ u. rw u (site_parts (fresh_slices cells) s 0 (λ i. 0) (λ e. false) (λ o. untouched (t.opening o))
-          (h.behind (clocks_at + s) (omega arith) ∙ zero-at cells_length (clocks_at + s))
-          (fun_ext (λ j. zero_row counts_length s j))
-          (fun_ext (λ x. has-row_cleared known_length row_words s x))
-          (fun_ext (λ o. h.cell s o (ltb-true s 8 u)))))
-          (λ u. rw u refl)));
-    }
+opened-fresh t cells h = record {
+  sized = record {
+    known = zeros_rows 8 row_words;
+    puts = length-replicate {A = ℕ} row_words 0;
+    sees = zeros_rows most_events row_words;
+    cells = record { long = length-replicate 8 cells; wide = λ i l. ap length (get_or-replicate 8 i cells [] l) ∙ h.long };
+    clocks = length-replicate {A = ℕ} 8 0;
+    events = length-replicate {A = ℕ} most_events 0;
+    held = zeros_rows 8 8;
+    needs = zeros_rows most_events 8;
+  };
+  clear = record {
+    puts = λ e l. has_cleared row_words e;
+    events = λ e l. zero-at most_events e;
+    sees = λ e i l. zero_in most_events row_words e i;
+    needs = λ e i l. zero_in most_events 8 e i;
+  };
+  store = store_path refl
+      (fun_ext (λ e. rw (le-ltb e 0 (omega arith)) refl))
+      (fun_ext (λ s.
+      split (ltb s 8)
+      (λ u. rw u (site_parts (fresh_arrays cells) s 0 (λ i. 0) (λ e. false) (λ o. untouched (t.opening o))
+      (zero-at 8 s)
+      (fun_ext (λ j. zero_in 8 8 s j))
+      (fun_ext (λ x. ap (λ (r : List ℕ). has r x) (get_or-replicate 8 s (replicate row_words 0) [] (ltb-true s 8 u)) ∙ has_cleared row_words x))
+      (fun_ext (λ o. ap (λ (r : List ℕ). cells_of r o) (get_or-replicate 8 s cells [] (ltb-true s 8 u)) ∙ h.cell o))))
+      (λ u. rw u refl)));
+}
 
 -- ---- a turn
 
@@ -82,6 +102,13 @@ lay front bytes rest k p q l =
     sets-eq bytes all (8 * k) (omega arith)
     ∙ ap (λ (h : List ℕ). h ++ bytes ++ drop (8 * k + length bytes) all) (take_at front (drop (8 * k) rest) (8 * k) p)
     ∙ ap (λ (h : List ℕ). front ++ bytes ++ h) past
+
+-- eight bytes given back in the place of eight
+as_sets : (out bytes : List ℕ) (a : ℕ) → length bytes ≡ 8 → a + 8 ≤ length out → put_mid a (a + 8 - a) out bytes ≡ sets out a bytes
+as_sets out bytes a q room =
+    let past : drop (a + length bytes) out ≡ drop (a + 8 - a) (drop a out) =
+    ap (λ (i : ℕ). drop (a + i) out) (q ∙ sym (add-sub_cancel_left a 8)) ∙ sym (drop-drop (a + 8 - a) a out) in
+    sym (sets-eq bytes out a (omega arith) ∙ append_assoc (take a out) bytes (drop (a + length bytes) out) ∙ ap (λ (t : List ℕ). take a out ++ (bytes ++ t)) past)
 
 pub record Turned (n : ℕ) (t : Terms) (script out₀ out : List ℕ) (z : Lent) (k : ℕ) : Type 0 where
   pub sized : Sized z
@@ -101,7 +128,7 @@ module _ (n : ℕ) (t : Terms) (script out₀ : List ℕ) where
   }
 
   module _ (out : List ℕ) (z : Lent) (k : ℕ) (h : Turned n t script out₀ out z k) where
-    -- the slices stand for the store of the calls so far
+    -- the arrays stand for the store of the calls so far
     pub standing : Stands n t z
     standing = record {
       sized = h.sized;
@@ -112,12 +139,13 @@ module _ (n : ℕ) (t : Terms) (script out₀ : List ℕ) where
 
     -- one call more
     pub turned_more : k < length script / 8 → length script ≤ length out₀ → (call : Call) → call ≡ call_at script (8 * k)
-        → (z' : Lent) (bytes out' : List ℕ) → Called n t call z z' bytes → out' ≡ sets out (8 * k) bytes → Turned n t script out₀ out' z' (k + 1)
-    turned_more next short call asked z' bytes out' called wrote =
+        → (z' : Lent) (bytes out' : List ℕ) → Called n t call z z' bytes → out' ≡ put_mid (8 * k) (8 * k + 8 - 8 * k) out bytes → Turned n t script out₀ out' z' (k + 1)
+    turned_more next short call asked z' bytes out' called given =
         let right : bytes ≡ answer n (store_up_to k n t script) (call_at script (8 * k)) = rw (← h.store, ← asked) called.answered in
         let more : answers_up_to k n t script ++ answer n (store_up_to k n t script) (call_at script (8 * k)) ≡ answers_up_to (k + 1) n t script =
         rw add-one (sym (answers-more k n t script)) in
         let eight : length bytes ≡ 8 = ap length right ∙ answer-length n (store_up_to k n t script) (call_at script (8 * k)) in
+        let wrote : out' ≡ sets out (8 * k) bytes = given ∙ as_sets out bytes (8 * k) eight (omega (arith, h.long)) in
         record {
           sized = called.sized;
           clear = called.clear;

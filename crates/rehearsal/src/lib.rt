@@ -8,17 +8,16 @@ pub mod refuse;
 pub mod run;
 pub mod slots;
 
-ghost use Rattle.std.specs.Prelude.{◌≡◌};
+ghost use Rattle.std.specs.Prelude.{◌≡◌, Ok, None};
 ghost use Rattle.record.specs.Layout.{edition_of, work_words};
-ghost use Rattle.consistency.specs.declared.Outcome.TheVariants.{AllMet};
 ghost use Rattle.judge.specs.Judgments.{model_judgment};
-ghost use Rattle.judge.specs.declared.Judgment.TheVariants.{Judged};
-ghost use Rattle.store.specs.Rehearsal.{rehearsal_refusal, record_of};
+ghost use Rattle.store.specs.Rehearsal.{rehearsal_refusal, record_of, in_numbers};
 ghost use Rattle.store.specs.Demand.{Rehearses};
 
 use calls::lent;
+use calls::lent::Store;
 use record::layout;
-use store::Rehearsed;
+use store::{Rehearsal, Rehearsed};
 
 // A rehearsal that questions 20 to 23 and 40 let pass: the whole script, and then its record.
 fn accepted(
@@ -29,29 +28,24 @@ fn accepted(
     answers: &mut [u8],
 ) -> Rehearsed
     requires { rehearsal_refusal sites openings.now script.now rec.old answers.old ≡ 0 }
-    ensures { Rehearses sites openings.now script.now rec.old answers.old rec.new answers.new result }
+    ensures { Rehearses sites openings.now script.now rec.old answers.old rec.new answers.new (in_numbers (Ok result)) }
 {
-    let mut known = [0u64; lent::KNOWN];
-    let mut sees = [0u64; layout::WORK];
-    let mut cells = [0u64; lent::CELLS];
-    let mut events = [0u64; layout::EVENTS];
-    let mut counts = [0u16; lent::COUNTS];
-    run::open_cells(openings, &mut cells);
-    run::run(
-        sites,
-        script,
-        answers,
-        &mut known,
-        &mut sees,
-        &mut cells,
-        &mut events,
-        &mut counts,
-    );
-    let length = image::write(sites as u8, openings, &known, &sees, &cells, &events, rec);
+    let mut store = Store {
+        known: [[0; layout::ROW]; lent::SITES],
+        puts: [0; layout::ROW],
+        sees: [[0; layout::ROW]; layout::EVENTS],
+        cells: [run::opened(openings); lent::SITES],
+        clocks: [0; lent::SITES],
+        count: 0,
+        events: [0; layout::EVENTS],
+        held: [[0; lent::SITES]; lent::SITES],
+        needs: [[0; lent::SITES]; layout::EVENTS],
+    };
+    run::run(sites, script, answers, &mut store);
+    let length = image::write(sites as u8, openings, &store, rec);
     Rehearsed {
-        number: 0,
-        length: length,
-        outstanding: copies::outstanding(sites, &known),
+        length,
+        outstanding: copies::outstanding(sites, &store),
     }
 }
 
@@ -63,17 +57,10 @@ pub fn rehearse(
     script: &[u8],
     rec: &mut [u8],
     answers: &mut [u8],
-) -> Rehearsed
-    ensures rehearses { Rehearses sites openings.now script.now rec.old answers.old rec.new answers.new result }
-    ensures script_value { result.number ≡ 0 → model_judgment (edition_of (record_of sites openings.now script.now)) work_words 4 (record_of sites openings.now script.now) ≡ Judged AllMet }
+) -> Rehearsal
+    ensures rehearses { Rehearses sites openings.now script.now rec.old answers.old rec.new answers.new (in_numbers result) }
+    ensures script_value { (in_numbers result).number ≡ 0 → model_judgment (edition_of (record_of sites openings.now script.now)) work_words 4 (record_of sites openings.now script.now) ≡ Ok None }
 {
-    let number = refuse::rehearsal_refused(sites, openings, script.len(), rec.len(), answers.len());
-    if number != 0 {
-        return Rehearsed {
-            number: number,
-            length: 0,
-            outstanding: 0,
-        };
-    }
-    accepted(sites, openings, script, rec, answers)
+    refuse::rehearsal_refused(sites, openings, script.len(), rec.len(), answers.len())?;
+    Ok(accepted(sites, openings, script, rec, answers))
 }

@@ -5,8 +5,11 @@ use lines::input;
 use record::layout;
 use std::io;
 
-fn refused(rt: &impl Print, number: usize) -> io::Result<()> {
-    println!(rt; "refused {number}")
+// Room for the record and for the answers.
+#[derive(Drop)]
+struct Buffers {
+    record: [u8; layout::LONGEST],
+    answers: [u8; 32768],
 }
 
 // The record's bytes are written as they are, with nothing after them.
@@ -15,44 +18,38 @@ fn rehearse(
     sites: usize,
     openings: &[u8],
     script: &[u8],
-    rec: &mut [u8],
-    answers: &mut [u8],
+    buffers: &mut Buffers,
 ) -> io::Result<()> {
-    let r = rehearsal::rehearse(sites, openings, script, rec, answers);
-    if r.number != 0 {
-        return refused(rt, r.number);
+    let Buffers { record, answers } = buffers;
+    match rehearsal::rehearse(sites, openings, script, record, answers) {
+        Ok(rehearsed) => rt.write_all(&record[..rehearsed.length]),
+        Err(refusal) => println!(rt; "refused {}", refusal.number()),
     }
-    let length = r.length;
-    rt.write_all(&rec[..length])
 }
 
 // What stands behind the sites: openings, those that are missing being 0, and a script.
-fn opened(
-    rt: &impl Print,
-    sites: usize,
-    rest: &[u8],
-    rec: &mut [u8],
-    answers: &mut [u8],
-) -> io::Result<()> {
+fn opened(rt: &impl Print, sites: usize, rest: &[u8], buffers: &mut Buffers) -> io::Result<()> {
+    let (given, script) = rest.split_at(rest.len().min(132));
     let mut openings = [0u8; 132];
-    let given = rest.len().min(132);
-    openings[..given].copy_from_slice(&rest[..given]);
-    rehearse(rt, sites, &openings, &rest[given..], rec, answers)
+    openings[..given.len()].copy_from_slice(given);
+    rehearse(rt, sites, &openings, script, buffers)
 }
 
 // An empty input has 0 sites.
-fn answer(rt: &impl Print, input: &[u8], rec: &mut [u8], answers: &mut [u8]) -> io::Result<()> {
-    if input.len() == 0 {
-        return opened(rt, 0, input, rec, answers);
+fn answer(rt: &impl Print, input: &[u8], buffers: &mut Buffers) -> io::Result<()> {
+    match input {
+        [] => opened(rt, 0, input, buffers),
+        [sites, rest @ ..] => opened(rt, *sites as usize, rest, buffers),
     }
-    opened(rt, input[0] as usize, &input[1..], rec, answers)
 }
 
 fn main(rt: HostRuntime) -> io::Result<()> {
     // One byte more than the sites, the openings and the longest script, so that a longer input is refused and not cut.
     let mut input = [0u8; 32902];
     let length = input::read_full(&mut rt.reader(), &mut input)?;
-    let mut rec = [0u8; layout::LONGEST];
-    let mut answers = [0u8; 32768];
-    answer(&rt, &input[..length], &mut rec, &mut answers)
+    let mut buffers = Buffers {
+        record: [0; layout::LONGEST],
+        answers: [0; 32768],
+    };
+    answer(&rt, &input[..length], &mut buffers)
 }

@@ -1,15 +1,16 @@
 -- Laws of bytes: rows of bits in them, little-endian numbers, and the words of a byte row. Assumes nothing.
-use mathlib.Core.Path.{◌≡◌, refl, ap, ap₂, ◌∙◌}
+use mathlib.Core.Path.{◌≡◌, refl, sym, ap, ap₂, ◌∙◌}
 use mathlib.Core.List.{List, [], ◌∷◌, ◌++◌}
 use Prim.Native.Nat.{ℕ, zero, suc, ◌+◌, ◌-◌, ◌*◌, ◌/◌, ◌%◌, ◌^◌, ◌<◌}
-use native.Mathlib.Nat.{le_refl, not-suc-le-zero, le_of_suc-le-suc, suc-add, zero-add, one-mul, add-zero, mul_assoc, pow-zero, pow-succ'}
+use native.Mathlib.Nat.{not-suc-le-zero, le_of_suc-le-suc, suc-add, zero-add, one-mul, add-zero, mul_assoc, mul_comm, pow-zero, pow-succ'}
 use native.Mathlib.Numerals.{add-one}
 use native.Mathlib.Omega.{arith}
 use native.Mathlib.Decide.{dec_lt}
 use lib.Dec.{eqb}
-use lib.ListN.{length, get_or}
-use lib.Bits.{bit_or, or_shifted_r}
-use lib.Pow.{shl_exact}
+use lib.ListN.{length, get_or, take, drop}
+use lib.Seq.{get_or-take, get_or-drop}
+use Rattle.std.specs.List.{slice_index}
+use Rattle.std.specs.Int.{sum_through, byte_worth}
 use Rattle.rows.specs.Row.{digit, bit_of, has}
 use Rattle.rows.specs.Octets.{has_byte, little, words}
 use Rattle.rows.proofs.Digits.{digit_low, digit_high}
@@ -30,9 +31,21 @@ pub little_two : (s : List ℕ) (at : ℕ) → little 2 s at ≡ get_or s at 0 +
 unfolding little
 little_two s at = omega arith
 
--- an upper part of q bits shifted over a lower one of p
-pub shift-over : (p q x y : ℕ) → x < 2 ^ p → y < 2 ^ q → bit_or x (y * 2 ^ p % 2 ^ (q + p)) ≡ y * 2 ^ p + x
-shift-over p q x y i j = ap (bit_or x) (shl_exact {a = y} q p (q + p) j (le_refl (q + p))) ∙ or_shifted_r y p x i
+-- the bytes g 0 .. g k of s from `at` on, each by its worth, as `from_le_bytes` adds them
+sum-little : (k : ℕ) (s : List ℕ) (at : ℕ) (g : ℕ → ℕ) → ((i : ℕ) → i < suc k → g i ≡ get_or s (at + i) 0) → sum_through (λ i. byte_worth i (g i)) k ≡ little (suc k) s at
+unfolding little
+sum-little zero s at g e = let here : at + 0 ≡ at = omega arith in omega (arith, e 0 (omega arith), ap (λ (p : ℕ). get_or s p 0) here)
+sum-little (suc k) s at g e =
+    let last : little 1 s (at + suc k) ≡ get_or s (at + suc k) 0 = omega arith in
+    let next : suc (suc k) ≡ suc k + 1 = omega arith in
+    ap (λ (x : ℕ). x + g (suc k) * 256 ^ suc k) (sum-little k s at g (λ i h. e i (omega arith)))
+    ∙ ap (λ (x : ℕ). little (suc k) s at + x * 256 ^ suc k) (e (suc k) (omega arith) ∙ sym last)
+    ∙ ap (λ (x : ℕ). little (suc k) s at + x) (mul_comm (little 1 s (at + suc k)) (256 ^ suc k))
+    ∙ sym (ap (λ (n : ℕ). little n s at) next ∙ little_join (suc k) 1 s at)
+
+-- the number that `from_le_bytes` makes of the k + 1 bytes at `at`
+pub little_part : (k : ℕ) (s : List ℕ) (at : ℕ) (bytes : List ℕ) → bytes ≡ take (suc k) (drop at s) → sum_through (λ i. byte_worth i (slice_index bytes i)) k ≡ little (suc k) s at
+little_part k s at bytes e = sum-little k s at (slice_index bytes) (λ i h. rw e (get_or-take (suc k) (drop at s) i 0 h ∙ get_or-drop at s i 0))
 
 module _ (s : List ℕ) (bytes : (i : ℕ) → get_or s i 0 < 256) where
   pub little_lt : (k at : ℕ) → little k s at < 256 ^ k

@@ -7,7 +7,11 @@ use native.Mathlib.Omega.{arith}
 use borrow.Author.Tests.{eq-eqb, ne_eqb, eqb-true, eqb-false}
 use lib.Count.{ones, ones_step, ones-le}
 use lib.Dec.{eqb}
-use lib.ListN.{get_or}
+use lib.ListN.{length, get_or, take}
+use lib.Seq.{take_all}
+use Rattle.std.specs.List.{zip, sum_by}
+use Rattle.std.proofs.lemmas.List.Sums.{sum_by_more}
+use Rattle.std.proofs.lemmas.Slice.Zip.{length-zip, get_or-zip}
 use native.Mathlib.Nat.{le_refl, pow-succ'}
 use Rattle.rows.specs.Lowest.{some}
 use Rattle.rows.specs.Count.{sum, how_many}
@@ -15,7 +19,7 @@ use Rattle.rows.specs.Row.{bit_of, only_first}
 use Rattle.rows.proofs.Tests.{split}
 use Rattle.rows.proofs.LowestLaws.{some_of, some_more, none-some}
 use Rattle.rows.proofs.Digits.{digit-zero, digit-suc}
-use Rattle.rows.proofs.RowLaws.{lacking, lacking_lt, only_word}
+use Rattle.rows.proofs.RowLaws.{and_not, lacking, lacking_lt, only_word}
 
 -- ---- sums
 
@@ -164,6 +168,22 @@ only_many a b i h k =
       many_same 64 (λ j. only_first a b (i * 64 + j)) (bit_of (lacking a b i)) (only_word a b i k),
       ones_many 64 (lacking a b i) (lacking_lt a b i h),
     )
+
+-- and in all words
+module _ (a b : List ℕ) (wide : length a ≤ length b) (fits : (i : ℕ) → get_or a i 0 < 2 ^ 64) (fits' : (i : ℕ) → get_or b i 0 < 2 ^ 64) where
+  counted : (i : ℕ) → i ≤ length a → sum_by (λ p. ones (and_not p.0 p.1)) (take i (zip a b)) ≡ how_many (i * 64) (only_first a b)
+  counted zero h = sym (sum-none (λ x. cond (only_first a b x) 1 0))
+  counted (suc i) h =
+      let next : suc i ≡ i + 1 = omega arith in
+      let here : ones (and_not (get_or (zip a b) i (0, 0)).0 (get_or (zip a b) i (0, 0)).1) ≡ ones (lacking a b i) = ap (λ (p : ℕ × ℕ). ones (and_not p.0 p.1)) (get_or-zip a b i (0, 0) h (omega arith)) in
+      rw next (sum_by_more (λ p. ones (and_not p.0 p.1)) (zip a b) i (0, 0) (omega (arith, length-zip a b))
+      ∙ omega (arith, counted i (omega arith), here, only_many a b i (fits i) (fits' i)))
+
+  pub ones_counted : sum_by (λ p. ones (and_not p.0 p.1)) (zip a b) ≡ how_many (64 * length a) (only_first a b)
+  ones_counted =
+      let all : take (length a) (zip a b) ≡ zip a b = take_all (length a) (zip a b) (omega (arith, length-zip a b)) in
+      let turn : length a * 64 ≡ 64 * length a = omega arith in
+      ap (sum_by (λ p. ones (and_not p.0 p.1))) (sym all) ∙ counted (length a) (le_refl _) ∙ ap (λ (n : ℕ). how_many n (only_first a b)) turn
 
 -- ---- different numbers below n
 

@@ -1,58 +1,43 @@
 -- Laws of a number's binary digits, at any place k, and of the bits that tests read. Assumes nothing.
-use mathlib.Core.Path.{◌≡◌, refl, sym, ap, ap₂, ◌∙◌}
-use mathlib.Core.Logic.{◌⊎◌, inl, inr, ⊎_elim}
+use mathlib.Core.Path.{◌≡◌, refl, sym, ap, ◌∙◌}
 use mathlib.Core.Bool.{Bool, true, false, not, ◌&&◌, ◌||◌, and-false, and-true}
 use Prim.Native.Nat.{ℕ, zero, suc, ◌+◌, ◌-◌, ◌*◌, ◌/◌, ◌%◌, ◌^◌, ◌≤◌, ◌<◌, min, max}
-use native.Mathlib.Nat.{sub-zero, mod-lt, div-one, div-div-eq-div-mul, pow-succ', not-suc-le-zero, le_of_suc-le-suc, suc-ne-zero, zero-lt-suc, zero-mul, one-mul, mod-eq_of_lt}
+use native.Mathlib.Nat.{le_refl, pow-succ', not-suc-le-zero, le_of_suc-le-suc, zero-mul, mod-eq_of_lt}
 use native.Mathlib.Omega.{arith}
 use borrow.Author.Tests.{eq-eqb, eqb-true, eqb-false, ne_eqb, ltb-true, ltb-false}
 use lib.Dec.{eqb, ltb}
-use lib.Bits.{bit_and, bit_or, and_step, or_step, and_mask, block_half, block_odd, or_zero_r}
-use lib.Pow.{pow_pos, pow-lt, pow_mono, ones_lt, shr-shr, high}
+use lib.Bits.{bit_and, bit_or, or_step, and_mask, or_zero_r}
+use lib.Pow.{pow_pos, pow_mono, ones_lt}
 use lib.Count.{count_leading_zeros, leading_top, count_trailing_zeros, under, ones, ones_step}
+use Rattle.std.specs.Int.{w64}
+use Rattle.std.proofs.lemmas.Nat.{one_shl}
+use Rattle.std.proofs.lemmas.Nat.Bits.{bit_at_lowest, bit_at-suc, bit_at-zero, bit_at_and, bit_at_or, bit_at-pow_same, bit_at-pow_other, bit_at_ones, bit_at-trailing_zeros, bit_at-lt, bit_at_above, bit_at_cat_low, bit_at_cat_high}
 use Rattle.rows.specs.Row.{digit, bit_of}
 use Rattle.rows.proofs.Tests.{split}
 
--- ---- the lowest digit, and the digits above it: every other law follows from these two
+-- ---- the lowest digit, and the digits above it
 
 pub digit-zero : (n : ℕ) → digit n zero ≡ n % 2
 unfolding digit
-digit-zero n = ap (λ (x : ℕ). x % 2) (div-one n)
+digit-zero n = bit_at_lowest n
 
 pub digit-suc : (n k : ℕ) → digit n (suc k) ≡ digit (n / 2) k
 unfolding digit
-digit-suc n k = ap (λ (x : ℕ). x % 2) (ap (λ (x : ℕ). n / x) (pow-succ' 2 k) ∙ sym (div-div-eq-div-mul n 2 (2 ^ k)))
+digit-suc n k = bit_at-suc n k
 
 pub digit_lt : (n k : ℕ) → digit n k < 2
 unfolding digit
-digit_lt n k = omega arith
+digit_lt n k = bit_at-lt n k
 
 -- ---- `a | b` and `a & b`
 
-or_half : (a b : ℕ) → bit_or a b / 2 ≡ bit_or (a / 2) (b / 2)
-or_half a b = omega (arith, or_step a b)
-
-or-odd : (a b : ℕ) → bit_or a b % 2 ≡ max (a % 2) (b % 2)
-or-odd a b = omega (arith, or_step a b)
-
-and_half : (a b : ℕ) → bit_and a b / 2 ≡ bit_and (a / 2) (b / 2)
-and_half a b = omega (arith, and_step a b)
-
-and-odd : (a b : ℕ) → bit_and a b % 2 ≡ min (a % 2) (b % 2)
-and-odd a b = omega (arith, and_step a b)
-
--- digit k of a number that is made of a and b digit by digit, by f
-module _ (f op : ℕ → ℕ → ℕ) (half : (a b : ℕ) → op a b / 2 ≡ op (a / 2) (b / 2)) (odd : (a b : ℕ) → op a b % 2 ≡ f (a % 2) (b % 2)) where
-  digit-by : (k a b : ℕ) → digit (op a b) k ≡ f (digit a k) (digit b k)
-  digit-by zero a b = digit-zero (op a b) ∙ odd a b ∙ sym (ap₂ f (digit-zero a) (digit-zero b))
-  digit-by (suc k) a b =
-      digit-suc (op a b) k ∙ ap (λ (x : ℕ). digit x k) (half a b) ∙ digit-by k (a / 2) (b / 2) ∙ sym (ap₂ f (digit-suc a k) (digit-suc b k))
-
 pub digit_or : (k a b : ℕ) → digit (bit_or a b) k ≡ max (digit a k) (digit b k)
-digit_or = digit-by max bit_or or_half or-odd
+unfolding digit
+digit_or k a b = bit_at_or a b k
 
 pub digit_and : (k a b : ℕ) → digit (bit_and a b) k ≡ min (digit a k) (digit b k)
-digit_and = digit-by min bit_and and_half and-odd
+unfolding digit
+digit_and k a b = bit_at_and a b k
 
 -- ---- `!a` at w digits
 
@@ -75,97 +60,48 @@ digit_not (suc w) (suc k) a l h =
 -- ---- a number with one digit, and with none
 
 pub digit_of_zero : (k : ℕ) → digit zero k ≡ zero
-digit_of_zero zero = digit-zero zero
-digit_of_zero (suc k) = digit-suc zero k ∙ digit_of_zero k
+unfolding digit
+digit_of_zero k = bit_at-zero k
 
 pub digit-pow-same : (k : ℕ) → digit (2 ^ k) k ≡ 1
-digit-pow-same zero = digit-zero 1
-digit-pow-same (suc k) = digit-suc (2 ^ suc k) k ∙ ap (λ (x : ℕ). digit x k) (omega (arith, pow-succ' 2 k)) ∙ digit-pow-same k
+unfolding digit
+digit-pow-same k = bit_at-pow_same k
 
 pub digit-pow-other : (k j : ℕ) → (j ≡ k → ⊥) → digit (2 ^ k) j ≡ 0
-digit-pow-other zero zero h = absurd (h refl)
-digit-pow-other zero (suc j) h = digit-suc 1 j ∙ digit_of_zero j
-digit-pow-other (suc k) zero h = digit-zero (2 ^ suc k) ∙ omega (arith, pow-succ' 2 k)
-digit-pow-other (suc k) (suc j) h =
-    digit-suc (2 ^ suc k) j ∙ ap (λ (x : ℕ). digit x j) (omega (arith, pow-succ' 2 k)) ∙ digit-pow-other k j (λ e. h (ap suc e))
+unfolding digit
+digit-pow-other k j h = bit_at-pow_other k j h
 
 -- ---- a number put together of k low digits, x, and the rest, y
 
 pub digit_low : (k j x y : ℕ) → j < k → digit (y * 2 ^ k + x) j ≡ digit x j
-digit_low zero j x y h = absurd (not-suc-le-zero h)
-digit_low (suc k) zero x y h = digit-zero (y * 2 ^ suc k + x) ∙ block_odd y k x ∙ sym (digit-zero x)
-digit_low (suc k) (suc j) x y h =
-    digit-suc (y * 2 ^ suc k + x) j ∙ ap (λ (n : ℕ). digit n j) (block_half y k x) ∙ digit_low k j (x / 2) y (le_of_suc-le-suc h) ∙ sym (digit-suc x j)
+unfolding digit
+digit_low k j x y h = bit_at_cat_low y k x j h
 
 pub digit_high : (k j x y : ℕ) → x < 2 ^ k → digit (y * 2 ^ k + x) (k + j) ≡ digit y j
 unfolding digit
-digit_high k j x y h = ap (λ (n : ℕ). n % 2) (sym (shr-shr (y * 2 ^ k + x) k j) ∙ ap (λ (n : ℕ). n / 2 ^ j) (high y k h))
+digit_high k j x y h = let rest : k + j - k ≡ j = omega arith in bit_at_cat_high y k x (k + j) h (omega arith) ∙ ap (λ (i : ℕ). y / 2 ^ i % 2) rest
 
--- ---- the lowest set digit, and the count of set digits
+-- ---- the lowest and the highest set digit, and the count of set digits
 
-under-zero : (d t : ℕ) → d ≡ zero → under d t ≡ suc t
-under-zero zero t e = refl
-under-zero (suc d) t e = absurd (suc-ne-zero d e)
+-- the lowest of a word that is not zero: it is set, and none below it
+pub lowest_digit : (n : ℕ) → n < 2 ^ 64 → (n ≡ 0 → ⊥)
+    → (count_trailing_zeros 64 n < 64) × (digit n (count_trailing_zeros 64 n) ≡ 1) × ((i : ℕ) → i < count_trailing_zeros 64 n → digit n i ≡ 0)
+unfolding digit
+lowest_digit n l h = bit_at-trailing_zeros w64 n (omega arith) l
 
-under_one : (d t : ℕ) → d ≡ 1 → under d t ≡ zero
-under_one zero t e = absurd (suc-ne-zero zero (sym e))
-under_one (suc d) t e = refl
-
-binary : (n : ℕ) → (n % 2 ≡ 0) ⊎ (n % 2 ≡ 1)
-binary n = go (n % 2) (mod-lt n (zero-lt-suc 1))
-  where
-    go : (d : ℕ) → d < 2 → (d ≡ 0) ⊎ (d ≡ 1)
-    go zero h = inl refl
-    go (suc d) h = inr (omega arith)
-
-trailing_even : (k n : ℕ) → n % 2 ≡ 0 → count_trailing_zeros (suc k) n ≡ suc (count_trailing_zeros k (n / 2))
-unfolding count_trailing_zeros
-trailing_even k n e = under-zero (n % 2) (count_trailing_zeros k (n / 2)) e
-
-trailing_odd : (k n : ℕ) → n % 2 ≡ 1 → count_trailing_zeros (suc k) n ≡ 0
-unfolding count_trailing_zeros
-trailing_odd k n e = under_one (n % 2) (count_trailing_zeros k (n / 2)) e
-
-trailing_none : (n : ℕ) → count_trailing_zeros zero n ≡ 0
-unfolding count_trailing_zeros
-trailing_none n = refl
-
--- no digit below it is set
-pub trailing_below : (k n i : ℕ) → i < count_trailing_zeros k n → digit n i ≡ 0
-trailing_below zero n i h = absurd (not-suc-le-zero (rw trailing_none at h))
-trailing_below (suc k) n zero h = ⊎_elim (λ e. digit-zero n ∙ e) (λ e. omega (arith, trailing_odd k n e)) (binary n)
-trailing_below (suc k) n (suc i) h =
-    ⊎_elim
-    (λ e. digit-suc n i ∙ trailing_below k (n / 2) i (omega (arith, trailing_even k n e)))
-    (λ e. omega (arith, trailing_odd k n e))
-    (binary n)
-
--- it is set itself, where any is
-pub trailing_at : (k n : ℕ) → count_trailing_zeros k n < k → digit n (count_trailing_zeros k n) ≡ 1
-trailing_at zero n h = absurd (not-suc-le-zero h)
-trailing_at (suc k) n h =
-    ⊎_elim
-    (λ e.
-    ap (digit n) (trailing_even k n e) ∙ digit-suc n (count_trailing_zeros k (n / 2))
-    ∙ trailing_at k (n / 2) (omega (arith, trailing_even k n e)))
-    (λ e. ap (digit n) (trailing_odd k n e) ∙ digit-zero n ∙ e)
-    (binary n)
-
--- a number that is not zero has one
 pub trailing_lt : (k n : ℕ) → n < 2 ^ k → (n ≡ 0 → ⊥) → count_trailing_zeros k n < k
+unfolding count_trailing_zeros
 trailing_lt zero n l h = absurd (h (omega arith))
-trailing_lt (suc k) n l h =
-    ⊎_elim
-    (λ e. omega (arith, trailing_even k n e, trailing_lt k (n / 2) (half_below k n l) (λ z. h (omega arith))))
-    (λ e. omega (arith, trailing_odd k n e))
-    (binary n)
-
--- ---- the highest set digit
+trailing_lt (suc k) n l h = go (n % 2) refl (λ e. trailing_lt k (n / 2) (half_below k n l) (λ z. h (omega arith)))
+  where
+    go : (d : ℕ) → n % 2 ≡ d → (n % 2 ≡ 0 → count_trailing_zeros k (n / 2) < k) → under d (count_trailing_zeros k (n / 2)) < suc k
+    go zero e f = omega (arith, f e)
+    go (suc d) e f = omega arith
 
 -- no digit is set past a number's length
 pub digit_past : (j a : ℕ) → a < 2 ^ j → digit a j ≡ 0
-digit_past zero a h = digit-zero a ∙ omega arith
-digit_past (suc j) a h = digit-suc a j ∙ digit_past j (a / 2) (half_below j a h)
+unfolding digit
+digit_past j a h = bit_at_above a j j h (le_refl j)
 
 digit_top : (j a : ℕ) → 2 ^ j ≤ a → a < 2 ^ suc j → digit a j ≡ 1
 digit_top zero a l h = digit-zero a ∙ omega arith
@@ -200,7 +136,7 @@ ones-or-pow (suc k) x e =
 -- ---- the spelling of code: `1 << k` at w bits, and `x & 1`
 
 pub shl_one : (w k : ℕ) → k < w → (1 * 2 ^ k) % 2 ^ w ≡ 2 ^ k
-shl_one w k h = ap (λ (x : ℕ). x % 2 ^ w) (one-mul (2 ^ k)) ∙ mod-eq_of_lt (pow-lt h)
+shl_one w k h = one_shl k w h
 
 pub and_one : (x : ℕ) → bit_and x 1 ≡ x % 2
 and_one x = and_mask x 1
@@ -259,10 +195,14 @@ bit_not w a k l h =
     ap (λ (d : ℕ). eqb d 1) (digit_not w k a l h) ∙ by-digit (λ d. eqb (1 - d) 1 ≡ not (eqb d 1)) refl refl (digit a k) (digit_lt a k)
 
 -- the first m bits
+below_bits : (m k : ℕ) → k < m → digit (2 ^ m - 1) k ≡ 1
+unfolding digit
+below_bits m k l = bit_at_ones m k l
+
 pub bit_below : (m k : ℕ) → bit_of (2 ^ m - 1) k ≡ ltb k m
 bit_below m k =
     split (ltb k m)
-    (λ t. ap (λ (x : ℕ). bit_of x k) (sym (sub-zero (2 ^ m - 1))) ∙ bit_not m 0 k (ltb-true k m t) (pow_pos m) ∙ ap not (bit_of-zero k) ∙ sym t)
+    (λ t. bit-one (2 ^ m - 1) k (below_bits m k (ltb-true k m t)) ∙ sym t)
     (λ t. bit-none (2 ^ m - 1) k (digit_past k (2 ^ m - 1) (omega (arith, ones_lt m, pow_mono (ltb-false k m t)))) ∙ sym t)
 
 -- `a & !b`

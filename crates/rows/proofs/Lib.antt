@@ -1,6 +1,8 @@
 -- What belongs to no one function: one file of laws for each subject, which other crates cite too.
 pub mod Tests
 pub mod LowestLaws
+pub mod FoundLaws
+pub mod WordLaws
 pub mod Digits
 pub mod FrontLaws
 pub mod StoredLaws

@@ -1,11 +1,11 @@
 -- Laws of the lowest and the highest number at which a test holds. Assumes nothing.
 use mathlib.Core.Path.{◌≡◌, refl, sym, ap, ◌∙◌}
-use mathlib.Core.Bool.{Bool, true, false, cond, not, ◌||◌}
+use mathlib.Core.Bool.{Bool, true, false, cond, ◌||◌}
 use Prim.Native.Nat.{ℕ, zero, suc, ◌+◌, ◌-◌, ◌<◌, ◌≤◌}
 use native.Mathlib.Omega.{arith}
 use native.Mathlib.Nat.{le_refl}
-use lib.Dec.{ltb, leb}
-use borrow.Author.Tests.{ltb-true, ltb-false, lt-ltb, le-ltb, leb-true, leb-false}
+use lib.Dec.{ltb}
+use borrow.Author.Tests.{ltb-true, ltb-false}
 use Rattle.rows.specs.Lowest.{search_from, lowest, some, search_down, highest}
 use Rattle.rows.proofs.Tests.{split, tell, same_test, or_elim, or_left, or_right}
 
@@ -153,13 +153,6 @@ some_more n f = same_test (some (suc n) f) (some n f || f n) there back
     back e = or_elim (some n f) (f n) e
         (λ t. let w = some_at n f t in some_of (suc n) f (lowest n f) (omega (arith, w.0)) w.1)
         (λ t. some_of (suc n) f n (le_refl (suc n)) t)
-
--- the test that code makes of the lowest: it is past the end
-pub none_test : (n : ℕ) (f : ℕ → Bool) (r : ℕ) → r ≡ lowest n f → leb n r ≡ not (some n f)
-unfolding some
-none_test n f r e = split (leb n r)
-    (λ t. t ∙ sym (ap not (le-ltb (lowest n f) n (omega (arith, leb-true n r t)))))
-    (λ t. t ∙ sym (ap not (lt-ltb (lowest n f) n (omega (arith, leb-false n r t)))))
 
 -- ---- the highest
 

@@ -12,7 +12,7 @@ use borrow.Author.Tests.{eq-eqb, ne_eqb, eqb-true, ltb-true, ltb-false, lt-ltb, 
 use mir.Val.{bool_byte}
 use lib.Dec.{eqb, ltb}
 use lib.Bits.{bit_and, bit_or, or_lt, or_zero_r, and_zero_l, and_le_l}
-use lib.Count.{count_leading_zeros, count_trailing_zeros, trailing_le, ones, ones-le}
+use lib.Count.{count_leading_zeros, count_trailing_zeros, ones, ones-le}
 use lib.ListN.{length, get_or, set, take, replicate, length-set, get_or-eq_default}
 use lib.Pow.{pow-lt}
 use lib.Seq.{get_or-set_same, get_or-set_other, take_all}
@@ -20,7 +20,7 @@ use Rattle.rows.specs.Lowest.{lowest, highest, some}
 use Rattle.rows.specs.Row.{bit_of, has, insert, erase, or_row, and_row, minus_row, count_row, only_first, below_word, Row}
 use Rattle.rows.proofs.Tests.{split, tell, same_test, or_elim, or_left, or_right, and_both, and_left, and_right}
 use Rattle.rows.proofs.LowestLaws.{lowest_hit, lowest_low, some-none, highest_hit}
-use Rattle.rows.proofs.Digits.{shl_one, bit_below, bit_or_lem, bit_and_lem, bit_minus, bit-pow, bit-none, bit-one, none-bit, bit_of-zero, trailing_below, trailing_at, trailing_lt, leading_lt, leading_at, leading_above, ones-or-pow}
+use Rattle.rows.proofs.Digits.{shl_one, bit_below, bit_or_lem, bit_and_lem, bit_minus, bit-pow, bit-none, bit-one, none-bit, bit_of-zero, lowest_digit, leading_lt, leading_at, leading_above, ones-or-pow}
 
 -- ---- one bit of a list of numbers, after a store: bit m of the number at j
 
@@ -270,14 +270,10 @@ module _ (f : ℕ → Bool) (i x : ℕ) (same : (k : ℕ) → k < 64 → f (i * 
 
   pub word_found : (n : ℕ) → i < n → x < 2 ^ 64 → x ≢ 0 → i * 64 + count_trailing_zeros 64 x ≡ lowest (64 * n) f
   word_found n l h ne =
-      let t : count_trailing_zeros 64 x < 64 = trailing_lt 64 x h ne in
-      sym (lowest_hit (64 * n) f (i * 64 + count_trailing_zeros 64 x) (omega arith)
-      (bits_none (count_trailing_zeros 64 x) (omega arith) (λ k q. bit-none x k (trailing_below 64 x k q)))
-      (same (count_trailing_zeros 64 x) t ∙ bit-one x (count_trailing_zeros 64 x) (trailing_at 64 x t)))
-
--- where a word is not zero, its lowest bit is one of 64 (the word is taken from the test)
-pub lowest-bit : {x : ℕ} → x ≢ 0 → count_trailing_zeros 64 x ≤ 64
-lowest-bit {x} ne = trailing_le 64 x
+      let low = lowest_digit x h ne in
+      sym (lowest_hit (64 * n) f (i * 64 + count_trailing_zeros 64 x) (omega (arith, low.0))
+      (bits_none (count_trailing_zeros 64 x) (omega (arith, low.0)) (λ k q. bit-none x k (low.2 k q)))
+      (same (count_trailing_zeros 64 x) low.0 ∙ bit-one x (count_trailing_zeros 64 x) low.1))
 
 -- ---- the highest number at which f holds, by a loop over words from the last: x is f's word i, and f holds nowhere past it
 
@@ -290,19 +286,12 @@ module _ (f : ℕ → Bool) (i x : ℕ) (same : (k : ℕ) → k < 64 → f (i * 
           let place : b ≡ i * 64 + (b - i * 64) = omega arith in
           ap f place ∙ same (b - i * 64) (omega arith) ∙ z (b - i * 64) (omega arith) (omega arith)
 
-  pub word_none_down : x ≡ 0 → (b : ℕ) → i * 64 ≤ b → f b ≡ false
-  word_none_down e b h = bits_above 0 (λ k l q. ap (λ (y : ℕ). bit_of y k) e ∙ bit_of-zero k) b (omega arith)
-
   pub word_found_down : (n : ℕ) → i < n → x < 2 ^ 64 → x ≢ 0 → i * 64 + (63 - count_leading_zeros 64 x) ≡ highest (64 * n) f
   word_found_down n l h ne =
       let t : count_leading_zeros 64 x < 64 = leading_lt 64 x h ne in
       sym (highest_hit (64 * n) f (i * 64 + (63 - count_leading_zeros 64 x)) (omega arith)
       (same (63 - count_leading_zeros 64 x) (omega arith) ∙ bit-one x (63 - count_leading_zeros 64 x) (leading_at 64 x h ne))
       (λ j p q. bits_above (suc (63 - count_leading_zeros 64 x)) (λ k u v. bit-none x k (leading_above 64 x k h ne (omega arith))) j (omega arith)))
-
--- where a word is not zero, its highest bit is one of 64 (the word is taken from the test)
-pub highest-bit : {x : ℕ} → x < 2 ^ 64 → x ≢ 0 → count_leading_zeros 64 x < 64
-highest-bit {x} h ne = leading_lt 64 x h ne
 
 -- the words that hold what l has and m lacks
 abbrev pub lacking : List ℕ → List ℕ → ℕ → ℕ
@@ -407,15 +396,6 @@ module _ (n : ℕ) (f : ℕ → Bool) (l : List ℕ) (r : Row n f l) (g : ℕ �
       twice false u v = refl
 
 -- ---- the numbers below n, word by word
-
-pub below-full : (n i : ℕ) → i < n / 64 → 2 ^ 64 - 1 ≡ below_word n i
-below-full n i h = let whole : min 64 (n - 64 * i) ≡ 64 = omega arith in ap (λ (k : ℕ). 2 ^ k - 1) (sym whole)
-
-pub below_none : (n i : ℕ) → n / 64 < i → 0 ≡ below_word n i
-below_none n i h = let none : min 64 (n - 64 * i) ≡ 0 = omega arith in ap (λ (k : ℕ). 2 ^ k - 1) (sym none)
-
-pub below-part : (n i : ℕ) → (i < n / 64 → ⊥) → (n / 64 < i → ⊥) → 2 ^ (n % 64) - 1 ≡ below_word n i
-below-part n i p q = let part : min 64 (n - 64 * i) ≡ n % 64 = omega arith in ap (λ (k : ℕ). 2 ^ k - 1) (sym part)
 
 pub row_below : (n : ℕ) (l : List ℕ) → n ≤ 64 * length l → ((i : ℕ) → i < length l → get_or l i 0 ≡ below_word n i) → Row n (λ x. true) l
 unfolding has

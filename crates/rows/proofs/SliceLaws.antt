@@ -1,5 +1,5 @@
 -- Row b of a table as code cuts it out, from word b * w up to b * w + w. Assumes nothing.
-use mathlib.Core.Path.{◌≡◌, ap, ap₂, ◌∙◌}
+use mathlib.Core.Path.{◌≡◌, ap, ◌∙◌}
 use mathlib.Core.List.{List, ◌++◌, append-nil}
 use Prim.Native.Nat.{ℕ, ◌+◌, ◌-◌, ◌*◌, ◌≤◌}
 use native.Mathlib.Omega.{arith}
@@ -42,8 +42,7 @@ pub row_put : (w c : ℕ) (g h : List ℕ) (s : ℕ) (m : List ℕ) → c * w + 
     → RowPut w c (row_at h w s) g (give_back g w c m)
 row_put w c g h s m room from e = given_back w c g room (row_copied h w s (slice_at g w c) m (length_slice g w c room) from e) (length-row h w s from)
 
--- it is lent with row s of h to an operation on rows
-pub row_changed : (f : List ℕ → List ℕ → List ℕ) → ((x y : List ℕ) → length (f x y) ≡ length x) → (w c : ℕ) (g h : List ℕ) (s : ℕ) (m : List ℕ) → c * w + w ≤ length g
-    → m ≡ f (slice_at g w c) (slice_at h w s) → RowPut w c (f (row_at g w c) (row_at h w s)) g (give_back g w c m)
-row_changed f same w c g h s m room e =
-    given_back w c g room (e ∙ ap₂ f (slice_row g w c) (slice_row h w s)) (same (row_at g w c) (row_at h w s) ∙ length-row g w c room)
+-- it is lent with a row r to an operation on rows
+pub row_changed : (f : List ℕ → List ℕ → List ℕ) → ((x y : List ℕ) → length (f x y) ≡ length x) → (w c : ℕ) (g r m : List ℕ) → c * w + w ≤ length g → m ≡ f (slice_at g w c) r
+    → RowPut w c (f (row_at g w c) r) g (give_back g w c m)
+row_changed f same w c g r m room e = given_back w c g room (e ∙ ap (λ x. f x r) (slice_row g w c)) (same (row_at g w c) r ∙ length-row g w c room)

@@ -1,11 +1,12 @@
 // Bit rows of any width in lent slices: a row of w words is a set of numbers below 64 * w.
 #![tactic(auto)]
 
+pub mod graph;
 pub mod octets;
 pub mod table_rows;
 
 ghost use Rattle.std.specs.Prelude.{◌≡◌, true, not, ◌&&◌, ◌||◌, ◌++◌, ℕ, ◌+◌, ◌*◌, ◌/◌, ◌^◌, ◌<◌, ◌≤◌, length, take, drop, replicate};
-ghost use Rattle.rows.specs.Lowest.{lowest, highest, some};
+ghost use Rattle.rows.specs.Lowest.{found, found_last, some};
 ghost use Rattle.rows.specs.Count.{how_many};
 ghost use Rattle.rows.specs.Row.{has, insert, erase, or_row, and_row, minus_row, or_part, only_first, below_word, Row};
 
@@ -28,8 +29,8 @@ pub fn insert(row: &mut [u64], b: usize)
     requires { b / 64 < length row.old }
     ensures { row.new ≡ insert row.old b }
 {
-    for i in 0..row.len() {
-        row[i] |= ((i == b / 64) as u64) << (b % 64);
+    for (i, word) in row.iter_mut().enumerate() {
+        *word |= ((i == b / 64) as u64) << (b % 64);
     }
 }
 
@@ -43,21 +44,19 @@ pub fn remove(row: &mut [u64], b: usize)
 pub fn clear(row: &mut [u64])
     ensures { row.new ≡ replicate (length row.old) 0 }
 {
-    for i in 0..row.len() {
-        row[i] = 0;
-    }
+    row.fill(0);
 }
 
 fn word_below(n: usize, i: usize) -> u64
     ensures { result ≡ below_word n i }
 {
     if i < n / 64 {
-        return 0xffff_ffff_ffff_ffff;
+        u64::MAX
+    } else if n / 64 < i {
+        0
+    } else {
+        (1 << (n % 64)) - 1
     }
-    if n / 64 < i {
-        return 0;
-    }
-    (1 << (n % 64)) - 1
 }
 
 // The numbers below n.
@@ -66,27 +65,28 @@ pub fn fill_below(row: &mut [u64], n: usize)
     ensures row { Row n (λ x. true) row.new }
     ensures row_len_unchanged { length row.new ≡ length row.old }
 {
-    for i in 0..row.len() {
-        row[i] = word_below(n, i);
+    for (i, word) in row.iter_mut().enumerate() {
+        *word = word_below(n, i);
     }
 }
 
+// By index: `copy_from_slice` asks whether its slices overlap, which costs as much as a row of six words.
 pub fn copy(dst: &mut [u64], src: &[u64])
     requires { length src.now ≤ length dst.old }
     ensures { dst.new ≡ src.now ++ drop (length src.now) dst.old }
 {
-    for i in 0..src.len() {
-        dst[i] = src[i];
+    for (i, word) in src.iter().enumerate() {
+        dst[i] = *word;
     }
 }
 
-// The members of `src` join those of `dst`.
+// The members of `src` join those of `dst`. By index here and below: after a `zip` of `iter_mut` a proof knows nothing of the elements.
 pub fn union(dst: &mut [u64], src: &[u64])
     requires { length src.now ≤ length dst.old }
     ensures { dst.new ≡ or_row dst.old src.now }
 {
-    for i in 0..src.len() {
-        dst[i] |= src[i];
+    for (i, word) in src.iter().enumerate() {
+        dst[i] |= word;
     }
 }
 
@@ -95,8 +95,8 @@ pub fn intersect(dst: &mut [u64], src: &[u64])
     requires { length src.now ≤ length dst.old }
     ensures { dst.new ≡ and_row dst.old src.now }
 {
-    for i in 0..src.len() {
-        dst[i] &= src[i];
+    for (i, word) in src.iter().enumerate() {
+        dst[i] &= word;
     }
 }
 
@@ -105,8 +105,8 @@ pub fn meet(dst: &mut [u64], a: &[u64], b: &[u64], c: &[u64])
     requires { (length a.now ≡ length dst.old) × (length b.now ≡ length dst.old) × (length c.now ≡ length dst.old) }
     ensures { dst.new ≡ and_row (and_row a.now b.now) c.now }
 {
-    for i in 0..dst.len() {
-        dst[i] = a[i] & b[i] & c[i];
+    for (i, word) in a.iter().enumerate() {
+        dst[i] = word & b[i] & c[i];
     }
 }
 
@@ -115,8 +115,8 @@ pub fn discard(dst: &mut [u64], src: &[u64], b: usize)
     requires { (length src.now ≤ length dst.old) × (b / 64 < length src.now) }
     ensures { dst.new ≡ minus_row dst.old (insert src.now b) }
 {
-    for i in 0..src.len() {
-        dst[i] &= !(src[i] | ((i == b / 64) as u64) << (b % 64));
+    for (i, word) in src.iter().enumerate() {
+        dst[i] &= !(word | ((i == b / 64) as u64) << (b % 64));
     }
 }
 
@@ -126,8 +126,8 @@ pub fn join_outside(dst: &mut [u64], q: &[u64], s: &[u64], r: &[u64])
     ensures dst_len_unchanged { length dst.new ≡ length dst.old }
     ensures by_index { (x : ℕ) → has dst.new x ≡ has dst.old x || (has q.now x && (has s.now x && not (has r.now x))) }
 {
-    for i in 0..dst.len() {
-        dst[i] |= q[i] & (s[i] & !r[i]);
+    for (i, word) in q.iter().enumerate() {
+        dst[i] |= word & (s[i] & !r[i]);
     }
 }
 
@@ -145,53 +145,40 @@ pub fn union_into(rows: &mut [u64], at: usize, src: &[u64])
     requires { at + length src.now ≤ length rows.old }
     ensures { rows.new ≡ or_part rows.old at src.now }
 {
-    let end = at + src.len();
-    union(&mut rows[at..end], src);
+    union(&mut rows[at..at + src.len()], src);
 }
 
-// The lowest member, or the first number past the row where there is none.
-pub fn lowest(row: &[u64]) -> usize
+// The lowest member, if there is any. That its number fits is asked of the slice, here and below: a struct that held it would be made anew at each call.
+pub fn lowest(row: &[u64]) -> Option<usize>
     requires { 64 * length row.now < 2 ^ 64 }
-    ensures { result ≡ lowest (64 * length row.now) (has row.now) }
+    ensures { result ≡ found (64 * length row.now) (has row.now) }
 {
-    for i in 0..row.len() {
-        let x = row[i];
-        if x != 0 {
-            return i * 64 + u64::trailing_zeros(x) as usize;
-        }
-    }
-    row.len() * 64
+    let i = row.iter().position(|word| *word != 0)?;
+    Some(64 * i + row[i].trailing_zeros() as usize)
 }
 
-// The highest member, or the first number past the row where there is none.
-pub fn highest(row: &[u64]) -> usize
+// The highest member, if there is any.
+pub fn highest(row: &[u64]) -> Option<usize>
     requires { 64 * length row.now < 2 ^ 64 }
-    ensures { result ≡ highest (64 * length row.now) (has row.now) }
+    ensures { result ≡ found_last (64 * length row.now) (has row.now) }
 {
-    let mut i = row.len();
-    while 0 < i {
-        i -= 1;
-        let x = row[i];
-        if x != 0 {
-            return i * 64 + (63 - u64::leading_zeros(x) as usize);
-        }
-    }
-    row.len() * 64
+    let i = row.iter().rposition(|word| *word != 0)?;
+    Some(64 * i + (63 - row[i].leading_zeros() as usize))
 }
 
-// The lowest member of `a` that `b` lacks, or the first number past the row.
-pub fn lowest_difference(a: &[u64], b: &[u64]) -> usize
+// The lowest member of `a` that `b` lacks, if there is any. By index into `b`, whose end a `zip` would test at each word.
+pub fn lowest_difference(a: &[u64], b: &[u64]) -> Option<usize>
     requires a_bound { 64 * length a.now < 2 ^ 64 }
     requires a_in_bounds { length a.now ≤ length b.now }
-    ensures { result ≡ lowest (64 * length a.now) (only_first a.now b.now) }
+    ensures { result ≡ found (64 * length a.now) (only_first a.now b.now) }
 {
-    for i in 0..a.len() {
-        let x = a[i] & !b[i];
-        if x != 0 {
-            return i * 64 + u64::trailing_zeros(x) as usize;
+    for (i, word) in a.iter().enumerate() {
+        let lacking = word & !b[i];
+        if lacking != 0 {
+            return Some(64 * i + lacking.trailing_zeros() as usize);
         }
     }
-    a.len() * 64
+    None
 }
 
 // How many members of `a` there are that `b` lacks: the ones of the row difference.
@@ -200,11 +187,10 @@ pub fn count_difference(a: &[u64], b: &[u64]) -> usize
     requires a_in_bounds { length a.now ≤ length b.now }
     ensures { result ≡ how_many (64 * length a.now) (only_first a.now b.now) }
 {
-    let mut n: usize = 0;
-    for i in 0..a.len() {
-        n += u64::count_ones(a[i] & !b[i]) as usize;
-    }
-    n
+    a.iter()
+        .zip(b)
+        .map(|(x, y)| (x & !y).count_ones() as usize)
+        .sum()
 }
 
 // Whether `b` has every member of `a`.
@@ -213,5 +199,5 @@ pub fn is_subset(a: &[u64], b: &[u64]) -> bool
     requires a_in_bounds { length a.now ≤ length b.now }
     ensures { result ≡ not (some (64 * length a.now) (only_first a.now b.now)) }
 {
-    64 * a.len() <= lowest_difference(a, b)
+    lowest_difference(a, b).is_none()
 }

@@ -1,7 +1,8 @@
 // Rows of bits in bytes, and little-endian numbers.
-ghost use Rattle.std.specs.Prelude.{◌≡◌, ◌+◌, ◌*◌, ◌/◌, ◌<◌, ◌≤◌, length};
+ghost use Rattle.std.specs.Prelude.{◌≡◌, ◌+◌, ◌*◌, ◌/◌, ◌<◌, ◌≤◌, length, take, drop};
 ghost use Rattle.rows.specs.Octets.{has_byte, little, words};
 
+// As `test` of a row, of bytes from `base` on: a trait over both would be longer than the two.
 pub fn test(s: &[u8], base: usize, b: usize) -> bool
     requires { base + b / 8 < length s.now }
     ensures { result ≡ has_byte s.now base b }
@@ -9,25 +10,35 @@ pub fn test(s: &[u8], base: usize, b: usize) -> bool
     (s[base + b / 8] >> (b % 8)) & 1 == 1
 }
 
+fn bytes_at<const N: usize>(s: &[u8], at: usize) -> [u8; N]
+    requires { at + N ≤ length s.now }
+    ensures { result ≡ take N (drop at s.now) }
+{
+    let mut bytes = [0; N];
+    bytes.copy_from_slice(&s[at..at + N]);
+    bytes
+}
+
+// A line for each width: no trait has `from_le_bytes`.
 pub fn u16_at(s: &[u8], at: usize) -> u16
     requires { at + 2 ≤ length s.now }
     ensures { result ≡ little 2 s.now at }
 {
-    s[at] as u16 | (s[at + 1] as u16) << 8
+    u16::from_le_bytes(bytes_at(s, at))
 }
 
 pub fn u32_at(s: &[u8], at: usize) -> u32
     requires { at + 4 ≤ length s.now }
     ensures { result ≡ little 4 s.now at }
 {
-    u16_at(s, at) as u32 | (u16_at(s, at + 2) as u32) << 16
+    u32::from_le_bytes(bytes_at(s, at))
 }
 
 pub fn u64_at(s: &[u8], at: usize) -> u64
     requires { at + 8 ≤ length s.now }
     ensures { result ≡ little 8 s.now at }
 {
-    u32_at(s, at) as u64 | (u32_at(s, at + 4) as u64) << 32
+    u64::from_le_bytes(bytes_at(s, at))
 }
 
 // The words of a byte row.
@@ -35,7 +46,7 @@ pub fn load(row: &mut [u64], s: &[u8], at: usize)
     requires { at + 8 * length row.old ≤ length s.now }
     ensures { row.new ≡ words (length row.old) s.now at }
 {
-    for i in 0..row.len() {
-        row[i] = u64_at(s, at + 8 * i);
+    for (i, word) in row.iter_mut().enumerate() {
+        *word = u64_at(s, at + 8 * i);
     }
 }

@@ -22,9 +22,8 @@ use Rattle.store.specs.Calls.{Call, put, get, deliver, close, malformed, call_at
 use Rattle.store.specs.Rules.{refusal, close_copies, copied, after_call, run, kind_of, done, closed, total, done_answer, answer, answers}
 use Rattle.store.specs.Outstanding.{outstanding, puts, told_done, told_copies, ToldAddsUp}
 use Rattle.store.specs.Close.{AllAgree, Closes}
-use Rattle.store.specs.Rehearsal.{terms_of, store_after, outstanding_after}
+use Rattle.store.specs.Rehearsal.{InNumbers, terms_of, store_after, outstanding_after}
 use Rattle.store.specs.Demand.{Rehearses}
-use Rattle.store.specs.declared.Rehearsed.{Rehearsed}
 use Rattle.store.proofs.OutstandingLaws.{outstanding-none}
 use Rattle.store.proofs.CloseLaws.{copied-outstanding}
 use Rattle.store.proofs.EveryClose.{every-close}
@@ -158,7 +157,7 @@ module _ (n : ℕ) (n≤8 : n ≤ 8) (T : Terms) (s rest : List ℕ) where
 
 -- ---- what follows, of the count that a rehearsal tells
 
-module _ (n : ℕ) (openings script rec ans rec' ans' : List ℕ) (r : Rehearsed) (h : Rehearses n openings script rec ans rec' ans' r) where
+module _ (n : ℕ) (openings script rec ans rec' ans' : List ℕ) (r : InNumbers) (h : Rehearses n openings script rec ans rec' ans' r) where
   -- where it was refused, none is told
   none_or : (r.number ≡ 0 → r.outstanding ≡ 0) → r.outstanding ≡ 0
   unfolding outstanding_after

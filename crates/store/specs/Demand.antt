@@ -13,8 +13,7 @@ use Rattle.store.specs.Calls.{Call, close, calls_of}
 use Rattle.store.specs.Rules.{run, answer}
 use Rattle.store.specs.Close.{close_answer, Closes}
 use Rattle.store.specs.Outstanding.{AddsUp, ToldAddsUp}
-use Rattle.store.specs.Rehearsal.{rehearsal_refusal, terms_of, store_before, call_count, call_in, answer_in, record_of, record_after, answers_after, length_after, outstanding_after}
-use Rattle.store.specs.declared.Rehearsed.{Rehearsed}
+use Rattle.store.specs.Rehearsal.{InNumbers, rehearsal_refusal, terms_of, store_before, call_count, call_in, answer_in, record_of, record_after, answers_after, length_after, outstanding_after}
 
 -- a record passes every check, and is causal: predicates 10, 11 and 1 hold of it. hb, of which 10 and 11 speak, is one or more steps, each so or vis; and
 -- an event is on a ring, of which question 10 speaks, where one or more steps of vis lead from it to itself
@@ -28,7 +27,7 @@ pub record CausalRecord (s : List ℕ) : Type 0 where
 
 -- n sites, openings, a script, and the record and answer buffers, as lent and as left. The record is of the edition that a store writes, says that clocks don't differ, and has the openings as they were lent. Each close in the script's list finds the store of the calls before it.
 -- The copies outstanding are told exactly, and add up with those that came, by the store's rules and by the answers as left
-pub record Rehearses (n : ℕ) (openings script rec ans rec' ans' : List ℕ) (r : Rehearsed) : Type 0 where
+pub record Rehearses (n : ℕ) (openings script rec ans rec' ans' : List ℕ) (r : InNumbers) : Type 0 where
   pub number : r.number ≡ rehearsal_refusal n openings script rec ans
   pub length : r.length ≡ length_after n openings script rec ans
   pub recorded : rec' ≡ record_after n openings script rec ans

@@ -1,5 +1,5 @@
 -- A rehearsal: 20 to 23 and 40, then the whole list of calls from fresh sites; its number, record, answers and copies outstanding.
-use Rattle.std.specs.Prelude.{cond, ◌&&◌, List, ◌++◌, ℕ, ◌*◌, ◌/◌, ◌%◌, eqb, leb, length, take, drop}
+use Rattle.std.specs.Prelude.{cond, ◌&&◌, List, ◌++◌, ℕ, ◌*◌, ◌/◌, ◌%◌, eqb, leb, length, take, drop, ⊤, Result, Ok, Err}
 use Rattle.record.specs.Layout.{store_layout, longest_record}
 use Rattle.record.specs.Terms.{Terms, opening_in, openings_right}
 use Rattle.store.specs.Store.{Store, fresh}
@@ -8,6 +8,31 @@ use Rattle.record.specs.Questions.{ask}
 use Rattle.store.specs.Rules.{run, answers}
 use Rattle.store.specs.Recorded.{store_record}
 use Rattle.store.specs.Outstanding.{outstanding}
+use Rattle.store.specs.declared.Rehearsed.{Rehearsed}
+use Rattle.store.specs.declared.Unrehearsed.{Unrehearsed}
+use Rattle.store.specs.declared.Unrehearsed.TheVariants.{Sites, Script, ShortRecord, ShortAnswers, Openings}
+
+-- what a rehearsal came to, in numbers: 0 or the number that refused it, the record's length, and the copies outstanding
+pub record InNumbers : Type 0 where
+  pub number : ℕ
+  pub length : ℕ
+  pub outstanding : ℕ
+
+abbrev pub unrehearsed_number : Unrehearsed → ℕ
+unrehearsed_number Sites = 20
+unrehearsed_number Script = 21
+unrehearsed_number ShortRecord = 22
+unrehearsed_number ShortAnswers = 23
+unrehearsed_number Openings = 40
+
+-- 0 where nothing refuses
+abbrev pub number_in : Result ⊤ Unrehearsed → ℕ
+number_in (Ok u) = 0
+number_in (Err u) = unrehearsed_number u
+
+abbrev pub in_numbers : Result Rehearsed Unrehearsed → InNumbers
+in_numbers (Ok r) = record { number = 0; length = r.length; outstanding = r.outstanding }
+in_numbers (Err u) = record { number = unrehearsed_number u; length = 0; outstanding = 0 }
 
 -- 20 sites, 21 script, 22 record buffer, 23 answer buffer, 40 openings; 0 where all are right
 unfoldable pub rehearsal_refusal : ℕ → List ℕ → List ℕ → List ℕ → List ℕ → ℕ

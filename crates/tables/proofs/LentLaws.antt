@@ -1,22 +1,33 @@
 -- Laws of a slice whose part is lent, filled and given back. Assumes nothing.
 use mathlib.Core.Path.{◌≡◌, refl, sym, ap, ◌∙◌}
+use mathlib.Core.Bool.{Bool, ◌&&◌}
 use mathlib.Core.List.{List, ◌++◌}
 use Prim.Native.Nat.{ℕ, ◌+◌, ◌*◌, ◌≤◌}
 use native.Mathlib.Nat.{zero-mul, add-mul}
 use native.Mathlib.Omega.{arith}
+use native.Mathlib.Decide.{dec_lt}
+use borrow.Author.Tests.{le-ltb}
 use lib.ListN.{length, take, drop}
 use lib.Seq.{length-take-le, length_front, drop_at, drop-drop}
-use Rattle.rows.specs.Row.{row_at, RowPut}
+use Rattle.std.proofs.lemmas.List.{take_all}
+use Rattle.rows.specs.Row.{has, row_at, Row}
 use Rattle.rows.specs.Relation.{Rel, Table, Filled}
-use Rattle.rows.proofs.TableLaws.{row_room, row-front}
-use Rattle.rows.proofs.SliceLaws.{slice_at, length_slice, copy_over, give_back, given_back}
-
--- a row r is copied over row c
-pub row-given : (w c : ℕ) (g r m : List ℕ) → length r ≡ w → c * w + w ≤ length g → m ≡ r ++ drop (length r) (slice_at g w c) → RowPut w c r g (give_back g w c m)
-row-given w c g r m wide room e = given_back w c g room (e ∙ copy_over r (slice_at g w c) (wide ∙ sym (length_slice g w c room))) wide
+use Rattle.rows.proofs.RowLaws.{has_past}
+use Rattle.rows.proofs.TableLaws.{row_room, row-front, length-row_le, has-row}
 
 pub row_first : (g : List ℕ) (w : ℕ) → row_at g w 0 ≡ take w g
 row_first g w = ap (λ (k : ℕ). take w (drop k g)) (zero-mul w)
+
+-- a lent row is its own first row
+pub row_whole : (g : List ℕ) (w : ℕ) → length g ≡ w → row_at g w 0 ≡ g
+row_whole g w e = row_first g w ∙ take_all w g (omega arith)
+
+-- a row of n events is in its first w words
+pub row_cut : (n w : ℕ) (f : ℕ → Bool) (l : List ℕ) → n ≤ 64 * w → Row n f l → Row n f (row_at l w 0)
+row_cut n w f l wide r x = elim (dec_lt x (64 * w)) [
+  | yes h ↦ let here : 64 * (0 * w) + x ≡ x = omega arith in has-row l w 0 x h ∙ ap (has l) here ∙ r x
+  | no h ↦ has_past (row_at l w 0) x (omega (arith, length-row_le l w 0)) ∙ sym (ap (λ (t : Bool). t && f x) (le-ltb x n (omega arith)))
+]
 
 -- of two tables one after the other, a row of the second, whose rows follow the first's k
 pub row_back : (p q : List ℕ) (w k b : ℕ) → length p ≡ k * w → row_at (p ++ q) w (k + b) ≡ row_at q w b

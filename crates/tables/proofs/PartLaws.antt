@@ -9,7 +9,7 @@ use native.Mathlib.Decide.{dec_lt}
 use lib.ListN.{length, get_or, take, drop, length-append, length-take, length-drop}
 use lib.Seq.{length-take-le, drop_at, drop-drop, get_or-take, get_or-drop, ext_get_or, take-append-le, drop-append-le}
 use Rattle.rows.specs.Row.{row_at, RowPut, RowChanged}
-use Rattle.rows.proofs.TableLaws.{row_room, length-row_le, get_d_row}
+use Rattle.rows.proofs.TableLaws.{length-row_le, get_d_row}
 use Rattle.tables.specs.Tables.{part}
 
 -- ---- table k of tables of n rows
@@ -50,22 +50,17 @@ part-front n w k t r h =
     ∙ take-append-le (n * w) (drop (k * (n * w)) t) r (omega (arith, length-drop (k * (n * w)) t))
 
 -- the first m words of t are lent, and t' given back
-pub front-given : (m : ℕ) (t t' : List ℕ) → m ≤ length t → length t' ≡ length (take (m - 0) t)
-    → (length t' ≡ m) × (length (t' ++ drop (m - 0) t) ≡ length t) × (drop m (t' ++ drop (m - 0) t) ≡ drop m t)
+pub front-given : (m : ℕ) (t t' : List ℕ) → m ≤ length t → length t' ≡ length (take m t)
+    → (length t' ≡ m) × (length (t' ++ drop m t) ≡ length t) × (drop m (t' ++ drop m t) ≡ drop m t)
 front-given m t t' h e =
-    let z : m - 0 ≡ m = omega arith in
-    let size : length t' ≡ m = e ∙ ap (λ (k : ℕ). length (take k t)) z ∙ length-take-le m t h in
-    rw z (size, omega (arith, size, length-append t' (drop m t), length-drop m t), drop_at t' (drop m t) m size)
+    let size : length t' ≡ m = e ∙ length-take-le m t h in
+    (size, omega (arith, size, length-append t' (drop m t), length-drop m t), drop_at t' (drop m t) m size)
 
 -- lists that are the same from j on are so from k on
 pub same-later : (j k : ℕ) (x y : List ℕ) → j ≤ k → drop j x ≡ drop j y → drop k x ≡ drop k y
 same-later j k x y h e =
     let on : k ≡ j + (k - j) = omega arith in
     ap (λ (i : ℕ). drop i x) on ∙ sym (drop-drop (k - j) j x) ∙ ap (drop (k - j)) e ∙ drop-drop (k - j) j y ∙ ap (λ (i : ℕ). drop i y) (sym on)
-
--- a row of five tables lies within their slice
-pub five_room : (n w r m : ℕ) → r < 5 * n → m ≡ 5 * (n * w) → r * w + w ≤ m
-five_room n w r m h e = row_room (5 * n) w r m h (omega (arith, mul_assoc 5 n w))
 
 -- rows of two events, in whatever tables, are apart
 pub places-apart : (n k j b c : ℕ) → b < n → c < n → b ≢ c → k * n + b ≢ j * n + c

@@ -5,16 +5,16 @@ use mathlib.Core.List.{List, ◌++◌}
 use Prim.Native.Nat.{ℕ, ◌+◌, ◌-◌, ◌*◌, ◌≤◌, ◌<◌}
 use native.Mathlib.Nat.{add-mul}
 use native.Mathlib.Omega.{arith}
-use native.Mathlib.Decide.{ℕ_discrete, dec_lt}
-use borrow.Author.Tests.{eq-eqb, ne_eqb, le-ltb}
+use native.Mathlib.Decide.{ℕ_discrete}
+use borrow.Author.Tests.{eq-eqb, ne_eqb}
 use lib.Dec.{eqb, ltb}
 use lib.ListN.{length, get_or, take, drop, replicate, length-replicate, length-append, length-take, length-drop}
 use lib.Seq.{length-take-le, take_at, drop_at, drop-drop}
 use Rattle.rows.specs.Row.{has, or_row, row_at, Row, RowPut}
 use Rattle.rows.specs.Relation.{Rel, Table}
 use Rattle.rows.proofs.LowestLaws.{some_of}
-use Rattle.rows.proofs.RowLaws.{has_past, has-or, row_empty, row_same}
-use Rattle.rows.proofs.TableLaws.{row_room, length-row, length-row_le, has-row}
+use Rattle.rows.proofs.RowLaws.{has-or, row_empty, row_same}
+use Rattle.rows.proofs.TableLaws.{row_room, length-row, length-row_le}
 use Rattle.record.specs.Terms.{Terms}
 use Rattle.record.specs.History.{History, under, vis}
 use Rattle.record.specs.Words.{start_in, history_from}
@@ -22,16 +22,10 @@ use Rattle.consistency.specs.Relations.{ob, rb, so, step, read, both, through}
 use Rattle.consistency.proofs.ClockLaws.{rb-even, rb_far}
 use Rattle.tables.specs.Tables.{part}
 use Rattle.tables.specs.Sweep.{InOrder, taken, ReturnedBefore, returned_in, FarJoined, OneClock, Sweeps}
+use Rattle.tables.proofs.LentLaws.{row_cut}
 use Rattle.tables.proofs.PartLaws.{front-given, same-later}
 use Rattle.tables.proofs.SweepLaws.{clock-front}
 use Rattle.tables.proofs.TakenLaws.{Marks, marks_none, marks_more, taken_none, taken_more, taken-returned}
-
--- a row of n events is in its first w words
-row-front : (n w : ℕ) (f : ℕ → Bool) (far : List ℕ) → n ≤ 64 * w → Row n f far → Row n f (row_at far w 0)
-row-front n w f far wide r x = elim (dec_lt x (64 * w)) [
-  | yes h ↦ let here : 64 * (0 * w) + x ≡ x = omega arith in has-row far w 0 x h ∙ ap (has far) here ∙ r x
-  | no h ↦ has_past (row_at far w 0) x (omega (arith, length-row_le far w 0)) ∙ sym (ap (λ (t : Bool). t && f x) (le-ltb x n (omega arith)))
-]
 
 module _ (l : List ℕ) (n w d : ℕ) (starts returns : List ℕ) where
   -- a returned before b's start less the difference
@@ -78,7 +72,7 @@ module _ (l : List ℕ) (n w d : ℕ) (starts returns : List ℕ) where
           -- the row that is joined
           joined : Row n (λ a. far_before a c) (row_at far' w 0)
           joined =
-              row-front n w (λ a. far_before a c) far' many
+              row_cut n w (λ a. far_before a c) far' many
               (row_same n (taken returns k') far' u (λ a. far_before a c) (taken-returned l n returns (length returns) k' (start_in l c - d) by-return (rw e at b)))
 
           here_taken : taken starts (i + 1) c ≡ true
@@ -174,16 +168,15 @@ module _ (n w : ℕ) (l v : List ℕ) (q : Terms) where
     again_size : length again ≡ length t
     again_size = omega (arith, length-append (take (n * w) (drop (n * w) t)) (drop (n * w) t), again_long, length-drop (n * w) t)
 
-    module _ (x : List ℕ) (long : length x ≡ length (take (n * w - 0) again))
-        (join : (r : Rel) → Table n w r (take (n * w - 0) again) → Table n w (λ a b. returned_in l a (start_in l b - q.difference) || r a b) x) where
+    module _ (x : List ℕ) (long : length x ≡ length (take (n * w) again))
+        (join : (r : Rel) → Table n w r (take (n * w) again) → Table n w (λ a b. returned_in l a (start_in l b - q.difference) || r a b) x) where
       full : length x ≡ n * w
-      full = omega (arith, long, length-take (n * w - 0) again, again_size)
+      full = omega (arith, long, length-take (n * w) again, again_size)
 
-      lent-so : take (n * w - 0) again ≡ part n w 1 t
+      lent-so : take (n * w) again ≡ part n w 1 t
       lent-so =
-          let z : n * w - 0 ≡ n * w = omega arith in
           let one : n * w ≡ 1 * (n * w) = omega arith in
-          ap (λ (k : ℕ). take k again) z ∙ take_at (take (n * w) (drop (n * w) t)) (drop (n * w) t) (n * w) again_long ∙ ap (λ (k : ℕ). take (n * w) (drop k t)) one
+          take_at (take (n * w) (drop (n * w) t)) (drop (n * w) t) (n * w) again_long ∙ ap (λ (k : ℕ). take (n * w) (drop k t)) one
 
       rb-table : Table n w (rb (under q (history_from n w l v))) x
       unfolding history_from
@@ -199,44 +192,42 @@ module _ (n w : ℕ) (l v : List ℕ) (q : Terms) where
 
 -- ---- as code does it: of the words t the first 5 × (n × w) are lent, and f given back
 
-module _ (n w : ℕ) (l v : List ℕ) (q : Terms) (t f : List ℕ) (room : 5 * (n * w) ≤ length t) (e : length f ≡ length (take (5 * (n * w) - 0) t))
+module _ (n w : ℕ) (l v : List ℕ) (q : Terms) (t f : List ℕ) (room : 5 * (n * w) ≤ length t) (e : length f ≡ length (take (5 * (n * w)) t))
     (own : OneClock n w l (under q (history_from n w l v)) f) where
   abbrev t₁ : List ℕ
-  t₁ = f ++ drop (5 * (n * w) - 0) t
+  t₁ = f ++ drop (5 * (n * w)) t
 
   whole : OneClock n w l (under q (history_from n w l v)) t₁
-  whole = clock-front n w l (under q (history_from n w l v)) f (drop (5 * (n * w) - 0) t) (front-given (5 * (n * w)) t f room e).0 own
+  whole = clock-front n w l (under q (history_from n w l v)) f (drop (5 * (n * w)) t) (front-given (5 * (n * w)) t f room e).0 own
 
-  pub filled_size : length (f ++ drop (5 * (n * w) - 0) t) ≡ length t
+  pub filled_size : length (f ++ drop (5 * (n * w)) t) ≡ length t
   filled_size = (front-given (5 * (n * w)) t f room e).1
 
   filled_rest : drop (5 * (n * w)) t₁ ≡ drop (5 * (n * w)) t
   filled_rest = (front-given (5 * (n * w)) t f room e).2
 
   pub tables-even : q.difference ≡ 0
-      → Sweeps n w (under q (history_from n w l v)) (f ++ drop (5 * (n * w) - 0) t) × (length (f ++ drop (5 * (n * w) - 0) t) ≡ length t)
-      × (drop (5 * (n * w)) (f ++ drop (5 * (n * w) - 0) t) ≡ drop (5 * (n * w)) t)
+      → Sweeps n w (under q (history_from n w l v)) (f ++ drop (5 * (n * w)) t) × (length (f ++ drop (5 * (n * w)) t) ≡ length t)
+      × (drop (5 * (n * w)) (f ++ drop (5 * (n * w)) t) ≡ drop (5 * (n * w)) t)
   tables-even z = (even n w l v q t₁ z whole, filled_size, filled_rest)
 
-  module _ (t₂ : List ℕ) (put : t₂ ≡ take (n * w) (drop (n * w) (f ++ drop (5 * (n * w) - 0) t)) ++ drop (n * w) (f ++ drop (5 * (n * w) - 0) t)) where
+  module _ (t₂ : List ℕ) (put : t₂ ≡ take (n * w) (drop (n * w) (f ++ drop (5 * (n * w)) t)) ++ drop (n * w) (f ++ drop (5 * (n * w)) t)) where
     again_room : 2 * (n * w) ≤ length t₁
     again_room = omega (arith, filled_size)
 
     pub lent-size : length t₂ ≡ length t
     lent-size = ap length put ∙ again_size n w l v q t₁ whole again_room ∙ filled_size
 
-    pub tables_joined : (x : List ℕ) → length x ≡ length (take (n * w - 0) t₂)
-        → ((r : Rel) → Table n w r (take (n * w - 0) t₂) → Table n w (λ a b. returned_in l a (start_in l b - q.difference) || r a b) x)
-        → Sweeps n w (under q (history_from n w l v)) (x ++ drop (n * w - 0) t₂) × (length (x ++ drop (n * w - 0) t₂) ≡ length t)
-        × (drop (5 * (n * w)) (x ++ drop (n * w - 0) t₂) ≡ drop (5 * (n * w)) t)
+    pub tables_joined : (x : List ℕ) → length x ≡ length (take (n * w) t₂)
+        → ((r : Rel) → Table n w r (take (n * w) t₂) → Table n w (λ a b. returned_in l a (start_in l b - q.difference) || r a b) x)
+        → Sweeps n w (under q (history_from n w l v)) (x ++ drop (n * w) t₂) × (length (x ++ drop (n * w) t₂) ≡ length t)
+        × (drop (5 * (n * w)) (x ++ drop (n * w) t₂) ≡ drop (5 * (n * w)) t)
     tables_joined x long join =
-        let z : n * w - 0 ≡ n * w = omega arith in
         let g = front-given (n * w) t₂ x (omega (arith, lent-size)) long in
         let kept : drop (n * w) t₂ ≡ drop (n * w) t₁ = ap (drop (n * w)) put ∙ drop_at (take (n * w) (drop (n * w) t₁)) (drop (n * w) t₁) (n * w) (again_long n w l v q t₁ whole again_room) in (
-          subst (λ (k : ℕ). Sweeps n w (under q (history_from n w l v)) (x ++ drop k t₂)) (sym z)
-              (subst (λ (y : List ℕ). Sweeps n w (under q (history_from n w l v)) (x ++ drop (n * w) y)) (sym put)
-              (apart n w l v q t₁ whole again_room x (subst (λ (y : List ℕ). length x ≡ length (take (n * w - 0) y)) put long)
-              (subst (λ (y : List ℕ). (r : Rel) → Table n w r (take (n * w - 0) y) → Table n w (λ a b. returned_in l a (start_in l b - q.difference) || r a b) x) put join))),
+          subst (λ (y : List ℕ). Sweeps n w (under q (history_from n w l v)) (x ++ drop (n * w) y)) (sym put)
+              (apart n w l v q t₁ whole again_room x (subst (λ (y : List ℕ). length x ≡ length (take (n * w) y)) put long)
+              (subst (λ (y : List ℕ). (r : Rel) → Table n w r (take (n * w) y) → Table n w (λ a b. returned_in l a (start_in l b - q.difference) || r a b) x) put join)),
           g.1 ∙ lent-size,
-          same-later (n * w) (5 * (n * w)) (x ++ drop (n * w - 0) t₂) t₁ (omega arith) (g.2 ∙ kept) ∙ filled_rest,
+          same-later (n * w) (5 * (n * w)) (x ++ drop (n * w) t₂) t₁ (omega arith) (g.2 ∙ kept) ∙ filled_rest,
         )

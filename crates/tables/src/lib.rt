@@ -3,5 +3,8 @@
 
 pub mod arbitration;
 pub mod groups;
+mod order;
 pub mod real_time;
+mod returned;
 pub mod sweep;
+mod swept;

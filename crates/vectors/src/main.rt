@@ -2,7 +2,7 @@
 // writes the reading and what the slice holds afterwards.
 #![tactic(auto)]
 
-use lines::input;
+use lines::{Line, input};
 use record::layout;
 use std::env::FillError;
 use std::rt::{Env, Files};
@@ -14,42 +14,33 @@ fn noise(i: usize) -> u64 {
 }
 
 fn fill(work: &mut [u64]) {
-    for i in 0..work.len() {
-        work[i] = noise(i);
+    for (i, word) in work.iter_mut().enumerate() {
+        *word = noise(i);
     }
 }
 
 // The words mixed into one number, each at its own turn.
 fn digest(work: &[u64]) -> u64 {
-    let mut d: u64 = 0;
-    for i in 0..work.len() {
-        d = ((d << 1) | (d >> 63)) ^ work[i];
-    }
-    d
+    work.iter()
+        .fold(0, |mixed, word| mixed.rotate_left(1) ^ word)
 }
 
+// Whether the words from that place on are as they were lent.
 fn is_kept(work: &[u64], from: usize) -> bool {
-    for i in from..work.len() {
-        if work[i] != noise(i) {
-            return false;
-        }
-    }
-    true
+    work.iter()
+        .enumerate()
+        .skip(from)
+        .all(|(i, word)| *word == noise(i))
 }
 
 fn report(rt: &impl Print, s: &[u8], work: &mut [u64]) -> io::Result<()> {
     fill(work);
     let reading = reader::read(s, work);
-    let words = work.len();
-    print!(rt; "  {words}: ")?;
-    lines::reading(rt, reading)?;
-    let kept = is_kept(work, 0);
-    let rest = is_kept(work, layout::WORK);
-    let digest = digest(work);
-    print!(rt; "    digest {digest:016x}")?;
-    if kept {
+    println!(rt; "  {}: {}", work.len(), Line(reading))?;
+    print!(rt; "    digest {:016x}", digest(work))?;
+    if is_kept(work, 0) {
         println!(rt; ", all kept")
-    } else if rest {
+    } else if is_kept(work, layout::WORK) {
         println!(rt; ", words from {} on kept", layout::WORK)
     } else {
         println!(rt; ", later words changed")
@@ -58,12 +49,9 @@ fn report(rt: &impl Print, s: &[u8], work: &mut [u64]) -> io::Result<()> {
 
 // The reports on one input.
 fn reports(rt: &impl Print, s: &[u8]) -> io::Result<()> {
-    let mut short = [0u64; layout::WORK - 1];
-    let mut exact = [0u64; layout::WORK];
-    let mut long = [0u64; layout::WORK + 6];
-    report(rt, s, &mut short)?;
-    report(rt, s, &mut exact)?;
-    report(rt, s, &mut long)
+    report(rt, s, &mut [0; layout::WORK - 1])?;
+    report(rt, s, &mut [0; layout::WORK])?;
+    report(rt, s, &mut [0; layout::WORK + 6])
 }
 
 // A file that does not open has a line on standard error in place of its reports, and so has a path that is not text.
@@ -87,7 +75,7 @@ fn vector(rt: &(impl Files + Print + Eprint), path: &[u8]) -> io::Result<()> {
 const LONGEST_PATH: usize = 4095;
 
 fn main(rt: HostRuntime) -> io::Result<()> {
-    // Argument 0 is the program's name.
+    // Argument 0 is the program's name. By number: the library's iterator of arguments needs the heap.
     for i in 1..usize::MAX {
         let mut path = [0u8; LONGEST_PATH];
         let length = match rt.arg(i, &mut path) {

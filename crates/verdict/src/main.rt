@@ -4,21 +4,46 @@
 
 use lines::input;
 use record::layout;
-use std::io;
+use std::{fmt, io};
 
-// The line of one predicate, from its judgment's number.
-fn write_judgment(rt: &impl Print, predicate: usize, judgment: u64) -> io::Result<()> {
-    if judgment == 0 {
-        return println!(rt; "{predicate} met");
-    }
-    let first = judgment / packed::PLACES % packed::PLACES;
-    let second = judgment % packed::PLACES;
-    println!(rt; "{predicate} broken {first} {second}")
+// The line of one predicate, by its judgment's number: `judge_all` gives those that C is given.
+#[derive(Drop)]
+struct Line {
+    predicate: usize,
+    judgment: u64,
 }
 
-fn write_judgments(rt: &impl Print, judgments: [u64; 13]) -> io::Result<()> {
-    for k in 0..13 {
-        write_judgment(rt, k + 1, judgments[k])?;
+impl Line {
+    // The pair that breaks it.
+    fn pair(&self) -> Option<(u64, u64)> {
+        let pair = (
+            self.judgment / packed::PLACES % packed::PLACES,
+            self.judgment % packed::PLACES,
+        );
+        (self.judgment != 0).then_some(pair)
+    }
+}
+
+impl fmt::Display for Line {
+    fn fmt<W: fmt::Write>(&self, f: &mut fmt::Formatter<W>) -> fmt::Result {
+        let predicate = self.predicate;
+        match self.pair() {
+            None => write!(f, "{predicate} met"),
+            Some((first, second)) => write!(f, "{predicate} broken {first} {second}"),
+        }
+    }
+}
+
+fn write_judgments(rt: &impl Print, judgments: &[u64; 13]) -> io::Result<()> {
+    for (k, &judgment) in judgments.iter().enumerate() {
+        let predicate = k + 1;
+        println!(rt;
+            "{}",
+            Line {
+                predicate,
+                judgment
+            }
+        )?;
     }
     Ok(())
 }
@@ -29,9 +54,8 @@ fn main(rt: HostRuntime) -> io::Result<()> {
     let length = input::read_full(&mut rt.reader(), &mut input)?;
     let mut work = [0u64; layout::WORK];
     let all = judge::judge_all(&input[..length], &mut work);
-    let reading = all.reading;
-    if record::number(reading) != 0 {
-        return lines::reading(&rt, reading);
+    if all.reading.is_err() {
+        return println!(rt; "{}", lines::Line(all.reading));
     }
-    write_judgments(&rt, all.judgments)
+    write_judgments(&rt, &all.judgments)
 }

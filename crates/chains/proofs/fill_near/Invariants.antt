@@ -3,8 +3,8 @@ use Prim.Native.Nat.{◌-◌}
 use Rattle.chains.proofs.FillingLaws.{Filling}
 use Rattle.chains.proofs.fill_near.Given as goal
 
-abbrev pub invariant-loop-n : goal.invariant-loop-n
-invariant-loop-n l = Filling l.table l.n l.w l.a l.b l.initial.near l.near l.done l.next l.k
+abbrev pub invariant-loop-done : goal.invariant-loop-done
+invariant-loop-done l = Filling l.relation.words.now l.relation.count l.w l.a l.b l.initial.near l.near l.done l.next l.k
 
-abbrev pub decreases-loop-n : goal.decreases-loop-n
-decreases-loop-n l = l.n - l.k
+abbrev pub decreases-loop-done : goal.decreases-loop-done
+decreases-loop-done l = l.relation.count - l.k

@@ -4,8 +4,8 @@ use Rattle.rows.specs.Row.{count_row}
 use Rattle.chains.proofs.JoiningLaws.{Joining}
 use Rattle.chains.proofs.join_rows.Given as goal
 
-abbrev pub invariant-loop-n : goal.invariant-loop-n
-invariant-loop-n l = Joining l.table l.n l.w l.near l.initial.done l.initial.next l.done l.next
+abbrev pub invariant-loop-m : goal.invariant-loop-m
+invariant-loop-m l = Joining l.relation.words.now l.relation.count l.relation.width l.near l.initial.done l.initial.next l.done l.next
 
-abbrev pub decreases-loop-n : goal.decreases-loop-n
-decreases-loop-n l = 64 * l.w - count_row l.done
+abbrev pub decreases-loop-m : goal.decreases-loop-m
+decreases-loop-m l = 64 * l.relation.width - count_row l.done

@@ -1,39 +1,46 @@
--- `chains::lowest_after` meets its contract: `tried` begins as a copy of `without`. Assumes nothing.
 use mathlib.Core.Path.{◌≡◌, sym, ap, ◌∙◌}
-use Prim.Native.Nat.{ℕ}
 use native.Mathlib.Omega.{arith}
-use lib.ListN.{length, take, replicate}
-use Rattle.rows.proofs.SliceLaws.{copy_over}
-use Rattle.rows.proofs.TableLaws.{length_cut}
-use Rattle.chains.proofs.lowest_after.Goals.{After-copy, Start}
+use lib.ListN.{length}
+use Rattle.rows.specs.Row.{row_at}
+use Rattle.rows.specs.Relation.{related}
+use Rattle.rows.proofs.TableLaws.{length-row}
+use Rattle.rows.proofs.ReachLaws.{graph_room}
+use Rattle.rows.proofs.FreshLaws.{Fresh, fresh_falls}
+use Rattle.chains.proofs.JoiningLaws.{fresh_found}
+use Rattle.chains.proofs.TryingLaws.{tried_all, tried_hit, trying_more}
+use Rattle.chains.proofs.lowest_after.Goals.{In-Some, After-test}
 use Rattle.chains.proofs.lowest_after.Goals as goal
 
--- the place at the start, by name
-abbrev start : After-copy → Start
-start c = (goal.at.After-copy c).Start
+-- the event of this turn
+turn : (c : In-Some) → Fresh c.args.relation.now.count c.args.near.now c.loop-m.tried c.in-Some.m
+turn c = fresh_found c.requires.by_index c.requires.lens.0 (sym c.lowest_difference.ensures ∙ c.in-Some.is)
 
--- scratch is cut to the width
-cut : (s : Start) → length (take {A = ℕ} (length s.args.near.now) (replicate 8 0)) ≡ length s.args.near.now
-cut s = length_cut 8 (length s.args.near.now) s.requires.graph.1
+-- whether a step leads to it
+stepped : (c : After-test) → let a = c.args.relation.now in c.test.result ≡ related a.words.now a.width c.args.e c.in-Some.m
+stepped c = rw c.row.ensures at c.test.ensures
 
-copied : (c : After-copy) → c.copy.new.dst ≡ (start c).args.without.now
-copied c =
-    let s = start c in
-    c.copy.ensures ∙ copy_over s.args.without.now (take {A = ℕ} (length s.args.near.now) (replicate 8 0)) (s.requires.without_len.0 ∙ sym (cut s))
+pub row-requires : goal.row-requires
+row-requires c = (turn (goal.at.row-requires c).In-Some).below
 
-pub slice_bounds-tried-end-2 : goal.slice_bounds-tried-end-2
-slice_bounds-tried-end-2 c = sym (cut (goal.at.slice_bounds-tried-end-2 c).Start)
+pub test-requires : goal.test-requires
+test-requires c =
+    let a = c.args.relation.now in
+    let h = (turn (goal.at.test-requires c).In-Some).below in
+    let long = ap length {y = row_at a.words.now a.width c.in-Some.m} c.row.ensures ∙ length-row a.words.now a.width c.in-Some.m (graph_room c.in-Some.m a.graph h) in
+    omega (arith, long, a.graph.wide, c.requires.e_lt_n)
 
-pub copy-requires : goal.copy-requires
-copy-requires c = omega (arith, cut (goal.at.copy-requires c).Start, c.requires.without_len.0)
+pub returns-then-test : goal.returns-then-test
+returns-then-test c =
+    tried_hit c.loop-m.invariant (turn (goal.at.returns-then-test c).In-Some) (sym c.lowest_difference.ensures ∙ c.in-Some.is)
+    (sym (stepped (goal.at.returns-then-test c).After-test) ∙ c.if-test.true)
 
-pub lowest_untried-requires : goal.lowest_untried-requires
-lowest_untried-requires c =
-    record {
-      graph = c.requires.graph.0;
-      tried_len = (ap length (copied (goal.at.lowest_untried-requires c).After-copy) ∙ c.requires.without_len.0, c.requires.without_len.1);
-      by_index = c.requires.by_index;
-    }
+pub loop-m-smaller : goal.loop-m-smaller
+loop-m-smaller c =
+    fresh_falls (turn (goal.at.loop-m-smaller c).In-Some) c.requires.lens.0 c.loop-m.invariant.deep (λ k. (c.type_inv.tried k).fits) c.set.ensures
+
+pub loop-m-preserved : goal.loop-m-preserved
+loop-m-preserved c =
+    trying_more c.loop-m.invariant (turn (goal.at.loop-m-preserved c).In-Some) (sym (stepped (goal.at.loop-m-preserved c).After-test) ∙ c.if-test.false) c.set.ensures
 
 pub returns : goal.returns
-returns c = rw (copied (goal.at.returns c).After-copy) at c.lowest_untried.ensures
+returns c = tried_all c.loop-m.invariant _ (sym c.lowest_difference.ensures ∙ c.in_default.is)

@@ -5,7 +5,7 @@ use Rattle.chains.proofs.WritingLaws.{Writing}
 use Rattle.chains.proofs.shortest.Given as goal
 
 abbrev pub invariant-loop-i : goal.invariant-loop-i
-invariant-loop-i l = Writing l.n (related l.table l.w) l.a l.b l.last l.initial.out l.out l.e l.i
+invariant-loop-i l = Writing l.relation.count (related l.relation.words.now l.relation.width) l.a l.b l.last l.initial.out l.out l.e l.i
 
 abbrev pub decreases-loop-i : goal.decreases-loop-i
 decreases-loop-i l = l.last - l.i

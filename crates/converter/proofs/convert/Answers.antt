@@ -1,39 +1,41 @@
 -- `converter::convert` meets its contract, one question after the other; what each answer means is `ConvertsLaws`. Assumes nothing.
-use mathlib.Core.Logic.{◌≢◌}
-use mathlib.Core.Path.{refl, sym, ◌∙◌}
-use Rattle.record.specs.Questions.{number_of}
-use Rattle.converter.specs.Conversions.{target_after}
-use Rattle.converter.proofs.ConvertsLaws.{edition_low, edition_high, edition_both, no_edition, read_passed, read_refused, read_moved, refused_leaves, converts_of}
+use mathlib.Core.Path.{◌≡◌, refl, sym, ap, ◌∙◌}
+use lib.ListN.{length}
+use Rattle.std.specs.Prelude.{Err}
+use Rattle.std.proofs.lemmas.Result.{err_from_is_err_and}
+use mathlib.Core.Bool.{false}
+use Rattle.record.proofs.QuestionsAnswered.{passed-right}
+use Rattle.record.specs.Converted.{is_edition}
+use Rattle.record.specs.Layout.{edition_of}
+use Rattle.converter.specs.Conversions.{Conversion, target_after}
+use Rattle.converter.specs.declared.Unconverted.TheVariants.{Refused}
+use Rattle.converter.proofs.ConvertsLaws.{edition_low, edition_high, edition_both, no_edition, read_refused, read_moved, converts_of}
+use Rattle.converter.proofs.convert.Goals.{then-edition-lt1-via-then-edition-lt1, then-edition-lt1-via-else-edition-lt1+then-edition-gt3}
 use Rattle.converter.proofs.convert.Goals as goal
 
 pub returns-then-edition-lt1 : goal.returns-then-edition-lt1
 unfolding target_after
 returns-then-edition-lt1 c =
     let a = c.args in
-    let e = no_edition a.edition _ a.s.now (edition_low a.edition c.if-edition-lt1.true) in
+    let out : is_edition a.edition ≡ false = elim c.then-edition-lt1.branch [
+      | then-edition-lt1-via-then-edition-lt1 w ↦ edition_low a.edition w.if-edition-lt1.true
+      | then-edition-lt1-via-else-edition-lt1+then-edition-gt3 w ↦ edition_high a.edition w.if-edition-gt3.true
+    ] in
+    let e = no_edition a.edition _ a.s.now out in
     record {
       value = e;
       target_after = refl;
       converts = converts_of a.edition a.s.now a.target.now (λ i. (c.type_inv.s i).fits) e refl;
     }
 
-pub returns-then-edition-gt3 : goal.returns-then-edition-gt3
+pub returns-in_err-ask : goal.returns-in_err-ask
 unfolding target_after
-returns-then-edition-gt3 c =
+returns-in_err-ask c =
     let a = c.args in
-    let e = no_edition a.edition _ a.s.now (edition_high a.edition c.if-edition-gt3.true) in
-    record {
-      value = e;
-      target_after = refl;
-      converts = converts_of a.edition a.s.now a.target.now (λ i. (c.type_inv.s i).fits) e refl;
-    }
-
-pub returns-then-number-ne0 : goal.returns-then-number-ne0
-returns-then-number-ne0 c =
-    let a = c.args in
-    let refused : number_of c.ask-reading.result ≢ 0 = λ z. c.if-number-ne0.true (c.number.ensures ∙ z) in
-    let e = read_refused a.s.now _ c.ask-reading.ensures.value a.edition _ (edition_both a.edition c.if-edition-lt1.false c.if-edition-gt3.false) refused in
-    let f = refused_leaves _ refused a.edition a.s.now a.target.now in
+    let given = err_from_is_err_and c.from_residual.result c.from_residual.ensures.1 in
+    let refused : c.from_residual.result ≡ Err (Refused _) = given.1 ∙ ap Err given.2 in
+    let e = refused ∙ read_refused a.edition (length a.target.now) a.s.now (edition_both a.edition c.if-edition-lt1.false c.if-edition-gt3.false) _ (sym c.ask.ensures.value ∙ c.in_err-ask.was) in
+    let f : a.target.now ≡ target_after c.from_residual.result a.edition a.s.now a.target.now = sym (ap (λ (r : Conversion). target_after r a.edition a.s.now a.target.now) refused) in
     record {
       value = e;
       target_after = f;
@@ -41,14 +43,13 @@ returns-then-number-ne0 c =
     }
 
 pub move_to-requires : goal.move_to-requires
-move_to-requires c = read_passed c.args.s.now _ c.ask-reading.ensures.value (sym c.number.ensures ∙ c.if-number-ne0.false)
+move_to-requires c = passed-right (edition_of c.args.s.now) c.args.s.now (sym c.ask.ensures.value ∙ c.in_ok-ask.was)
 
 pub returns : goal.returns
 returns c =
     let a = c.args in
     let e =
-    read_moved a.s.now _ c.ask-reading.ensures.value a.edition _ (edition_both a.edition c.if-edition-lt1.false c.if-edition-gt3.false)
-    (sym c.number.ensures ∙ c.if-number-ne0.false) c.move_to.ensures.value in
+    read_moved a.edition _ a.s.now (edition_both a.edition c.if-edition-lt1.false c.if-edition-gt3.false) (sym c.ask.ensures.value ∙ c.in_ok-ask.was) c.move_to.ensures.value in
     record {
       value = e;
       target_after = c.move_to.ensures.target_after;

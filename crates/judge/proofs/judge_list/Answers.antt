@@ -1,32 +1,19 @@
--- `judge::judge_list` meets its contract: the reader's answer, or the outcome of the list where no question got a no. Assumes nothing.
-use mathlib.Core.Path.{◌≡◌, sym, ◌∙◌}
-use Rattle.record.specs.Questions.{number_of}
-use Rattle.judge.specs.Lists.{up_to_zero}
+-- `judge::judge_list` meets its contract: the reader's refusal, or the outcome of the list where no question got a no. Assumes nothing.
+use mathlib.Core.Path.{ap, ◌∙◌}
+use Rattle.std.specs.Prelude.{Err}
+use Rattle.std.proofs.lemmas.Result.{err_from_is_err_and}
+use Rattle.judge.specs.Lists.{numbers_of}
 use Rattle.judge.proofs.RecordLaws.{read_into}
 use Rattle.judge.proofs.JudgmentLaws.{list_refused, list_judged}
-use Rattle.judge.proofs.judge_list.Goals.{Else-number-ne0}
 use Rattle.judge.proofs.judge_list.Goals as goal
 
--- no question got a no
-none : (c : Else-number-ne0) → number_of c.ask-reading.result ≡ 0
-none c = sym c.number.ensures ∙ c.if-number-ne0.false
+pub returns-in_err-ask-clause-value : goal.returns-in_err-ask-clause-value
+returns-in_err-ask-clause-value c =
+    let p = err_from_is_err_and c.from_residual.result c.from_residual.ensures.1 in
+    p.1 ∙ ap Err p.2 ∙ list_refused c.args.s.now (numbers_of c.args.list.now) c.ask.result c.ask.ensures.value _ c.in_err-ask.was
 
-pub returns-then-number-ne0 : goal.returns-then-number-ne0
-returns-then-number-ne0 c =
-    let r = c.ask-reading in record {
-      value = list_refused c.args.s.now (up_to_zero c.args.list) r.result r.ensures.value (λ z. c.if-number-ne0.true (c.number.ensures ∙ z));
-      work_after = r.ensures.work_after;
-    }
+pub invariant_of-passed : goal.invariant_of-passed
+invariant_of-passed c = record { read = read_into c.args.s.now c.ask.result c.in_ok-ask.was c.args.work.now c.ask.new.work c.ask.ensures.work_after c.ask.ensures.value }
 
-pub first_broken-requires : goal.first_broken-requires
-first_broken-requires c =
-    let r = c.ask-reading in
-    (read_into c.args.s.now r.result (none (goal.at.first_broken-requires c).Else-number-ne0) c.args.work.now r.new.work r.ensures.work_after r.ensures.value, c.requires.1)
-
-pub returns : goal.returns
-returns c =
-    let r = c.ask-reading in
-    let z = none (goal.at.returns c).Else-number-ne0 in record {
-      value = list_judged c.args.s.now (up_to_zero c.args.list) r.result r.ensures.value z c.first_broken.result c.first_broken.ensures;
-      work_after = rw z at r.ensures.work_after;
-    }
+pub returns-clause-value : goal.returns-clause-value
+returns-clause-value c = list_judged c.args.s.now (numbers_of c.args.list.now) c.ask.result c.ask.ensures.value c.in_ok-ask.was c.first_broken.result c.first_broken.ensures

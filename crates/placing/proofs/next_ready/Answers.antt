@@ -1,31 +1,18 @@
-use mathlib.Core.Path.{sym, ◌∙◌}
-use native.Mathlib.Omega.{arith}
-use lib.ListN.{length}
+-- `placing::next_ready` meets its contract: the first of the events that is ready. Assumes nothing.
+use mathlib.Core.Path.{◌≡◌}
+use mathlib.Core.Bool.{true, false}
+use borrow.Author.Rules.{rules}
+use borrow.Author.Tests.{tests}
+use Rattle.std.proofs.lemmas.Iterator.{first_from_Range}
 use Rattle.rows.specs.Row.{has}
 use Rattle.rows.specs.Relation.{related}
 use Rattle.rows.specs.Placing.{ready}
-use Rattle.rows.proofs.LowestLaws.{searched_start, searched_more, searched_hit, searched_end}
+use Rattle.rows.proofs.FoundLaws.{first-found}
 use Rattle.placing.proofs.next_ready.Goals as goal
 
-pub loop-e-init : goal.loop-e-init
-loop-e-init c =
-    let a = c.args in
-    searched_start a.n (ready a.n (related a.table.now (length a.placed.now)) (has a.placed.now))
-
-pub is_ready-requires : goal.is_ready-requires
-is_ready-requires c = (c.requires, omega arith)
-
-pub returns-then-is_ready : goal.returns-then-is_ready
-returns-then-is_ready c = searched_hit c.loop-e.invariant (omega arith) (sym c.is_ready.ensures ∙ c.if-is_ready.true)
-
-pub overflow_step-e : goal.overflow_step-e
-overflow_step-e c = omega arith
-
-pub loop-e-smaller : goal.loop-e-smaller
-loop-e-smaller c = omega arith
-
-pub loop-e-preserved : goal.loop-e-preserved
-loop-e-preserved c = searched_more c.loop-e.invariant (omega arith) (sym c.is_ready.ensures ∙ c.if-is_ready.false)
-
 pub returns : goal.returns
-returns c = searched_end c.loop-e.invariant (omega arith)
+returns c =
+    let r = c.args.before.now in
+    let f = ready r.count (related r.words.now r.width) (has c.args.placed.now) in
+    first-found r.count f c.find.result
+    (first_from_Range (record { start = 0; end = r.count }) _ _ c.find.result (λ k. f k ≡ true) (λ k. f k ≡ false) c.find.ensures.ran (λ x q k. search (rules, tests)) (λ x q k. search (rules, tests)))

@@ -1,168 +1,92 @@
--- `reader::ask_bytes` meets its contract: each search or test answers one question, and those before it got a yes. Assumes nothing.
-use mathlib.Core.Path.{◌≡◌, sym, ap, ◌∙◌, subst}
-use mathlib.Core.Bool.{true, not}
+-- `reader::ask_bytes` meets its contract: each question is asked once those before it got a yes. Assumes nothing.
+use mathlib.Core.Path.{◌≡◌, sym, ap, ◌∙◌}
+use mathlib.Core.Bool.{Bool, not}
 use mathlib.Core.List.{List}
-use Prim.Native.Nat.{ℕ, ◌*◌, ◌-◌, ◌/◌, ◌%◌, ◌≤◌}
-use native.Mathlib.Nat.{mul-le-mul_right}
+use Prim.Native.Nat.{ℕ, ◌*◌, ◌≤◌}
 use native.Mathlib.Omega.{arith}
+use borrow.Author.Tests.{not-false}
 use lib.ListN.{length}
-use Rattle.rows.specs.Lowest.{lowest}
-use Rattle.rows.proofs.Tests.{told_true, told_false}
-use Rattle.record.specs.declared.Reading.TheVariants.{Passed, WrongLength, WrongCheck, WrongHeader, WrongBlocks, WrongSlot, WrongPosition}
-use Rattle.record.specs.Layout.{edition_of, count_in, longest_record}
-use Rattle.record.specs.Blocks.{block_right}
-use Rattle.record.specs.Encode.{blocks_for}
+use Rattle.std.specs.Prelude.{Some, None, Err}
+use Rattle.rows.specs.Lowest.{found}
+use Rattle.record.specs.declared.Refusal.TheVariants.{WrongSlot, WrongPosition}
+use Rattle.record.specs.Layout.{Layout, edition_of, count_in}
 use Rattle.record.specs.History.{history_of}
 use Rattle.record.specs.Slots.{slot_right}
-use Rattle.record.specs.Questions.{length_right, header_right, blocks_right, slots_in, wrong_position, byte_questions}
-use Rattle.record.proofs.SoundLayout.{Numbers, numbers_of_lem}
-use Rattle.record.proofs.AskLaws.{ask_yes, ask_no, each-found, each_past}
-use Rattle.record.proofs.QuestionLaws.{blocks_in, length-says, header-says, blocks_yes, blocks_no, from_checks, from_header, from_blocks, from_slots, from_positions, bytes_asked}
-use Rattle.reader.proofs.ask_bytes.Goals.{After-count-n, After-wrong_position-event, Else-block-blocks, Else-blocks, Else-not-header_holds, Else-not-length_holds, Else-slot-ed, Start}
+use Rattle.record.specs.Questions.{Reading, slots_in, wrong_position}
+use Rattle.record.specs.Answers.{FrameRight, SlotsRight, BytesRight, Tells}
+use Rattle.record.specs.Encode.{blocks_for}
+use Rattle.record.proofs.SearchLaws.{lowest_found, none_found}
+use Rattle.record.proofs.QuestionLaws.{length-says, header-says, blocks_say}
+use Rattle.reader.specs.declared.framed.Framed.{Framed}
 use Rattle.reader.proofs.ask_bytes.Goals as goal
 
--- the record's bytes at the places on the way
-abbrev start : Else-not-length_holds → Start
-start c = (goal.at.Else-not-length_holds c).Start
+-- of a record that got a yes to 3 to 6, what was found of 7 and 8
+module _ (f : Framed) (right : FrameRight (edition_of f.bytes.now) f.bytes.now) where
+  abbrev s : List ℕ
+  s = f.bytes.now
 
-abbrev bytes1 : Else-not-length_holds → List ℕ
-bytes1 c = (start c).args.s.now
+  abbrev L : Layout
+  L = edition_of s
 
-abbrev bytes2 : Else-block-blocks → List ℕ
-bytes2 c = bytes1 (goal.at.Else-block-blocks c).Else-not-length_holds
+  abbrev is_wrong : ℕ → Bool
+  is_wrong = λ e. not (slot_right L s e)
 
-abbrev bytes3 : Else-not-header_holds → List ℕ
-bytes3 c = bytes2 (goal.at.Else-not-header_holds c).Else-block-blocks
+  abbrev misplaced : ℕ → Bool
+  misplaced = wrong_position (history_of L s)
 
-abbrev bytes4 : Else-blocks → List ℕ
-bytes4 c = bytes3 (goal.at.Else-blocks c).Else-not-header_holds
+  room : 512 * blocks_for (edition_of f.bytes.now) f.count ≤ length f.bytes.now
+  room = rw f.numbers.0 (omega (arith, length-says L s right.length, blocks_say L s right.blocks))
 
-abbrev bytes5 : Else-slot-ed → List ℕ
-bytes5 c = bytes4 (goal.at.Else-slot-ed c).Else-blocks
+  few : f.count ≤ (edition_of f.bytes.now).events
+  few = omega (arith, f.numbers.0, header-says L s right.header)
 
--- the edition's numbers there
-abbrev start3 : Else-not-header_holds → Start
-start3 c = (goal.at.Else-not-header_holds c).Start
+  seven : (e : ℕ) → Some e ≡ found (slots_in L s) is_wrong → Tells L s (Err (WrongSlot e))
+  seven e q = (right.length, right.checks, right.header, right.blocks, lowest_found (slots_in L s) is_wrong e q)
 
-abbrev start4 : Else-blocks → Start
-start4 c = (goal.at.Else-blocks c).Start
+  module _ (none : None ≡ found (slots_in L s) is_wrong) where
+    slots : SlotsRight L s
+    slots e l = not-false (slot_right L s e) (none_found (slots_in L s) is_wrong none e l)
 
-sizes : (c : Start) → Numbers (edition_of c.args.s.now) c.args.ed
-sizes c = numbers_of_lem c.args.s.now c.args.ed c.requires
+    eight : (e : ℕ) → Some e ≡ found f.count misplaced → Tells L s (Err (WrongPosition e))
+    eight e q = (right.length, right.checks, right.header, right.blocks, slots, lowest_found (count_in s) misplaced e (q ∙ ap (λ (n : ℕ). found n misplaced) f.numbers.0))
 
-many : (c : Start) → c.args.ed.slots * (length c.args.s.now / 512 - 1) ≡ slots_in (edition_of c.args.s.now) c.args.s.now
-many c = ap (λ (k : ℕ). k * (length c.args.s.now / 512 - 1)) (sizes c).slots
+    passed : None ≡ found f.count misplaced → BytesRight L s
+    passed q = record {
+      length = right.length;
+      checks = right.checks;
+      header = right.header;
+      blocks = right.blocks;
+      slots = slots;
+      positions = none_found (count_in s) misplaced (q ∙ ap (λ (n : ℕ). found n misplaced) f.numbers.0);
+    }
 
--- what is known after each yes, and the questions that are left
-length_yes : (c : Else-not-length_holds) → length_right (bytes1 c) ≡ true
-length_yes c = told_true c.length_holds.ensures (ap not c.if-not-length_holds.false)
+-- the record that was framed is the one that was lent
+framed : {s t : List ℕ} → t ≡ s → FrameRight (edition_of s) s → FrameRight (edition_of t) t
+framed q x = rw (sym q) at x
 
-long : (c : Else-not-length_holds) → (512 ≤ length (bytes1 c)) × (length (bytes1 c) ≤ longest_record) × (length (bytes1 c) % 512 ≡ 0)
-long c = length-says (edition_of (bytes1 c)) (bytes1 c) (length_yes c)
+told : {s t : List ℕ} (r : Reading) → t ≡ s → Tells (edition_of t) t r → Tells (edition_of s) s r
+told r q x = rw q at x
 
-to-checks : (c : Else-not-length_holds) → byte_questions (edition_of (bytes1 c)) (bytes1 c) ≡ from_checks (edition_of (bytes1 c)) (bytes1 c) Passed
-to-checks c = bytes_asked (edition_of (bytes1 c)) (bytes1 c) ∙ ask_yes (length_right (bytes1 c)) WrongLength (from_checks (edition_of (bytes1 c)) (bytes1 c) Passed) (length_yes c)
+all_right : {s t : List ℕ} → t ≡ s → BytesRight (edition_of t) t → BytesRight (edition_of s) s
+all_right q x = rw q at x
 
-to-header : (c : Else-block-blocks) → byte_questions (edition_of (bytes2 c)) (bytes2 c) ≡ from_header (edition_of (bytes2 c)) (bytes2 c) Passed
-to-header c =
-    let w = c.wrong_block-block in
-    to-checks (goal.at.Else-block-blocks c).Else-not-length_holds
-    ∙ each_past (blocks_in (bytes2 c)) (λ k. not (block_right (bytes2 c) k)) WrongCheck (from_header (edition_of (bytes2 c)) (bytes2 c) Passed) w.result w.ensures c.if-block-blocks.false
+pub returns-in-Some : goal.returns-in-Some
+returns-in-Some c =
+    let e = c.in_ok-framed.ensures in
+    told (Err (WrongSlot c.in-Some.slot)) e.0 (seven c.in_ok-framed.framed (framed e.0 e.1) c.in-Some.slot c.in-Some.ensures)
 
-header_yes : (c : Else-not-header_holds) → header_right (edition_of (bytes3 c)) (bytes3 c) ≡ true
-header_yes c = told_true (c.header_holds.ensures (edition_of (bytes3 c)) (start3 c).requires) (ap not c.if-not-header_holds.false)
+pub wrong_position-requires : goal.wrong_position-requires
+wrong_position-requires c =
+    let e = c.in_ok-framed.ensures in
+    record { n_in_bounds = room c.in_ok-framed.framed (framed e.0 e.1); n_bound = few c.in_ok-framed.framed (framed e.0 e.1) }
 
-to-blocks : (c : Else-not-header_holds) → byte_questions (edition_of (bytes3 c)) (bytes3 c) ≡ from_blocks (edition_of (bytes3 c)) (bytes3 c) Passed
-to-blocks c = to-header (goal.at.Else-not-header_holds c).Else-block-blocks ∙ ask_yes (header_right (edition_of (bytes3 c)) (bytes3 c)) WrongHeader (from_blocks (edition_of (bytes3 c)) (bytes3 c) Passed) (header_yes c)
-
-few : (c : After-count-n) → c.count-n.result ≤ (edition_of (bytes3 (goal.at.After-count-n c).Else-not-header_holds)).events
-few c = rw c.count-n.ensures (header-says (edition_of (bytes3 (goal.at.After-count-n c).Else-not-header_holds)) (bytes3 (goal.at.After-count-n c).Else-not-header_holds) (header_yes (goal.at.After-count-n c).Else-not-header_holds))
-
--- question 6 got a yes
-asked : (c : Else-blocks) → blocks_in (bytes4 c) ≡ blocks_for (edition_of (bytes4 c)) c.count-n.result
-asked c = c.if-blocks.false ∙ c.blocks-2.ensures (edition_of (bytes4 c)) (start4 c).requires
-
-to_slots : (c : Else-blocks) → byte_questions (edition_of (bytes4 c)) (bytes4 c) ≡ from_slots (edition_of (bytes4 c)) (bytes4 c) Passed
-to_slots c =
-    let n = c.count-n in
-    to-blocks (goal.at.Else-blocks c).Else-not-header_holds
-    ∙ ask_yes (blocks_right (edition_of (bytes4 c)) (bytes4 c)) WrongBlocks (from_slots (edition_of (bytes4 c)) (bytes4 c) Passed) (blocks_yes (edition_of (bytes4 c)) (bytes4 c) n.result n.ensures (asked c))
-
-to-positions : (c : Else-slot-ed) → byte_questions (edition_of (bytes5 c)) (bytes5 c) ≡ from_positions (edition_of (bytes5 c)) (bytes5 c) Passed
-to-positions c =
-    let w = c.wrong_slot-slot in
-    to_slots (goal.at.Else-slot-ed c).Else-blocks
-    ∙ each_past (slots_in (edition_of (bytes5 c)) (bytes5 c)) (λ e. not (slot_right (edition_of (bytes5 c)) (bytes5 c) e)) WrongSlot (from_positions (edition_of (bytes5 c)) (bytes5 c) Passed) w.result w.ensures (omega (arith, c.if-slot-ed.false, many (start4 (goal.at.Else-slot-ed c).Else-blocks)))
-
-abbrev counted-at : Else-slot-ed → After-count-n
-counted-at c = (goal.at.Else-slot-ed c).After-count-n
-
--- the event that the search for a wrong position answered
-event : (c : After-wrong_position-event) → c.wrong_position-event.result ≡ lowest (count_in (bytes5 (goal.at.After-wrong_position-event c).Else-slot-ed)) (wrong_position (history_of (edition_of (bytes5 (goal.at.After-wrong_position-event c).Else-slot-ed)) (bytes5 (goal.at.After-wrong_position-event c).Else-slot-ed)))
-event c =
-    subst (λ n. c.wrong_position-event.result ≡ lowest n (wrong_position (history_of (edition_of (bytes5 (goal.at.After-wrong_position-event c).Else-slot-ed)) (bytes5 (goal.at.After-wrong_position-event c).Else-slot-ed)))) (counted-at (goal.at.After-wrong_position-event c).Else-slot-ed).count-n.ensures c.wrong_position-event.ensures
-
-pub returns-then-not-length_holds : goal.returns-then-not-length_holds
-returns-then-not-length_holds c =
-    let s = c.args.s.now in
-    sym (bytes_asked (edition_of s) s ∙ ask_no (length_right s) WrongLength (from_checks (edition_of s) s Passed) (told_false c.length_holds.ensures (ap not c.if-not-length_holds.true)))
-
-pub wrong_block-block-requires : goal.wrong_block-block-requires
-wrong_block-block-requires c = omega (arith, long c)
-
-pub returns-then-block-blocks : goal.returns-then-block-blocks
-returns-then-block-blocks c =
-    let w = c.wrong_block-block in
-    sym (to-checks (goal.at.returns-then-block-blocks c).Else-not-length_holds ∙ each-found (blocks_in (bytes1 (goal.at.returns-then-block-blocks c).Else-not-length_holds)) (λ k. not (block_right (bytes1 (goal.at.returns-then-block-blocks c).Else-not-length_holds) k)) WrongCheck (from_header (edition_of (bytes1 (goal.at.returns-then-block-blocks c).Else-not-length_holds)) (bytes1 (goal.at.returns-then-block-blocks c).Else-not-length_holds) Passed) w.result w.ensures c.if-block-blocks.true)
-
-pub header_holds-requires : goal.header_holds-requires
-header_holds-requires c = (long (goal.at.header_holds-requires c).Else-not-length_holds).0
-
-pub returns-then-not-header_holds : goal.returns-then-not-header_holds
-returns-then-not-header_holds c =
-    sym (to-header (goal.at.returns-then-not-header_holds c).Else-block-blocks ∙ ask_no (header_right (edition_of (bytes2 (goal.at.returns-then-not-header_holds c).Else-block-blocks)) (bytes2 (goal.at.returns-then-not-header_holds c).Else-block-blocks)) WrongHeader (from_blocks (edition_of (bytes2 (goal.at.returns-then-not-header_holds c).Else-block-blocks)) (bytes2 (goal.at.returns-then-not-header_holds c).Else-block-blocks) Passed) (told_false (c.header_holds.ensures (edition_of (bytes2 (goal.at.returns-then-not-header_holds c).Else-block-blocks)) (start (goal.at.returns-then-not-header_holds c).Else-not-length_holds).requires) (ap not c.if-not-header_holds.true)))
-
-pub count-n-requires : goal.count-n-requires
-count-n-requires c = (long (goal.at.count-n-requires c).Else-not-length_holds).0
-
-pub blocks-requires : goal.blocks-requires
-blocks-requires c = let a = start3 (goal.at.blocks-requires c).Else-not-header_holds in (omega (arith, sizes a), omega (arith, few c, sizes a))
-
-pub returns-then-blocks : goal.returns-then-blocks
-returns-then-blocks c =
-    let n = c.count-n in
-    sym (to-blocks (goal.at.returns-then-blocks c).Else-not-header_holds ∙ ask_no (blocks_right (edition_of (bytes3 (goal.at.returns-then-blocks c).Else-not-header_holds)) (bytes3 (goal.at.returns-then-blocks c).Else-not-header_holds)) WrongBlocks (from_slots (edition_of (bytes3 (goal.at.returns-then-blocks c).Else-not-header_holds)) (bytes3 (goal.at.returns-then-blocks c).Else-not-header_holds) Passed) (blocks_no (edition_of (bytes3 (goal.at.returns-then-blocks c).Else-not-header_holds)) (bytes3 (goal.at.returns-then-blocks c).Else-not-header_holds) n.result n.ensures (λ q. c.if-blocks.true (q ∙ sym (c.blocks-2.ensures (edition_of (bytes3 (goal.at.returns-then-blocks c).Else-not-header_holds)) (start3 (goal.at.returns-then-blocks c).Else-not-header_holds).requires)))))
-
-pub wrong_slot-slot-requires : goal.wrong_slot-slot-requires
-wrong_slot-slot-requires c = record {
-  n_value = (c.count-n.ensures, (start4 c).requires);
-  in_bounds = (long (goal.at.wrong_slot-slot-requires c).Else-not-length_holds).0;
-}
-
-pub overflow_sub-blocks : goal.overflow_sub-blocks
-overflow_sub-blocks c = omega (arith, (long (goal.at.overflow_sub-blocks c).Else-not-length_holds).0)
-
-pub overflow_mul-ed : goal.overflow_mul-ed
-overflow_mul-ed c =
-    let a = start4 (goal.at.overflow_mul-ed c).Else-blocks in
-    omega (arith, sizes a, mul-le-mul_right {m = a.args.ed.slots} {n = 15} (length a.args.s.now / 512 - 1) (omega (arith, sizes a)))
-
-pub returns-then-slot-ed : goal.returns-then-slot-ed
-returns-then-slot-ed c =
-    let w = c.wrong_slot-slot in
-    sym (to_slots (goal.at.returns-then-slot-ed c).Else-blocks ∙ each-found (slots_in (edition_of (bytes4 (goal.at.returns-then-slot-ed c).Else-blocks)) (bytes4 (goal.at.returns-then-slot-ed c).Else-blocks)) (λ k. not (slot_right (edition_of (bytes4 (goal.at.returns-then-slot-ed c).Else-blocks)) (bytes4 (goal.at.returns-then-slot-ed c).Else-blocks) k)) WrongSlot (from_positions (edition_of (bytes4 (goal.at.returns-then-slot-ed c).Else-blocks)) (bytes4 (goal.at.returns-then-slot-ed c).Else-blocks) Passed) w.result w.ensures (omega (arith, c.if-slot-ed.true, many (start4 (goal.at.returns-then-slot-ed c).Else-blocks))))
-
-pub wrong_position-event-requires : goal.wrong_position-event-requires
-wrong_position-event-requires c = record {
-  n_value = (c.count-n.ensures, (start4 (goal.at.wrong_position-event-requires c).Else-blocks).requires);
-  n_in_bounds = omega (arith, asked (goal.at.wrong_position-event-requires c).Else-blocks);
-  n_bound = few (goal.at.wrong_position-event-requires c).After-count-n;
-}
-
-pub returns-then-event-n : goal.returns-then-event-n
-returns-then-event-n c =
-    sym (to-positions (goal.at.returns-then-event-n c).Else-slot-ed ∙ each-found (count_in (bytes5 (goal.at.returns-then-event-n c).Else-slot-ed)) (wrong_position (history_of (edition_of (bytes5 (goal.at.returns-then-event-n c).Else-slot-ed)) (bytes5 (goal.at.returns-then-event-n c).Else-slot-ed))) WrongPosition Passed c.wrong_position-event.result (event (goal.at.returns-then-event-n c).After-wrong_position-event) (omega (arith, (counted-at (goal.at.returns-then-event-n c).Else-slot-ed).count-n.ensures, c.if-event-n.true)))
+pub returns-in-Some-wrong_position : goal.returns-in-Some-wrong_position
+returns-in-Some-wrong_position c =
+    let e = c.in_ok-framed.ensures in
+    told (Err (WrongPosition c.in-Some-wrong_position.event)) e.0
+    (eight c.in_ok-framed.framed (framed e.0 e.1) c.in_default.ensures c.in-Some-wrong_position.event c.in-Some-wrong_position.ensures)
 
 pub returns : goal.returns
 returns c =
-    sym (to-positions (goal.at.returns c).Else-slot-ed ∙ each_past (count_in (bytes5 (goal.at.returns c).Else-slot-ed)) (wrong_position (history_of (edition_of (bytes5 (goal.at.returns c).Else-slot-ed)) (bytes5 (goal.at.returns c).Else-slot-ed))) WrongPosition Passed c.wrong_position-event.result (event (goal.at.returns c).After-wrong_position-event) (omega (arith, (counted-at (goal.at.returns c).Else-slot-ed).count-n.ensures, c.if-event-n.false)))
+    let e = c.in_ok-framed.ensures in
+    (e.0, all_right e.0 (passed c.in_ok-framed.framed (framed e.0 e.1) c.in_default.ensures c.in_default-wrong_position.ensures))

@@ -1,28 +1,21 @@
-use mathlib.Core.Path.{◌≡◌, refl, ◌∙◌, ap₂}
+use mathlib.Core.Path.{◌≡◌, ◌∙◌, ap₂}
 use mathlib.Core.List.{◌++◌}
 use native.Mathlib.Omega.{arith}
-use borrow.Author.Rules.{rules}
 use lib.ListN.{length, drop, take, get_or}
 use lib.Seq.{length-take-le, take_all}
 use Rattle.rows.proofs.FrontLaws.{front-more, take_more}
 use Rattle.rows.proofs.copy.Goals as goal
 
-pub loop-i-init : goal.loop-i-init
-loop-i-init c = (search rules, search rules, refl)
-
 pub loop-i-preserved : goal.loop-i-preserved
 loop-i-preserved c =
     let l = c.loop-i in
-    let a = c.args in (
-      search rules,
-      search rules,
-      front-more (take l.i a.src.now) a.dst.now l.i (get_or a.src.now l.i 0) l.invariant.2
-          (take_more a.src.now l.i (search rules)) (length-take-le l.i a.src.now (search rules)) (search rules),
-    )
+    let a = c.args in
+    front-more (take l.i a.src.now) a.dst.now l.i (get_or a.src.now l.i 0) l.invariant
+    (take_more a.src.now l.i (omega arith)) (length-take-le l.i a.src.now (omega arith)) (omega (arith, c.requires))
 
 pub returns : goal.returns
 returns c =
     let l = c.loop-i in
     let a = c.args in
     let end : l.i ≡ length a.src.now = omega arith in
-    l.invariant.2 ∙ ap₂ (λ p i. p ++ drop i a.dst.now) (take_all l.i a.src.now (omega arith)) end
+    l.invariant ∙ ap₂ (λ p i. p ++ drop i a.dst.now) (take_all l.i a.src.now (omega arith)) end

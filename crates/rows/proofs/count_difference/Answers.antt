@@ -1,37 +1,35 @@
-use mathlib.Core.Path.{◌≡◌, sym, ◌∙◌, ap}
-use Prim.Native.Nat.{ℕ, ◌≤◌, ◌*◌, ◌+◌}
+-- `rows::count_difference` meets its contract: the members are the ones of the words `a & !b`. Assumes nothing.
+use mathlib.Core.Path.{◌∙◌}
+use Prim.Native.Nat.{ℕ, ◌*◌, ◌^◌}
 use native.Mathlib.Omega.{arith}
 use borrow.Author.Rules.{rules}
 use lib.Count.{ones}
 use lib.ListN.{length}
-use Rattle.rows.specs.Count.{how_many}
+use Rattle.std.specs.List.{zip}
+use Rattle.std.proofs.lemmas.Iterator.{YieldsList-from_slice, YieldsList-from_zip, YieldsList-from_map}
+use Rattle.std.proofs.lemmas.Iterator.Consumers.{YieldsList-at, sum_by_from_yields_List, fits_by_from_yields_list}
 use Rattle.rows.specs.Row.{only_first}
-use Rattle.rows.proofs.RowLaws.{lacking}
-use Rattle.rows.proofs.CountLaws.{sum-none, many_most, only_many}
+use Rattle.rows.proofs.RowLaws.{and_not}
+use Rattle.rows.proofs.CountLaws.{many_most, ones_counted}
 use Rattle.rows.proofs.count_difference.Goals as goal
 
--- the members in one word more, no more than there are numbers
-word : (c : goal.After-shared_slice_known-in-loop-i-1) → let g = c.args in let l = c.loop-i in (l.n + ones (lacking g.a.now g.b.now l.i) ≡ how_many ((l.i + 1) * 64) (only_first g.a.now g.b.now)) × (how_many ((l.i + 1) * 64) (only_first g.a.now g.b.now) ≤ (l.i + 1) * 64)
-word c =
-    let g = c.args in
-    let l = c.loop-i in
-    let more = only_many g.a.now g.b.now l.i (c.type_inv.a l.i).fits (c.type_inv.b l.i).fits in
-    (omega (arith, more, l.invariant.1), many_most ((l.i + 1) * 64) (only_first g.a.now g.b.now))
+-- the words of a that b lacks, and their ones
+abbrev ones_of : ℕ × ℕ → ℕ
+ones_of p = ones (and_not p.0 p.1)
 
-pub loop-i-init : goal.loop-i-init
-loop-i-init c = (search rules, sym (sum-none _))
-
-pub overflow_cast-n : goal.overflow_cast-n
-overflow_cast-n c = omega (arith, (word c).0, (word c).1)
-
-pub overflow_add-n : goal.overflow_add-n
-overflow_add-n c = omega (arith, (word c).0, (word c).1)
-
-pub loop-i-preserved : goal.loop-i-preserved
-loop-i-preserved c = (search rules, (word c).0)
+pub sum-requires-clause-fits : goal.sum-requires-clause-fits
+sum-requires-clause-fits c =
+    let a = c.args.a.now in
+    let b = c.args.b.now in
+    let total = ones_counted a b c.requires.a_in_bounds (λ i. (c.type_inv.a i).fits) (λ i. (c.type_inv.b i).fits) in
+    fits_by_from_yields_list ones_of (zip a b) c.map.result (2 ^ 64)
+    (YieldsList-from_map _ ones_of (YieldsList-at c.map.ensures.source (YieldsList-from_zip {s = c.zip.result} (YieldsList-from_slice a cc) (YieldsList-from_slice b cc))) c.map.ensures.closure (λ x r q k. search rules))
+    (omega (arith, total, many_most (64 * length a) (only_first a b), c.requires.a_bound))
 
 pub returns : goal.returns
 returns c =
-    let g = c.args in
-    let all : c.loop-i.i * 64 ≡ 64 * length g.a.now = omega (arith, c.loop-i.invariant.0) in
-    c.loop-i.invariant.1 ∙ ap (λ (n : ℕ). how_many n (only_first g.a.now g.b.now)) all
+    let a = c.args.a.now in
+    let b = c.args.b.now in
+    sum_by_from_yields_List ones_of (zip a b) c.map.result c.sum.result c.sum.ensures.ran
+    (YieldsList-from_map _ ones_of (YieldsList-at c.map.ensures.source (YieldsList-from_zip {s = c.zip.result} (YieldsList-from_slice a cc) (YieldsList-from_slice b cc))) c.map.ensures.closure (λ x r q k. search rules))
+    ∙ ones_counted a b c.requires.a_in_bounds (λ i. (c.type_inv.a i).fits) (λ i. (c.type_inv.b i).fits)

@@ -1,13 +1,9 @@
 -- `rows::discard` meets its contract: the first i words of `src`, with b in it, are taken out. Assumes nothing.
 use mathlib.Core.Path.{◌≡◌}
-use Prim.Native.Nat.{◌-◌, ◌≤◌}
-use lib.ListN.{length, take}
+use lib.ListN.{take}
 use Rattle.rows.specs.Row.{insert}
 use Rattle.rows.proofs.RowLaws.{and_not, merge}
 use Rattle.rows.proofs.discard.Given as goal
 
 abbrev pub invariant-loop-i : goal.invariant-loop-i
-invariant-loop-i l = (l.i ≤ length l.src) × (length l.dst ≡ length l.initial.dst) × (l.dst ≡ merge and_not l.initial.dst (take l.i (insert l.src l.b)))
-
-abbrev pub decreases-loop-i : goal.decreases-loop-i
-decreases-loop-i l = length l.src - l.i
+invariant-loop-i l = l.dst ≡ merge and_not l.initial.dst (take l.i (insert l.src l.b))

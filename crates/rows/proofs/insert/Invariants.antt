@@ -1,12 +1,8 @@
 -- `rows::insert` meets its contract: the words passed are those of the row with b in it. Assumes nothing.
-use Prim.Native.Nat.{◌-◌, ◌≤◌}
-use lib.ListN.{length, get_or}
+use lib.ListN.{get_or}
 use Rattle.rows.specs.Row.{insert}
 use Rattle.rows.proofs.StoredLaws.{Stored}
 use Rattle.rows.proofs.insert.Given as goal
 
 abbrev pub invariant-loop-i : goal.invariant-loop-i
-invariant-loop-i l = (l.i ≤ length l.initial.row) × Stored (λ j. get_or (insert l.initial.row l.b) j 0) l.initial.row l.row l.i
-
-abbrev pub decreases-loop-i : goal.decreases-loop-i
-decreases-loop-i l = length l.initial.row - l.i
+invariant-loop-i l = Stored (λ j. get_or (insert l.initial.row l.b) j 0) l.initial.row l.row l.i

@@ -6,18 +6,9 @@ use lib.Bits.{bit_and}
 use lib.ListN.{get_or}
 use Rattle.rows.specs.Row.{and_row}
 use Rattle.rows.proofs.RowLaws.{length-and, get_d_and}
-use Rattle.rows.proofs.StoredLaws.{stored_none, stored_more, stored_all}
+use Rattle.rows.proofs.StoredLaws.{stored_more, stored_all}
 use Rattle.rows.proofs.meet.Invariants.{met}
 use Rattle.rows.proofs.meet.Goals as goal
-
-pub loop-i-init : goal.loop-i-init
-loop-i-init c = let a = c.args in (omega arith, stored_none (λ j. get_or (met a.a.now a.b.now a.c.now) j 0) a.dst.now)
-
-pub bounds-dst-i : goal.bounds-dst-i
-bounds-dst-i c = omega (arith, c.loop-i.invariant.1.long)
-
-pub loop-i-smaller : goal.loop-i-smaller
-loop-i-smaller c = omega arith
 
 pub loop-i-preserved : goal.loop-i-preserved
 loop-i-preserved c =
@@ -26,15 +17,12 @@ loop-i-preserved c =
     let word : get_or (met g.a.now g.b.now g.c.now) k.i 0 ≡ bit_and (bit_and (get_or g.a.now k.i 0) (get_or g.b.now k.i 0)) (get_or g.c.now k.i 0) =
     get_d_and (and_row g.a.now g.b.now) g.c.now k.i (omega (arith, c.requires.2))
     ∙ ap (λ (y : ℕ). bit_and y (get_or g.c.now k.i 0)) (get_d_and g.a.now g.b.now k.i (omega (arith, c.requires.1))) in
-    (omega arith, stored_more (λ j. get_or (met g.a.now g.b.now g.c.now) j 0) g.dst.now k.dst k.i _ k.invariant.1 (omega arith) (sym word))
-
-pub shape_of-dst : goal.shape_of-dst
-shape_of-dst c = c.loop-i.invariant.1.long
+    stored_more (λ j. get_or (met g.a.now g.b.now g.c.now) j 0) g.dst.now k.dst k.i _ k.invariant (omega (arith, c.requires.0)) (sym word)
 
 pub returns : goal.returns
 returns c =
     let k = c.loop-i in
     let g = c.args in
     let all : List ℕ = met g.a.now g.b.now g.c.now in
-    stored_all (λ j. get_or all j 0) g.dst.now k.dst all k.i k.invariant.1 (omega arith)
+    stored_all (λ j. get_or all j 0) g.dst.now k.dst all k.i k.invariant (omega (arith, c.requires.0))
     (length-and (and_row g.a.now g.b.now) g.c.now ∙ length-and g.a.now g.b.now ∙ c.requires.0) (λ j. refl)

@@ -48,20 +48,26 @@ overflow_mul-blocks c = omega (arith, many c, blocks-few (text c) (start c).requ
 
 pub returns-then-target-blocks : goal.returns-then-target-blocks
 unfolding target_after
-returns-then-target-blocks c = record {
-  value = moved_short _ _ _ (text (goal.at.returns-then-target-blocks c).After-blocks-blocks) (stands (goal.at.returns-then-target-blocks c).After-blocks-blocks) (omega (arith, many (goal.at.returns-then-target-blocks c).After-blocks-blocks, c.if-target-blocks.true));
-  target_after = refl;
-}
+returns-then-target-blocks c =
+    let b = (goal.at.returns-then-target-blocks c).After-blocks-blocks in
+    record {
+      value = moved_short _ _ _ (text b) (stands b) (omega (arith, many b, c.if-target-blocks.true));
+      target_after = refl;
+    }
 
 pub write-requires : goal.write-requires
-write-requires c = record {
-  passes = ((start (goal.at.write-requires c).After-blocks-blocks).requires, omega (arith, many (goal.at.write-requires c).After-blocks-blocks, c.if-target-blocks.false));
-  blocks_value = many (goal.at.write-requires c).After-blocks-blocks;
-}
+write-requires c =
+    let b = (goal.at.write-requires c).After-blocks-blocks in
+    record {
+      room = omega (arith, many b, c.if-target-blocks.false);
+      blocks_value = many b;
+    }
 
 pub returns : goal.returns
 unfolding target_after
-returns c = record {
-  value = moved_written _ _ _ (text (goal.at.returns c).After-blocks-blocks) (stands (goal.at.returns c).After-blocks-blocks) (omega (arith, many (goal.at.returns c).After-blocks-blocks, c.if-target-blocks.false)) _ (ap (λ (n : ℕ). 512 * n) (many (goal.at.returns c).After-blocks-blocks));
-  target_after = c.write.ensures;
-}
+returns c =
+    let b = (goal.at.returns c).After-blocks-blocks in
+    record {
+      value = moved_written _ _ _ (text b) (stands b) (omega (arith, many b, c.if-target-blocks.false)) _ (ap (λ (n : ℕ). 512 * n) (many b));
+      target_after = c.write.ensures;
+    }

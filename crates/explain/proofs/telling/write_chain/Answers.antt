@@ -46,11 +46,17 @@ slice_bounds-union_into-end c = omega (arith, c.requires.graph.0.size, length-ta
 pub union_into-requires : goal.union_into-requires
 union_into-requires c = omega (arith, c.requires.graph.2, length-take (c.args.n * row_words) c.args.v.now)
 
+pub invariant_of-steps : goal.invariant_of-steps
+invariant_of-steps c =
+    let u = (goal.at.invariant_of-steps c).After-union_into in
+    let a = c.args in
+    record { graph = subst (λ (g : List ℕ). Graph g a.n row_words) (sym (lent u)) (steps_graph a.n a.v.now a.t.now c.union_into.new.rows c.requires.graph.0 c.requires.graph.1 c.requires.graph.2 c.union_into.ensures) }
+
 pub shortest-requires : goal.shortest-requires
 shortest-requires c =
     let u = (goal.at.shortest-requires c).After-union_into in
     let a = c.args in record {
-      graph = (subst (λ (g : List ℕ). Graph g a.n row_words) (sym (lent u)) (steps_graph a.n a.v.now a.t.now c.union_into.new.rows c.requires.graph.0 c.requires.graph.1 c.requires.graph.2 c.union_into.ensures), omega arith, omega (arith, c.requires.graph.3));
+      width = (omega arith, omega (arith, c.requires.graph.3));
       a_lt_n = c.requires.a_lt_n;
       b_value = reached u;
     }

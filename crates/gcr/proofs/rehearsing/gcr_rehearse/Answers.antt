@@ -1,36 +1,41 @@
 -- `gcr::rehearsing::gcr_rehearse`: the parts of the result fit, so that it reads back.
+use mathlib.Core.Path.{◌≡◌, sym, ap, ◌∙◌, subst}
 use native.Mathlib.Omega.{arith}
-use Rattle.std.proofs.Common.{◌≡◌, ℕ, List}
+use Rattle.std.proofs.Common.{ℕ, List}
+use Rattle.store.specs.Rehearsal.{InNumbers}
 use Rattle.store.specs.Demand.{Rehearses}
-use Rattle.store.specs.declared.Rehearsed.{Rehearsed}
 use Rattle.gcr.specs.Packed.{packed_rehearsal, unpacked_rehearsal}
 use Rattle.rehearsal.proofs.ResultSizes.{SmallResult, result_small}
 use Rattle.gcr.proofs.PackedLaws.{reads-back}
 use Rattle.gcr.proofs.rehearsing.gcr_rehearse.Goals as goal
 
-module _ {n : ℕ} {openings script rec ans rec' ans' : List ℕ} {r : Rehearsed} (h : Rehearses n openings script rec ans rec' ans' r) where
+module _ {n : ℕ} {openings script rec ans rec' ans' : List ℕ} {r : InNumbers} (h : Rehearses n openings script rec ans rec' ans' r) where
   small : SmallResult r
   small = result_small n openings script rec ans rec' ans' r h
 
-  same : unpacked_rehearsal (packed_rehearsal r) ≡ r
-  same = reads-back r (omega (arith, small.number)) (omega (arith, small.length))
+  same : {p : ℕ} → p ≡ packed_rehearsal r → r ≡ unpacked_rehearsal p
+  same e = sym (ap unpacked_rehearsal e ∙ reads-back r (omega (arith, small.number)) (omega (arith, small.length)))
+
+  kept : {p : ℕ} → p ≡ packed_rehearsal r → Rehearses n openings script rec ans rec' ans' (unpacked_rehearsal p)
+  kept e = subst (λ (x : InNumbers). Rehearses n openings script rec ans rec' ans' x) (same e) h
 
 pub overflow_mul-result : goal.overflow_mul-result
-overflow_mul-result c = let s = small c.rehearse-r.ensures.rehearses in omega arith
+overflow_mul-result c = let s = small c.in-Ok.ensures.rehearses in omega arith
+
+pub overflow_mul-result-in-Ok : goal.overflow_mul-result-in-Ok
+overflow_mul-result-in-Ok c = let s = small c.in-Ok.ensures.rehearses in omega arith
 
 pub overflow_add-result : goal.overflow_add-result
-overflow_add-result c = let s = small c.rehearse-r.ensures.rehearses in omega arith
+overflow_add-result c = let s = small c.in-Ok.ensures.rehearses in omega arith
 
-pub overflow_mul-result-2 : goal.overflow_mul-result-2
-overflow_mul-result-2 c = let s = small c.rehearse-r.ensures.rehearses in omega arith
-
-pub overflow_add-result-2 : goal.overflow_add-result-2
-overflow_add-result-2 c = let s = small c.rehearse-r.ensures.rehearses in omega arith
-
-pub returns-clause-rehearses : goal.returns-clause-rehearses
+pub returns-in-Ok-clause-rehearses : goal.returns-in-Ok-clause-rehearses
 unfolding packed_rehearsal
-returns-clause-rehearses c = rw (same c.rehearse-r.ensures.rehearses) c.rehearse-r.ensures.rehearses
+returns-in-Ok-clause-rehearses c = kept c.in-Ok.ensures.rehearses (omega arith)
 
-pub returns-clause-script_value : goal.returns-clause-script_value
+pub returns-in-Err-clause-rehearses : goal.returns-in-Err-clause-rehearses
 unfolding packed_rehearsal
-returns-clause-script_value c = rw (same c.rehearse-r.ensures.rehearses) c.rehearse-r.ensures.script_value
+returns-in-Err-clause-rehearses c = kept c.in-Err.ensures.rehearses (omega (arith, c.number.ensures))
+
+pub returns-in-Err-clause-script_value : goal.returns-in-Err-clause-script_value
+unfolding packed_rehearsal
+returns-in-Err-clause-script_value c e = c.in-Err.ensures.script_value (ap (λ (r : InNumbers). r.number) (same c.in-Err.ensures.rehearses (omega (arith, c.number.ensures))) ∙ e)

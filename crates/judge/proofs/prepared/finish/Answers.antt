@@ -5,8 +5,8 @@ use Rattle.judge.proofs.prepared.finish.Goals as goal
 
 pub close-requires : goal.close-requires
 close-requires c =
-    (steps_graph c.args.n c.args.l.now c.args.t.now c.requires.3 c.requires.2, omega arith)
+    (steps_graph c.args.n c.args.heads.now.words.now c.args.t.now c.requires.3 c.requires.2, omega arith)
 
 pub returns : goal.returns
 returns c =
-    tables_finished c.args.n c.args.l.now c.args.t.now c.requires.3 c.requires.2 c.close.new.table c.close.ensures c.fill.new.g c.fill.ensures
+    tables_finished c.args.n c.args.heads.now.words.now c.args.t.now c.requires.3 c.requires.2 c.close.new.table c.close.ensures c.fill.new.g c.fill.ensures

@@ -1,62 +1,36 @@
 -- `pairs::reads::likely_last` meets its contract: whichever it takes is a member. Assumes nothing.
-use mathlib.Core.Path.{◌≡◌}
-use mathlib.Core.Bool.{true}
-use Prim.Native.Nat.{◌+◌, ◌*◌, ◌≤◌, ◌<◌}
-use native.Mathlib.Omega.{arith}
-use lib.ListN.{length}
+use Rattle.std.proofs.Common.{◌≡◌, ◌∙◌, sym, ap, arith, true, length}
 use Rattle.rows.specs.Row.{has}
-use Rattle.rows.proofs.TableLaws.{row_room}
-use Rattle.pairs.proofs.LatestLaws.{highest-none, highest-member, lowest-member}
-use Rattle.pairs.proofs.reads.likely_last.Goals.{After-lowest-low, Start}
+use Rattle.rows.proofs.RowLaws.{has_within}
+use Rattle.rows.proofs.TableLaws.{row_room, length-row}
+use Rattle.pairs.proofs.LatestLaws.{lowest-member, lowest_none, highest-member, highest_none}
+use Rattle.pairs.proofs.reads.likely_last.Goals.{In_ok-low}
+use Rattle.pairs.proofs.reads.likely_last.Given.{Over}
 use Rattle.pairs.proofs.reads.likely_last.Goals as goal
 
-abbrev start : After-lowest-low → Start
-start c = (goal.at.After-lowest-low c).Start
+low : (g : Over) (c : In_ok-low g) → has c.args.seen.now c.in_ok-low.low ≡ true
+low g c = lowest-member c.args.seen.now (sym c.lowest.ensures ∙ c.in_ok-low.was)
 
--- the lowest is a member, and so has a row
-low-member : (c : After-lowest-low) → has (start c).args.seen.now c.lowest-low.result ≡ true
-low-member c =
-    let s = start c in
-    lowest-member s.args.n s.args.seen.now c.highest-high.result (omega (arith, s.requires.w_in_bounds.1, s.requires.seen_len.0)) s.requires.seen_len.1
-    c.highest-high.ensures (omega (arith, c.if-n-high.false)) c.lowest-low.result c.lowest-low.ensures
+high : (g : Over) (c : In_ok-low g) → has c.args.seen.now c.in_ok-high.high ≡ true
+high g c = highest-member c.args.seen.now (sym c.highest.ensures ∙ c.in_ok-high.was)
 
-low_below : (c : After-lowest-low) → c.lowest-low.result < (start c).args.n
-low_below c = (start c).requires.seen_len.1 c.lowest-low.result (low-member c)
+pub returns-in_err-high : goal.returns-in_err-high
+returns-in_err-high g c = rw c.from_residual.ensures (highest_none c.args.seen.now (sym c.highest.ensures ∙ c.in_err-high.was))
 
-room : (c : After-lowest-low) → c.lowest-low.result * (start c).args.w + (start c).args.w ≤ length (start c).args.ars.now
-room c =
-    let s = start c in
-    row_room s.args.n s.args.w c.lowest-low.result (length s.args.ars.now) (low_below c) s.requires.w_in_bounds.0
+pub returns-in_err-low : goal.returns-in_err-low
+returns-in_err-low g c = rw c.from_residual-in_err-low.ensures (lowest_none c.args.seen.now (sym c.lowest.ensures ∙ c.in_err-low.was))
 
-pub returns-then-n-high : goal.returns-then-n-high
-returns-then-n-high c =
-    let h = c.highest-high in
-    record {
-      member = λ k. absurd (omega (arith, c.if-n-high.true));
-      none = highest-none c.args.n c.args.seen.now h.result (omega (arith, c.requires.w_in_bounds.1, c.requires.seen_len.0)) c.requires.seen_len.1 h.ensures;
-    }
+pub before-requires : goal.before-requires
+before-requires g c = (omega arith, c.requires c.in_ok-low.low (low g c))
 
-pub overflow_mul-at : goal.overflow_mul-at
-overflow_mul-at c = omega (arith, room c)
-
-pub overflow_add-end : goal.overflow_add-end
-overflow_add-end c = omega (arith, room c)
-
-pub offset_bounds-ars-at : goal.offset_bounds-ars-at
-offset_bounds-ars-at c = omega (arith, room c)
-
-pub slice_bounds-test-end : goal.slice_bounds-test-end
-slice_bounds-test-end c = omega (arith, room c)
+pub test-requires : goal.test-requires
+test-requires g c =
+    let o = c.args.order.now in
+    let k = (goal.at.test-requires g c).In_ok-low in
+    omega (arith, length-row o.ars.now g.row.W c.in_ok-low.low (row_room o.events.count g.row.W c.in_ok-low.low _ (c.requires c.in_ok-low.low (low g k)) o.size), ap length c.before-2.ensures, has_within c.args.seen.now c.in_ok-high.high (high g k))
 
 pub returns-then-test : goal.returns-then-test
-returns-then-test c =
-    record { member = λ k. low-member (goal.at.returns-then-test c).After-lowest-low; none = λ k. absurd (omega (arith, low_below (goal.at.returns-then-test c).After-lowest-low)) }
+returns-then-test g c = low g (goal.at.returns-then-test g c).In_ok-low
 
-pub returns : goal.returns
-returns c =
-    let s = start (goal.at.returns c).After-lowest-low in
-    let h = c.highest-high in
-    record {
-      member = highest-member s.args.n s.args.seen.now h.result (omega (arith, s.requires.w_in_bounds.1, s.requires.seen_len.0)) s.requires.seen_len.1 h.ensures;
-      none = λ k. absurd (omega (arith, c.if-n-high.false));
-    }
+pub returns-else-test : goal.returns-else-test
+returns-else-test g c = high g (goal.at.returns-else-test g c).In_ok-low

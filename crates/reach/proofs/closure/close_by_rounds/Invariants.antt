@@ -6,7 +6,7 @@ use Rattle.reach.proofs.ClosureLaws.{Rounds}
 use Rattle.reach.proofs.closure.close_by_rounds.Given as goal
 
 abbrev pub invariant-loop-k : goal.invariant-loop-k
-invariant-loop-k l = (l.k ≤ l.n) × (length l.table ≡ length l.initial.table) × (length l.row ≡ length l.initial.row) × Rounds l.n (length l.initial.row) l.initial.table l.k l.table
+invariant-loop-k l = (l.k ≤ l.n) × (length l.table ≡ length l.initial.table) × Rounds l.n l.w l.initial.table l.k l.table
 
 abbrev pub decreases-loop-k : goal.decreases-loop-k
 decreases-loop-k l = l.n - l.k

@@ -1,80 +1,41 @@
-use mathlib.Core.Path.{◌≡◌, refl, sym, ◌∙◌}
-use mathlib.Core.Bool.{true}
-use Prim.Native.Nat.{◌<◌}
+use mathlib.Core.Path.{◌≡◌, ap, ◌∙◌}
+use mathlib.Core.Bool.{true, not, ◌&&◌}
+use Prim.Native.Nat.{ℕ}
 use native.Mathlib.Omega.{arith}
 use borrow.Author.Rules.{rules}
+use lib.Dec.{eqb}
 use lib.ListN.{length}
-use Rattle.rows.specs.Row.{has}
-use Rattle.rows.proofs.ReachLaws.{room_row}
-use Rattle.reach.proofs.GatherLaws.{gather_begin, gather_turn, gather_less, gather_end}
-use Rattle.reach.proofs.closure.gather.Goals.{After-end_of-a, After-take_row, At-loop-n, Else-past-a, Start}
+use Rattle.rows.specs.Row.{has, row_at}
+use Rattle.rows.specs.Relation.{related}
+use Rattle.rows.proofs.TableLaws.{length-row}
+use Rattle.rows.proofs.ReachLaws.{graph_room}
+use Rattle.reach.proofs.GatherLaws.{row-taken, rest-taken, gather_turn, gather_less, gather_end}
+use Rattle.reach.proofs.closure.gather.Goals.{After-discard}
 use Rattle.reach.proofs.closure.gather.Goals as goal
 
--- the places on the way, by name
-abbrev start : At-loop-n → Start
-start c = (goal.at.At-loop-n c).Start
-
-abbrev at-loop : After-end_of-a → At-loop-n
-at-loop c = (goal.at.After-end_of-a c).At-loop-n
-
-abbrev chosen : After-take_row → Else-past-a
-chosen c = (goal.at.After-take_row c).Else-past-a
-
 -- this turn's event is a member
-member : (c : Else-past-a) → has (at-loop (goal.at.Else-past-a c).After-end_of-a).loop-n.rest c.end_of-a.result ≡ true
-member c = c.end_of-a.ensures.result_value (omega (arith, c.if-past-a.false, (at-loop (goal.at.Else-past-a c).After-end_of-a).loop-n.invariant.deep))
+member : (g : _) (c : After-discard g) → has c.loop-a.rest c.in-Some.a ≡ true
+member g c = c.requires.picks _ c.in-Some.a (rw c.in-Some.is at c.next.ensures)
 
-kept-rest : (c : After-take_row) → length c.take_row.new.rest ≡ length (at-loop (goal.at.Else-past-a (chosen c)).After-end_of-a).loop-n.rest
-kept-rest c = search rules
+-- and goes with those of its row
+less : (g : _) (c : After-discard g) → let a = c.args.relation.now in (x : ℕ) → has c.discard.new.dst x ≡ (not (eqb c.in-Some.a x) && has c.loop-a.rest x) && not (related a.words.now a.width x c.in-Some.a)
+less g c =
+    let a = c.args.relation.now in
+    let h = c.requires.nested.below c.in-Some.a (c.loop-a.invariant.inside c.in-Some.a (member g c)) in
+    let long = ap length {y = row_at a.words.now a.width c.in-Some.a} c.row-members.ensures ∙ length-row a.words.now a.width c.in-Some.a (graph_room c.in-Some.a a.graph h) in
+    rest-taken a.words.now a.width c.in-Some.a c.loop-a.rest c.row-members.ensures (λ k. search rules) (omega (arith, long, h, a.graph.wide)) c.discard.ensures
 
-kept_row : (c : After-take_row) → length c.take_row.new.row ≡ length (at-loop (goal.at.Else-past-a (chosen c)).After-end_of-a).loop-n.row
-kept_row c = search rules
+pub loop-a-smaller : goal.loop-a-smaller
+loop-a-smaller g c =
+    let d = (goal.at.loop-a-smaller g c).After-discard in
+    gather_less c.loop-a.invariant c.in-Some.a (member g d) c.discard.new.dst (less g d)
 
-pub overflow_mul-past : goal.overflow_mul-past
-overflow_mul-past c = omega (arith, c.requires.rows.fits)
+pub loop-a-preserved : goal.loop-a-preserved
+loop-a-preserved g c =
+    let d = (goal.at.loop-a-preserved g c).After-discard in
+    let a = c.args.relation.now in
+    gather_turn c.loop-a.invariant c.in-Some.a (member g d) c.discard.new.dst (less g d) c.requires.nested c.union.new.dst
+    (row-taken a.words.now a.width c.in-Some.a c.loop-a.row c.loop-a.invariant.wide c.row-members.ensures c.union.ensures) (search rules) (search rules)
 
-pub lowest-requires : goal.lowest-requires
-lowest-requires c = omega (arith, c.requires.rows.fits, c.requires.rest_len)
-
-pub loop-n-init : goal.loop-n-init
-loop-n-init c =
-    gather_begin c.args.table.now c.args.n (length c.args.row.now) c.args.rest.now c.args.row.now refl c.requires.rest_len
-
-pub end_of-a-requires : goal.end_of-a-requires
-end_of-a-requires c = omega (arith, c.loop-n.invariant.deep, (start c).requires.rows.fits)
-
-pub shape_of-rest-then-past-a : goal.shape_of-rest-then-past-a
-shape_of-rest-then-past-a c =
-    let l = at-loop (goal.at.shape_of-rest-then-past-a c).After-end_of-a in
-    l.loop-n.invariant.deep ∙ sym (start l).requires.rest_len
-
-pub shape_of-row-then-past-a : goal.shape_of-row-then-past-a
-shape_of-row-then-past-a c = (at-loop (goal.at.shape_of-row-then-past-a c).After-end_of-a).loop-n.invariant.wide
-
-pub returns-then-past-a : goal.returns-then-past-a
-returns-then-past-a c =
-    let l = at-loop (goal.at.returns-then-past-a c).After-end_of-a in
-    gather_end l.loop-n.invariant (c.end_of-a.ensures.x_value (omega (arith, c.if-past-a.true, l.loop-n.invariant.deep)))
-
-pub take_row-requires : goal.take_row-requires
-take_row-requires c =
-    let l = at-loop (goal.at.take_row-requires c).After-end_of-a in
-    let s = start l in
-    let k : c.end_of-a.result < s.args.n = s.requires.nested.below c.end_of-a.result (l.loop-n.invariant.inside c.end_of-a.result (member (goal.at.take_row-requires c).Else-past-a)) in
-    rw l.loop-n.invariant.wide (record {
-      row_in_bounds = room_row c.end_of-a.result s.requires.rows k;
-      rest_len = (l.loop-n.invariant.deep, omega (arith, s.requires.rows.wide));
-    })
-
-pub loop-n-smaller : goal.loop-n-smaller
-loop-n-smaller c =
-    let e = chosen (goal.at.loop-n-smaller c).After-take_row in
-    let l = at-loop (goal.at.Else-past-a e).After-end_of-a in
-    gather_less l.loop-n.invariant e.end_of-a.result (member e) c.take_row.new.rest (rw l.loop-n.invariant.wide at c.take_row.ensures.by_index_2)
-
-pub loop-n-preserved : goal.loop-n-preserved
-loop-n-preserved c =
-    let e = chosen (goal.at.loop-n-preserved c).After-take_row in
-    let l = at-loop (goal.at.Else-past-a e).After-end_of-a in
-    gather_turn l.loop-n.invariant e.end_of-a.result (member e) c.take_row.new.rest (rw l.loop-n.invariant.wide at c.take_row.ensures.by_index_2) (start l).requires.nested
-    c.take_row.new.row (rw l.loop-n.invariant.wide at c.take_row.ensures.by_index) (kept_row (goal.at.loop-n-preserved c).After-take_row) (kept-rest (goal.at.loop-n-preserved c).After-take_row)
+pub returns : goal.returns
+returns g c = gather_end c.loop-a.invariant (λ x. c.requires.picks_none _ x (rw c.in_default.is at c.next.ensures))

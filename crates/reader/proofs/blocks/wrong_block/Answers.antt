@@ -1,18 +1,14 @@
-use mathlib.Core.Path.{ap}
+-- `reader::blocks::wrong_block` meets its contract. Assumes nothing.
 use mathlib.Core.Bool.{not}
-use Rattle.rows.proofs.LowestLaws.{searched_start, searched_more, searched_hit, searched_end}
+use Rattle.std.proofs.Common.{ℕ, Bool, ◌≡◌, ◌/◌, true, false, rules, length}
+use borrow.Author.Tests.{tests}
+use Rattle.std.proofs.lemmas.Iterator.{first_from_Range}
+use Rattle.record.specs.Blocks.{block_right}
+use Rattle.record.proofs.SearchLaws.{found_from_find}
 use Rattle.reader.proofs.blocks.wrong_block.Goals as goal
 
-pub loop-k-init : goal.loop-k-init
-loop-k-init c = searched_start _ _
-
-pub returns-then-not-block_holds : goal.returns-then-not-block_holds
-returns-then-not-block_holds c =
-    searched_hit c.loop-k.invariant c.loop-k-test.true (rw c.block_holds.ensures at (ap not c.if-not-block_holds.true))
-
-pub loop-k-preserved : goal.loop-k-preserved
-loop-k-preserved c =
-    searched_more c.loop-k.invariant c.loop-k-test.true (rw c.block_holds.ensures at (ap not c.if-not-block_holds.false))
-
 pub returns : goal.returns
-returns c = searched_end c.loop-k.invariant c.loop-k-test.false
+returns c =
+    let wrong : ℕ → Bool = λ k. not (block_right c.args.s.now k) in
+    found_from_find (length c.args.s.now / 512) wrong c.find.result
+    (first_from_Range _ _ _ c.find.result (λ k. wrong k ≡ true) (λ k. wrong k ≡ false) c.find.ensures.ran (λ x q k. search (rules, tests)) (λ x q k. search (rules, tests)))

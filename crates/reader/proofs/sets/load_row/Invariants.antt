@@ -1,7 +1,6 @@
 -- `reader::sets::load_row` meets its contract: a word of the set where it has one, and else zero. Assumes nothing.
-use mathlib.Core.Path.{◌≡◌}
 use mathlib.Core.List.{List, ◌++◌}
-use Prim.Native.Nat.{ℕ, ◌-◌, ◌≤◌}
+use Prim.Native.Nat.{ℕ, ◌-◌}
 use lib.ListN.{length, get_or, replicate}
 use Rattle.rows.specs.Octets.{words}
 use Rattle.rows.proofs.StoredLaws.{Stored}
@@ -12,7 +11,4 @@ abbrev pub loaded : List ℕ → List ℕ → ℕ → ℕ → List ℕ
 loaded row s at k = words k s at ++ replicate (length row - k) 0
 
 abbrev pub invariant-loop-i : goal.invariant-loop-i
-invariant-loop-i l = (l.i ≤ length l.initial.row) × (length l.row ≡ length l.initial.row) × Stored (λ j. get_or (loaded l.initial.row l.s l.at l.k) j 0) l.initial.row l.row l.i
-
-abbrev pub decreases-loop-i : goal.decreases-loop-i
-decreases-loop-i l = length l.initial.row - l.i
+invariant-loop-i l = Stored (λ j. get_or (loaded l.initial.row l.s l.at l.k) j 0) l.initial.row l.row l.i

@@ -1,9 +1,9 @@
 use mathlib.Core.Path.{◌≡◌, refl, ap₂, ◌∙◌}
-use Prim.Native.Nat.{◌+◌, ◌*◌, ◌-◌, ◌≤◌}
+use Prim.Native.Nat.{◌+◌, ◌*◌, ◌≤◌}
 use native.Mathlib.Nat.{add-sub_cancel_left}
 use native.Mathlib.Omega.{arith}
 use borrow.Author.Rules.{rules}
-use lib.ListN.{length, take, drop}
+use lib.ListN.{length}
 use Rattle.rows.specs.Octets.{words}
 use Rattle.rows.proofs.TableLaws.{row_room, length-row}
 use Rattle.record.specs.Layout.{edition_of}
@@ -36,32 +36,6 @@ pub loop-e-init : goal.loop-e-init
 loop-e-init c =
     let s = c.args.s.now in
     (search rules, refl, slot_words-none _ _ _ _ _, slot-first (edition_of s) (sound_of s))
-
-pub overflow_mul-at : goal.overflow_mul-at
-overflow_mul-at c = omega (arith, room c)
-
-pub overflow_add-end : goal.overflow_add-end
-overflow_add-end c = omega (arith, room c)
-
-pub offset_bounds-out-at : goal.offset_bounds-out-at
-offset_bounds-out-at c = omega (arith, room c)
-
-pub slice_bounds-load-end : goal.slice_bounds-load-end
-slice_bounds-load-end c = omega (arith, room c)
-
-pub overflow_add-slot : goal.overflow_add-slot
-overflow_add-slot c = omega (arith, within (goal.at.overflow_add-slot c).In-loop-e)
-
-pub load-requires : goal.load-requires
-load-requires c =
-    let l = c.loop-e in
-    let a = (start (goal.at.load-requires c).At-loop-e).args in
-    let size : length (take (l.e * a.w + a.w - l.e * a.w) (drop (l.e * a.w) l.out)) ≡ a.w = rw add-sub_cancel_left (length-row l.out a.w l.e (room (goal.at.load-requires c).In-loop-e)) in
-    omega (arith, within (goal.at.load-requires c).In-loop-e, size)
-
-pub next_slot-slot-requires : goal.next_slot-slot-requires
-next_slot-slot-requires c =
-    omega (arith, within (goal.at.next_slot-slot-requires c).In-loop-e, sizes (goal.at.next_slot-slot-requires c).At-loop-e)
 
 pub loop-e-preserved : goal.loop-e-preserved
 loop-e-preserved c =

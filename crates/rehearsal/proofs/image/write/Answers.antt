@@ -6,7 +6,7 @@ use lib.ListN.{length}
 use Rattle.record.specs.Layout.{store_layout}
 use Rattle.record.specs.Encode.{blocks_for}
 use Rattle.store.specs.Rehearsal.{terms_of}
-use Rattle.calls.specs.Lent.{lent, count_in}
+use Rattle.calls.specs.Lent.{with_counts}
 use Rattle.rehearsal.proofs.ImageLaws.{record_written}
 use Rattle.rehearsal.proofs.image.write.Goals.{After-blocks-blocks, Start}
 use Rattle.rehearsal.proofs.image.write.Goals as goal
@@ -15,12 +15,12 @@ abbrev start : After-blocks-blocks → Start
 start c = (goal.at.After-blocks-blocks c).Start
 
 -- as many blocks as the record has
-many : (c : After-blocks-blocks) → c.blocks-blocks.result ≡ blocks_for store_layout (count_in (start c).args.cells.now)
+many : (c : After-blocks-blocks) → c.blocks-blocks.result ≡ blocks_for store_layout (start c).args.store.now.count
 many c = c.blocks-blocks.ensures store_layout refl
 
 -- and the buffer has room for them
 room : (c : After-blocks-blocks) → (512 * c.blocks-blocks.result ≤ length (start c).args.rec.now) × (c.blocks-blocks.result ≤ 65536)
-room c = let a = start c in (omega (arith, many c, a.requires.recordable.ordered.few, a.requires.openings_len.2), omega (arith, many c, a.requires.recordable.ordered.few))
+room c = let a = start c in (omega (arith, many c, a.requires.ordered.few, a.requires.openings_len.2), omega (arith, many c, a.requires.ordered.few))
 
 pub overflow_mul-blocks : goal.overflow_mul-blocks
 overflow_mul-blocks c = omega (arith, room (goal.at.overflow_mul-blocks c).After-blocks-blocks)
@@ -31,10 +31,10 @@ clear-requires c = omega (arith, room (goal.at.clear-requires c).After-blocks-bl
 pub put_slots-requires : goal.put_slots-requires
 put_slots-requires c =
     let a = start (goal.at.put_slots-requires c).After-blocks-blocks in
-    let fits : 512 * blocks_for store_layout (count_in a.args.cells.now) ≤ length c.terms.new.s =
+    let fits : 512 * blocks_for store_layout a.args.store.now.count ≤ length c.terms.new.s =
     omega (arith, room (goal.at.put_slots-requires c).After-blocks-blocks, many (goal.at.put_slots-requires c).After-blocks-blocks, c.terms.auto.s, c.header.auto.s, c.clear.auto.s) in record {
       ed_value = refl;
-      recordable = a.requires.recordable;
+      ordered = a.requires.ordered;
       cells_in_bounds = fits;
     }
 
@@ -48,7 +48,7 @@ pub returns : goal.returns
 returns c =
     let g = (start (goal.at.returns c).After-blocks-blocks).args in record {
       value = ap (λ (k : ℕ). 512 * k) (many (goal.at.returns c).After-blocks-blocks);
-      rec_after = λ t counts.
-          record_written g.n (terms_of g.openings.now) t (lent g.known.now g.sees.now g.cells.now g.events.now counts) _ g.rec.now _ _ _ _ _ (many (goal.at.returns c).After-blocks-blocks) c.clear.ensures
-          (c.header.ensures store_layout refl) (c.terms.ensures store_layout refl) (c.put_slots.ensures t counts) c.seal.ensures;
+      rec_after = λ t held needs.
+          record_written g.n (terms_of g.openings.now) t (with_counts g.store.now held needs) _ g.rec.now _ _ _ _ _ (many (goal.at.returns c).After-blocks-blocks) c.clear.ensures
+          (c.header.ensures store_layout refl) (c.terms.ensures store_layout refl) (c.put_slots.ensures t held needs) c.seal.ensures;
     }

@@ -1,92 +1,82 @@
 -- `rehearsal::refuse::rehearsal_refused` meets its contract: each return is the first question that got a no. Assumes nothing.
-use mathlib.Core.Path.{◌≡◌, sym, ◌∙◌}
-use mathlib.Core.Bool.{◌&&◌}
+use mathlib.Core.Logic.{inl, inr}
+use mathlib.Core.Path.{◌≡◌, refl, sym, ◌∙◌}
+use mathlib.Core.Bool.{Bool, true, false, not, ◌&&◌}
 use mathlib.Core.List.{List}
-use Prim.Native.Nat.{ℕ}
-use native.Mathlib.Omega.{arith}
+use Prim.Native.Nat.{ℕ, ◌%◌, ◌≤◌}
 use lib.Dec.{eqb}
 use lib.ListN.{length}
-use borrow.Author.Tests.{le-leb, lt-leb, eq-eqb, ne_eqb}
+use borrow.Author.Tests.{le-leb, lt-leb, eq-eqb, ne_eqb, eqb-true}
+use Rattle.record.specs.Layout.{longest_record}
 use Rattle.record.specs.Terms.{openings_right}
 use Rattle.record.specs.Questions.{ask}
 use Rattle.store.specs.Rehearsal.{rehearsal_refusal}
-use Rattle.rehearsal.proofs.refuse.rehearsal_refused.Goals.{Else-answers-script}
+use Rattle.rehearsal.proofs.refuse.rehearsal_refused.Goals.{then-opened-ne132, else-opened-ne132}
 use Rattle.rehearsal.proofs.refuse.rehearsal_refused.Goals as goal
-
-pub returns-then-n-lt1 : goal.returns-then-n-lt1
-unfolding rehearsal_refusal
-returns-then-n-lt1 c = λ s t u e f g. rw (lt-leb _ _ c.if-n-lt1.true)
 
 pub returns-then-n-gt8 : goal.returns-then-n-gt8
 unfolding rehearsal_refusal
-returns-then-n-gt8 c = λ s t u e f g. rw (le-leb _ _ c.if-n-lt1.false, lt-leb _ _ c.if-n-gt8.true)
-
-pub returns-then-script-ne0 : goal.returns-then-script-ne0
-unfolding rehearsal_refusal
-returns-then-script-ne0 c = λ s t u e f g. rw (le-leb _ _ c.if-n-lt1.false, le-leb _ _ c.if-n-gt8.false, e, ne_eqb _ _ c.if-script-ne0.true)
+returns-then-n-gt8 c =
+    λ s t u e f g.
+    elim c.if-n-gt8.either [
+      | inl p ↦ rw (lt-leb _ _ p) refl
+      | inr q ↦ rw (le-leb _ _ q.0, lt-leb _ _ q.1) refl
+    ]
 
 pub returns-then-script-gt32768 : goal.returns-then-script-gt32768
 unfolding rehearsal_refusal
 returns-then-script-gt32768 c =
-    λ s t u e f g. rw (le-leb _ _ c.if-n-lt1.false, le-leb _ _ c.if-n-gt8.false, e, eq-eqb _ _ c.if-script-ne0.false, lt-leb _ _ c.if-script-gt32768.true)
+    λ s t u e f g.
+    let h = c.if-n-gt8.false in
+    elim c.if-script-gt32768.either [
+      | inl p ↦ rw (le-leb _ _ h.0, le-leb _ _ h.1, e, ne_eqb _ _ p) refl
+      | inr q ↦ rw (le-leb _ _ h.0, le-leb _ _ h.1, e, eq-eqb _ _ q.0, lt-leb _ _ q.1) refl
+    ]
 
 pub returns-then-rec-lt-LONGEST : goal.returns-then-rec-lt-LONGEST
 unfolding rehearsal_refusal
 returns-then-rec-lt-LONGEST c =
     λ s t u e f g.
-    rw (
-      le-leb _ _ c.if-n-lt1.false,
-      le-leb _ _ c.if-n-gt8.false,
-      e,
-      eq-eqb _ _ c.if-script-ne0.false,
-      le-leb _ _ c.if-script-gt32768.false,
-      f,
-      lt-leb _ _ c.if-rec-lt-LONGEST.true,
-    )
+    let h = c.if-n-gt8.false in
+    let k = c.if-script-gt32768.false in
+    rw (le-leb _ _ h.0, le-leb _ _ h.1, e, eq-eqb _ _ k.0, le-leb _ _ k.1, f, lt-leb _ _ c.if-rec-lt-LONGEST.true) refl
 
 pub returns-then-answers-script : goal.returns-then-answers-script
 unfolding rehearsal_refusal
 returns-then-answers-script c =
     λ s t u e f g.
-    rw (
-      le-leb _ _ c.if-n-lt1.false,
-      le-leb _ _ c.if-n-gt8.false,
-      e,
-      eq-eqb _ _ c.if-script-ne0.false,
-      le-leb _ _ c.if-script-gt32768.false,
-      f,
-      le-leb _ _ c.if-rec-lt-LONGEST.false,
-      g,
-      lt-leb _ _ c.if-answers-script.true,
-    )
+    let h = c.if-n-gt8.false in
+    let k = c.if-script-gt32768.false in
+    rw (le-leb _ _ h.0, le-leb _ _ h.1, e, eq-eqb _ _ k.0, le-leb _ _ k.1, f, le-leb _ _ c.if-rec-lt-LONGEST.false, g, lt-leb _ _ c.if-answers-script.true) refl
 
 -- 20 to 23 let it pass: 40 is asked
-late : (c : Else-answers-script) → let g = c.args in (s t u : List ℕ) → length s ≡ g.script → length t ≡ g.rec → length u ≡ g.answers → rehearsal_refusal g.n g.opened.now s t u ≡ ask (eqb (length g.opened.now) 132 && openings_right g.opened.now 0) 40 0
+late : (n : ℕ) (opened s t u : List ℕ) (script rec answers : ℕ) → (1 ≤ n) × (n ≤ 8) → (script % 8 ≡ 0) × (script ≤ 32768) → longest_record ≤ rec → script ≤ answers
+    → length s ≡ script → length t ≡ rec → length u ≡ answers → rehearsal_refusal n opened s t u ≡ ask (eqb (length opened) 132 && openings_right opened 0) 40 0
 unfolding rehearsal_refusal
-late c =
-    λ s t u e f g.
-    rw (
-      le-leb _ _ c.if-n-lt1.false,
-      le-leb _ _ c.if-n-gt8.false,
-      e,
-      eq-eqb _ _ c.if-script-ne0.false,
-      le-leb _ _ c.if-script-gt32768.false,
-      f,
-      le-leb _ _ c.if-rec-lt-LONGEST.false,
-      g,
-      le-leb _ _ c.if-answers-script.false,
-    )
+late n opened s t u script rec answers h k l m e f g = rw (le-leb _ _ h.0, le-leb _ _ h.1, e, eq-eqb _ _ k.0, le-leb _ _ k.1, f, le-leb _ _ l, g, le-leb _ _ m) refl
 
-pub returns-then-opened-ne132 : goal.returns-then-opened-ne132
-returns-then-opened-ne132 c = λ s t u e f g. rw (late (goal.at.returns-then-opened-ne132 c).Else-answers-script s t u e f g, ne_eqb _ _ c.if-opened-ne132.true)
+denied : (b : Bool) → not b ≡ true → b ≡ false
+denied false e = refl
+denied true e = sym e
 
-pub hold-requires : goal.hold-requires
-hold-requires c = omega arith
+granted : (b : Bool) → not b ≡ false → b ≡ true
+granted true e = refl
+granted false e = sym e
 
 pub returns-then-not-hold : goal.returns-then-not-hold
 returns-then-not-hold c =
-    λ s t u e f g. rw (late (goal.at.returns-then-not-hold c).Else-answers-script s t u e f g, eq-eqb _ _ c.if-opened-ne132.false, sym c.hold.ensures ∙ c.if-not-hold.true)
+    λ s t u e f g.
+    rw (late c.args.n c.args.opened.now s t u _ _ _ c.if-n-gt8.false c.if-script-gt32768.false c.if-rec-lt-LONGEST.false c.if-answers-script.false e f g)
+    (elim c.if-opened-ne132.branch [
+      | then-opened-ne132 w ↦ rw (ne_eqb _ _ w.if-opened-ne132.true) refl
+      | else-opened-ne132 w ↦ rw (eq-eqb _ _ w.if-opened-ne132.false, ← w.hold.ensures, denied _ (sym w.value-is ∙ c.if-not-hold.true)) refl
+    ])
 
-pub returns : goal.returns
-returns c =
-    λ s t u e f g. rw (late (goal.at.returns c).Else-answers-script s t u e f g, eq-eqb _ _ c.if-opened-ne132.false, sym c.hold.ensures ∙ c.if-not-hold.false)
+pub returns-else-not-hold : goal.returns-else-not-hold
+returns-else-not-hold c =
+    λ s t u e f g.
+    rw (late c.args.n c.args.opened.now s t u _ _ _ c.if-n-gt8.false c.if-script-gt32768.false c.if-rec-lt-LONGEST.false c.if-answers-script.false e f g)
+    (elim c.if-opened-ne132.branch [
+      | then-opened-ne132 w ↦ absurd (w.if-opened-ne132.true (eqb-true _ _ (granted _ (sym w.value-is ∙ c.if-not-hold.false))))
+      | else-opened-ne132 w ↦ rw (eq-eqb _ _ w.if-opened-ne132.false, ← w.hold.ensures, granted _ (sym w.value-is ∙ c.if-not-hold.false)) refl
+    ])

@@ -4,12 +4,12 @@ use native.Mathlib.Omega.{arith}
 use Rattle.rehearsal.proofs.OpenedCells.{cell-none, cell-some}
 use Rattle.rehearsal.proofs.run.opened_cell.Goals as goal
 
-pub returns-then-not-test : goal.returns-then-not-test
-returns-then-not-test c =
+pub returns-then-test : goal.returns-then-test
+returns-then-test c =
     let g = c.args in
-    cell-none g.openings.now g.o c.requires.1 (sym c.test.ensures ∙ c.if-not-test.true)
+    cell-some g.openings.now g.o c.requires.1 (sym c.test.ensures ∙ c.if-test.true) c.u32_at.result (omega arith) c.u32_at.ensures
 
-pub returns : goal.returns
-returns c =
+pub returns-else-test : goal.returns-else-test
+returns-else-test c =
     let g = c.args in
-    cell-some g.openings.now g.o c.requires.1 (sym c.test.ensures ∙ c.if-not-test.false) c.u32_at.result (omega arith) c.u32_at.ensures
+    cell-none g.openings.now g.o c.requires.1 (sym c.test.ensures ∙ c.if-test.false)

@@ -8,10 +8,10 @@ use Rattle.rehearsal.proofs.slots.slot.Goals as goal
 pub returns : goal.returns
 returns c =
     let g = c.args in
-    let present = c.present-present in
-    let shown : c.if-present.value ≡ value_or0 (word_shown g.word) =
+    let present = c.is_present-present in
+    let shown : c.if-present.result ≡ value_or0 (word_shown g.word.0) =
     elim c.if-present.branch [
-      | then-present w ↦ rw (sym present.ensures ∙ w.if-present.true) (w.value-is ∙ w.value-value.ensures)
-      | else-present w ↦ rw (sym present.ensures ∙ w.if-present.false) w.value-is
+      | then-present w ↦ rw (sym present.ensures ∙ w.if-present.true) (w.result-is ∙ w.value.ensures)
+      | else-present w ↦ rw (sym present.ensures ∙ w.if-present.false) w.result-is
     ] in
     rw (shown, present.ensures, c.site.ensures, c.object.ensures)

@@ -1,9 +1,0 @@
--- `lattice::table::following` meets its contract: the table of the pairs, closed.
-use native.Mathlib.Omega.{arith}
-use Rattle.lattice.proofs.TableLaws.{closed-table}
-use Rattle.lattice.proofs.table.following.Goals as goal
-
-pub returns : goal.returns
-returns c =
-    let g = c.given-table in
-    closed-table g.result (omega arith) g.ensures c.close.new.table c.close.ensures

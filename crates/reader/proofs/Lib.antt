@@ -1,0 +1,2 @@
+-- Laws that functions' proofs cite.
+pub mod FramedLaws
