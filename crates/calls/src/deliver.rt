@@ -15,9 +15,9 @@ impl Store {
         let word = Word(self.events[w]);
         let o = word.object() as usize;
         self.cells[s][o] = self.cells[s][o].max(word.0);
-        let saw = self.sees[w];
+        let saw = &self.sees[w];
         let known = &mut self.known[s];
-        rows::union(known, &saw);
+        rows::union(known, saw);
         rows::set(known, w);
         self.clocks[s] = self.clocks[s].max(word.stamp());
         self.held[s] = sites::with_held(self.held[s], word.site());
