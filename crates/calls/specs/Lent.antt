@@ -7,6 +7,7 @@ use Rattle.record.specs.Terms.{none, Terms}
 use Rattle.store.specs.Store.{Cell, untouched, Site, Event, Store, fresh_site, no_event, fresh}
 use Rattle.store.specs.Calls.{Call}
 use Rattle.store.specs.Rules.{run}
+use Rattle.calls.specs.declared.Kept.{Kept}
 use Rattle.calls.specs.declared.lent.Store as kept
 use Rattle.calls.specs.Mirror.{word_object, word_site, word_stamp, word_shown, cell_of}
 
@@ -56,6 +57,10 @@ cells_of row o = cond (ltb o 32) (cell_of (get_or row o 0)) (untouched none)
 -- the cells of site s
 abbrev pub cells_in : List (List ℕ) → ℕ → ℕ → Cell
 cells_in cells s = cells_of (row_in cells s)
+
+-- what site s keeps beside its cells and its known events
+abbrev pub kept_in : Lent → ℕ → Kept
+kept_in z s = record { clock = get_or z.clocks s 0; counts = row_in z.held s }
 
 abbrev pub site_in : Lent → ℕ → Site
 site_in z s = record {

@@ -19,7 +19,8 @@ impl Store {
         let known = &mut self.known[s];
         rows::union(known, saw);
         rows::set(known, w);
-        self.clocks[s] = self.clocks[s].max(word.stamp());
-        self.held[s] = sites::with_held(self.held[s], word.site());
+        let site = self.site_at(s);
+        self.clocks[s] = site.clock.max(word.stamp());
+        self.held[s] = sites::with_held(site.counts, word.site());
     }
 }

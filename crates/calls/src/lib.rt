@@ -9,3 +9,10 @@ pub mod make;
 pub mod refuse;
 pub mod script;
 pub mod sites;
+
+// What a site keeps beside its cells and its known events: its clock, and the count of held puts from each site.
+#[derive(Clone, Copy)]
+pub struct Kept {
+    pub clock: u64,
+    pub counts: [u16; 8],
+}

@@ -67,7 +67,7 @@ impl Store {
             Err(Refusal::NoSuchPut)
         } else if rows::test(&self.known[s], w) {
             Err(Refusal::AlreadyKnown)
-        } else if !sites::reaches(self.held[s], self.needs[w]) {
+        } else if !sites::reaches(self.site_at(s).counts, self.needs[w]) {
             Err(Refusal::NeedsUnmet)
         } else {
             Ok(())

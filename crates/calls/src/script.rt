@@ -16,7 +16,8 @@ pub enum Call {
     Malformed,
 }
 
-// The call's eight bytes are read as one word. A close is told by itself: over four kinds the match compiles to a jump by a table, which is slower.
+// The call's eight bytes are read as one word. A close and a put are told by themselves: over four kinds the match compiles to a jump by a table, which is slower,
+// and over three it asks for a put last.
 pub fn asked_at(s: &[u8], at: usize) -> Call
     requires { at + 8 ≤ length s.now }
     ensures { call_of result ≡ call_at s.now at }
@@ -25,18 +26,26 @@ pub fn asked_at(s: &[u8], at: usize) -> Call
     if x == 4 {
         return Call::Close;
     }
+    let kind = x % 0x100;
     let site = (x / 0x100 % 0x100) as u8;
-    let object = (x / 0x1_0000 % 0x100) as u8;
-    let value = (x / 0x1_0000_0000) as u32;
-    match x % 0x100 {
-        1 if x / 0x100_0000 % 0x100 == 0 => Call::Put {
+    if kind == 1 {
+        return if x / 0x100_0000 % 0x100 == 0 {
+            Call::Put {
+                site,
+                object: (x / 0x1_0000 % 0x100) as u8,
+                value: (x / 0x1_0000_0000) as u32,
+            }
+        } else {
+            Call::Malformed
+        };
+    }
+    match kind {
+        2 if x / 0x100_0000 == 0 => Call::Get {
             site,
-            object,
-            value,
+            object: (x / 0x1_0000 % 0x100) as u8,
         },
-        2 if x / 0x100_0000 == 0 => Call::Get { site, object },
         3 if x / 0x1_0000 % 0x1_0000 == 0 && x / 0x1_0000_0000_0000 == 0 => Call::Deliver {
-            event: value as u16,
+            event: (x / 0x1_0000_0000) as u16,
             site,
         },
         _ => Call::Malformed,
