@@ -98,17 +98,17 @@ pub fn first_misplaced<const W: usize>(cut: bool, events: &Events<W>, ars: &[u64
     let differing = &mut [0u64; W];
     let visible = &mut [0u64; W];
     compare(cut, &order, differing, visible);
-    let a = (0..events.count).find(
-        |a|
-            requires { a.now < events.now.count }
-            ensures { result ≡ has differing.entry.now a.now && not (is_pending_in events.entry.now.heads.words.now a.now && not (has visible.entry.now a.now)) }
-        { is_misfit(events, differing, visible, *a) },
-    )?;
-    let b = (0..events.count).find(
-        |b|
-            requires { (a < order.events.count) × (b.now < order.events.count) }
-            ensures { result ≡ told_apart cut (history_given W order.entry.events) a b.now }
-        { is_apart(cut, &order, a, *b) },
-    )?;
-    Some((a, b))
+    // No `find`: nested loops, left by label with the pair, are this project's form for this place (docs/DECISIONS.md).
+    'search: {
+        for a in 0..events.count {
+            if is_misfit(events, differing, visible, a) {
+                for b in 0..events.count {
+                    if is_apart(cut, &order, a, b) {
+                        break 'search Some((a, b));
+                    }
+                }
+            }
+        }
+        None
+    }
 }

@@ -29,8 +29,9 @@ returns-then-is_present g c =
     held-present (fields_of a.events.now.heads.words.now) a.e _ c.is_present-2.result c.is_present-2.ensures _ c.value.result c.opening.result
     (figure g (goal.at.returns-then-is_present g c).Else-not-has_opening) (ap not c.if-is_present.true) c.value.ensures c.opening.ensures
 
+-- `search` also takes `false` for the test's value there: so must-fail/none_for_opening.edit, which writes `true`, is refused for that alone
 pub returns-else-is_present : goal.returns-else-is_present
 unfolding history_from
 returns-else-is_present g c =
     let a = c.args in
-    c.if-is_present.false ∙ held-absent (fields_of a.events.now.heads.words.now) a.e _ c.is_present-2.result c.is_present-2.ensures _ (figure g (goal.at.returns-else-is_present g c).Else-not-has_opening) (ap not c.if-is_present.false)
+    search c.if-is_present.false ∙ held-absent (fields_of a.events.now.heads.words.now) a.e _ c.is_present-2.result c.is_present-2.ensures _ (figure g (goal.at.returns-else-is_present g c).Else-not-has_opening) (ap not c.if-is_present.false)
