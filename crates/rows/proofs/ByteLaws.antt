@@ -2,13 +2,15 @@
 use mathlib.Core.Path.{◌≡◌, refl, sym, ap, ap₂, ◌∙◌}
 use mathlib.Core.List.{List, [], ◌∷◌, ◌++◌}
 use Prim.Native.Nat.{ℕ, zero, suc, ◌+◌, ◌-◌, ◌*◌, ◌/◌, ◌%◌, ◌^◌, ◌<◌}
-use native.Mathlib.Nat.{not-suc-le-zero, le_of_suc-le-suc, suc-add, zero-add, one-mul, add-zero, mul_assoc, mul_comm, pow-zero, pow-succ'}
+use native.Mathlib.Nat.{le_refl, not-suc-le-zero, le_of_suc-le-suc, suc-add, zero-add, one-mul, add-zero, mul_assoc, mul_comm, pow-zero, pow-succ'}
 use native.Mathlib.Numerals.{add-one}
 use native.Mathlib.Omega.{arith}
 use native.Mathlib.Decide.{dec_lt}
 use lib.Dec.{eqb}
 use lib.ListN.{length, get_or, take, drop}
 use lib.Seq.{get_or-take, get_or-drop}
+use lib.Bits.{bit_or, or_shifted_r}
+use lib.Pow.{shl_exact}
 use Rattle.std.specs.List.{slice_index}
 use Rattle.std.specs.Int.{sum_through, byte_worth}
 use Rattle.rows.specs.Row.{digit, bit_of, has}
@@ -30,6 +32,10 @@ little_join (suc j) k s at =
 pub little_two : (s : List ℕ) (at : ℕ) → little 2 s at ≡ get_or s at 0 + 256 * get_or s (at + 1) 0
 unfolding little
 little_two s at = omega arith
+
+-- an upper part of q bits shifted over a lower one of p
+pub shift-over : (p q x y : ℕ) → x < 2 ^ p → y < 2 ^ q → bit_or x (y * 2 ^ p % 2 ^ (q + p)) ≡ y * 2 ^ p + x
+shift-over p q x y i j = ap (bit_or x) (shl_exact {a = y} q p (q + p) j (le_refl (q + p))) ∙ or_shifted_r y p x i
 
 -- the bytes g 0 .. g k of s from `at` on, each by its worth, as `from_le_bytes` adds them
 sum-little : (k : ℕ) (s : List ℕ) (at : ℕ) (g : ℕ → ℕ) → ((i : ℕ) → i < suc k → g i ≡ get_or s (at + i) 0) → sum_through (λ i. byte_worth i (g i)) k ≡ little (suc k) s at

@@ -6,7 +6,7 @@ ghost use Rattle.std.proofs.lemmas.List.Edits.{sets};
 ghost use Rattle.rows.specs.Row.{has};
 ghost use Rattle.record.specs.Layout.{Layout, numbers_of};
 ghost use Rattle.record.specs.Terms.{opening_in, openings_right};
-ghost use Rattle.record.specs.Encode.{set_bytes, slot_from, header_bytes, with_terms, sealed};
+ghost use Rattle.record.specs.Encode.{little_bytes, set_bytes, slot_from, header_bytes, with_terms, sealed};
 
 use record::{Edition, Slot, sums};
 
@@ -47,13 +47,29 @@ pub fn terms(s: &mut [u8], ed: Edition, difference: u32, openings: &[u8])
     }
 }
 
+// The bytes of a visible set's word, cut by shift and mask where other numbers go by `to_le_bytes`: the form that the scope names (docs/DECISIONS.md, Forms).
+fn octets_of(word: u64) -> [u8; 8]
+    ensures { result ≡ little_bytes 8 word }
+{
+    [
+        (word & 0xff) as u8,
+        ((word >> 8) & 0xff) as u8,
+        ((word >> 16) & 0xff) as u8,
+        ((word >> 24) & 0xff) as u8,
+        ((word >> 32) & 0xff) as u8,
+        ((word >> 40) & 0xff) as u8,
+        ((word >> 48) & 0xff) as u8,
+        (word >> 56) as u8,
+    ]
+}
+
 // A visible set: its bytes are those of its words.
 fn put_row(s: &mut [u8], at: usize, row: &[u64])
     requires { at + 8 * length row.now ≤ length s.old }
     ensures { s.new ≡ sets s.old at (set_bytes (8 * length row.now) (has row.now)) }
 {
     for (i, word) in row.iter().enumerate() {
-        put(s, at + 8 * i, &word.to_le_bytes());
+        put(s, at + 8 * i, &octets_of(*word));
     }
 }
 

@@ -1,9 +1,7 @@
 use mathlib.Core.Path.{ap, ◌∙◌}
 use Prim.Native.Nat.{◌+◌, ◌*◌}
-use lib.ListN.{get_or}
 use lib.Seq.{sets}
 use Rattle.record.proofs.WordBytes.{row-none, row_stored}
-use Rattle.writer.proofs.BytesLaws.{le_bytes}
 use Rattle.writer.proofs.put_row.Goals as goal
 
 pub loop-i-init : goal.loop-i-init
@@ -13,4 +11,4 @@ pub loop-i-preserved : goal.loop-i-preserved
 loop-i-preserved c =
     let l = c.loop-i in
     let a = c.args in
-    row_stored a.row.now a.s.now l.s c.put.new.s a.at l.i l.invariant (c.put.ensures ∙ ap (sets l.s (a.at + 8 * l.i)) (c.to_le_bytes.ensures ∙ le_bytes 8 (get_or a.row.now l.i 0)))
+    row_stored a.row.now a.s.now l.s c.put.new.s a.at l.i l.invariant (c.put.ensures ∙ ap (sets l.s (a.at + 8 * l.i)) c.octets_of.ensures)
