@@ -10,12 +10,12 @@ struct Path {
 }
 
 impl Path {
-    // Whether there was room.
-    fn push(&mut self, e: usize) -> bool
-        requires { e < 2 ^ 16 }
+    // Whether there was room: no more than `most` wait.
+    fn push(&mut self, e: usize, most: usize) -> bool
+        requires { (e < 2 ^ 16) × (most ≤ 512) }
         ensures { result ≡ true → (self.old.depth < length self.old.events) × (self.new.events ≡ set self.old.events self.old.depth e) × (self.new.depth ≡ self.old.depth + 1) }
     {
-        if self.depth == 512 {
+        if most <= self.depth {
             return false;
         }
         self.events[self.depth] = e as u16;
@@ -75,9 +75,10 @@ fn settle_from<S: Settling>(relation: &mut S, b: usize, path: &mut Path) -> bool
 {
     path.depth = 0;
     let mut e = b;
-    for _ in 0..2 * relation.count() {
+    let count = relation.count();
+    for _ in 0..2 * count {
         if let Some(x) = relation.settle(e) {
-            if !path.push(e) {
+            if !path.push(e, count) {
                 return false;
             }
             e = x;
