@@ -9,14 +9,14 @@ use super::records::{self, Record};
 use judge::Judgment;
 use record::layout;
 
-// The judge's answer about a model of a record.
-pub fn of_record(k: Record, m: Model) -> Judgment
-    ensures { result ≡ answer (separating_bytes k.number) m.number }
+// The judge's answer about model m of a record. It is asked of any number, as the judge is.
+pub fn of_record(k: Record, m: usize) -> Judgment
+    ensures { result ≡ answer (separating_bytes k.number) m }
 {
     let mut rec = [0u8; records::LENGTH];
     k.write(&mut rec);
     let mut work = [0u64; layout::WORK];
-    judge::judge_model(m.number, &rec, &mut work)
+    judge::judge_model(m, &rec, &mut work)
 }
 
 fn is_met(answer: Judgment) -> bool
@@ -35,7 +35,7 @@ fn is_broken(answer: Judgment) -> bool
 fn tells_apart(k: Record, i: Model, j: Model) -> bool
     ensures { result ≡ tells k.number i.number j.number }
 {
-    is_met(of_record(k, i)) && is_broken(of_record(k, j))
+    is_met(of_record(k, i.number)) && is_broken(of_record(k, j.number))
 }
 
 // The first record that does.

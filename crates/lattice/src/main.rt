@@ -20,7 +20,7 @@ fn not_covered(rt: &impl Print, i: Model, j: Model) -> io::Result<()> {
         return println!(rt; "NOT SHOWN: no record meets {i} and breaks {j}");
     };
     print!(rt; "{i} does not cover {j}: record {}, ", k.number)?;
-    if let Ok(Some(broken)) = judged::of_record(k, j) {
+    if let Ok(Some(broken)) = judged::of_record(k, j.number) {
         print!(rt;
             "{} broken {} {}",
             broken.predicate, broken.first, broken.second
@@ -40,7 +40,7 @@ impl Lattice {
     fn between(&self, i: Model, j: Model) -> Option<Model> {
         for number in 1..14 {
             let m = Model { number };
-            if self.given.has(i, m) && self.following.has(m, j) {
+            if self.given.has(i.number, m.number) && self.following.has(m.number, j.number) {
                 return Some(m);
             }
         }
@@ -49,7 +49,7 @@ impl Lattice {
 
     fn covered(&self, rt: &impl Print, i: Model, j: Model) -> io::Result<()> {
         print!(rt; "{i} covers {j}")?;
-        if !self.given.has(i, j)
+        if !self.given.has(i.number, j.number)
             && let Some(m) = self.between(i, j)
         {
             print!(rt; ", by {m}")?;
@@ -58,7 +58,7 @@ impl Lattice {
     }
 
     fn pair(&self, rt: &impl Print, i: Model, j: Model) -> io::Result<()> {
-        if self.following.has(i, j) {
+        if self.following.has(i.number, j.number) {
             self.covered(rt, i, j)
         } else {
             not_covered(rt, i, j)

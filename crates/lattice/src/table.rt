@@ -1,9 +1,8 @@
 // Which model gives which, as a table of bit rows, and what follows by chaining.
-ghost use Rattle.std.specs.Prelude.{◌≡◌};
+ghost use Rattle.std.specs.Prelude.{◌≡◌, ◌<◌};
 ghost use Rattle.rows.specs.Relation.{related, Table};
 ghost use Rattle.consistency.specs.Lattice.{implications, listed, follows};
 
-use super::model::Model;
 use reach::closure;
 
 // Pairs of models: row j has the models that give model j, model i being bit i.
@@ -49,10 +48,11 @@ impl Pairs {
         pairs
     }
 
-    // Whether i gives j.
-    pub fn has(&self, i: Model, j: Model) -> bool
-        ensures { result ≡ related self.now.rows 1 i.number j.number }
+    // Whether i gives j. By number: row 0 and bit 0 are there too, of no model.
+    pub fn has(&self, i: usize, j: usize) -> bool
+        requires { (i < 14) × (j < 14) }
+        ensures { result ≡ related self.now.rows 1 i j }
     {
-        rows::test(&self.rows[j.number..j.number + 1], i.number)
+        rows::test(&self.rows[j..j + 1], i)
     }
 }
